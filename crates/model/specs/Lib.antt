@@ -1,2 +1,11 @@
 pub mod Ids
+pub mod Times
 pub mod Store
+pub mod Schema
+pub mod Catalog
+pub mod Activity
+pub mod Tablets
+pub mod Records
+pub mod Acts
+pub mod Parts
+pub mod Schedules

@@ -1,7 +1,7 @@
 -- The versions that a tablet keeps, and what is read of them. A list of versions is in order of key, the versions of
 -- one key in the order in which they were written.
-use Rattle.std.specs.Prelude.{ℕ, ◌<◌, ◌≤◌, Bool, true, false, List, [], ◌∷◌, ◌++◌, nat_le, nat_lt, ◌&&◌, ◌||◌, fold, map, if◌then◌else◌}
-use Rattle.std.specs.List.{list_any, filter}
+use Rattle.std.specs.Prelude.{ℕ, ◌<◌, Bool, false, List, [], ◌∷◌, ◌++◌, nat_le, nat_lt, ◌&&◌, ◌||◌, fold, map, if◌then◌else◌}
+use Rattle.std.specs.List.{filter}
 use Rattle.std.specs.Ordering.{nat_cmp, is_lt}
 use Rattle.std.specs.Cmp.Lexicographic.{slice_cmp}
 use Rattle.std.specs.Str.{bytes_eq}

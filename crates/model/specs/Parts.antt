@@ -1,0 +1,91 @@
+-- The parts of a cluster: the master, and a tablet's part in each slot from 1 on. What an act does is told as plain data:
+-- its refusals in order, and else what each touched part is told, and the reply.
+use Rattle.std.specs.Prelude.{ℕ, Bool, List, [], ◌∷◌, if◌then◌else◌}
+use Rattle.model.specs.Ids.{Id}
+use Rattle.model.specs.Catalog.{Catalog, empty_catalog}
+use Rattle.model.specs.Activity.{Interval}
+use Rattle.model.specs.Tablets.{Tablet as TabletPart, Told, emptied}
+use Rattle.model.specs.Records.{Schedule as ScheduleRecord, SnapshotRecord, RestorationRecord, CloneRecord, Sent}
+use Rattle.model.specs.Acts.{Command, Refusal, Reply, Refused}
+
+-- how many identifiers of each kind were ever drawn; none is drawn again
+pub record Drawn : Type 0 where
+  pub namespaces : ℕ
+  pub tables : ℕ
+  pub tablets : ℕ
+  pub schedules : ℕ
+  pub snapshots : ℕ
+  pub restorations : ℕ
+  pub clones : ℕ
+
+pub record Master : Type 0 where
+  pub clock : ℕ
+  pub slots : ℕ
+  pub catalog : Catalog
+  pub activity : List Interval
+  pub schedules : List ScheduleRecord
+  pub snapshots : List SnapshotRecord
+  pub restorations : List RestorationRecord
+  pub clones : List CloneRecord
+  pub sent : List Sent
+  pub drawn : Drawn
+
+pub record Parts : Type 0 where
+  pub master : Master
+  pub tablet : ℕ → TabletPart
+
+abbrev pub none_drawn : Drawn
+none_drawn = record { namespaces = 0; tables = 0; tablets = 0; schedules = 0; snapshots = 0; restorations = 0; clones = 0 }
+
+abbrev pub empty_master : ℕ → Master
+empty_master slots = record {
+  clock = 0;
+  slots = slots;
+  catalog = empty_catalog;
+  activity = [];
+  schedules = [];
+  snapshots = [];
+  restorations = [];
+  clones = [];
+  sent = [];
+  drawn = none_drawn;
+}
+
+-- the empty cluster with this count of slots
+abbrev pub start : ℕ → Parts
+start slots = record { master = empty_master slots; tablet = λ slot. emptied 0 }
+
+-- what the master is told
+pub data MasterAct : Type 0 where
+  Ticks : MasterAct
+  Changes : (command : Command) (slots : List ℕ) → MasterAct
+  Sends : (operation : Id) (slot : ℕ) → MasterAct
+  Acks : (operation : Id) (slot : ℕ) → MasterAct
+  Unsends : (operation : Id) (slot : ℕ) → MasterAct
+  Moves : (operation : Id) → MasterAct
+  Removes : (target : Id) → MasterAct
+  Prunes : MasterAct
+  Restarts : MasterAct
+
+-- what the master and the touched tablets' parts are told, and the reply. A touched part that isn't named sets its clock
+pub record Outcome : Type 0 where
+  pub master : MasterAct
+  pub tablets : List Told
+  pub reply : Reply
+
+-- a refusal, and whether it comes
+pub data Check : Type 0 where
+  If : (comes : Bool) (why : Refusal) → Check
+
+-- each part sets its clock, and the reply is the refusal
+abbrev pub refused : Refusal → Outcome
+refused why = record { master = Ticks; tablets = []; reply = Refused why }
+
+-- the first refusal that comes, or else the outcome
+abbrev pub judged : List Check → Outcome → Outcome
+judged [] outcome = outcome
+judged (If comes why ∷ checks) outcome = if comes then refused why else judged checks outcome
+
+-- an outcome that leaves the parts as they are, but for their clocks
+abbrev pub answered : Reply → Outcome
+answered reply = record { master = Ticks; tablets = []; reply = reply }

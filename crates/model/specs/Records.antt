@@ -1,0 +1,213 @@
+-- The master's records of snapshots, restorations and clones, and of schedules. Each record lists the tablets that are yet
+-- to do a command of its state.
+use Rattle.std.specs.Prelude.{ℕ, Bool, true, false, List, [], ◌∷◌, Option, Some, None, ◌==◌, ◌&&◌, ◌||◌, not, map, if◌then◌else◌}
+use Rattle.std.specs.List.{list_any, filter}
+use Rattle.model.specs.Ids.{Id, same}
+use Rattle.model.specs.Tablets.{Body}
+
+pub record Listed : Type 0 where
+  pub tablet : Id
+  pub slot : ℕ
+  pub body : Body
+  pub acked : Bool
+
+-- periods in minutes; the stamp from which its window may begin; the times of its last snapshot and of its last complete
+-- one, which stay when the snapshots' records are removed
+pub record Schedule : Type 0 where
+  pub id : Id
+  pub namespace : Id
+  pub interval : ℕ
+  pub retention : ℕ
+  pub kept_low : ℕ
+  pub last : Option ℕ
+  pub complete : Option ℕ
+
+-- a snapshot of a namespace at a time, and the time of the schedule's one before it
+pub record SnapshotRecord : Type 0 where
+  pub id : Id
+  pub complete : Bool
+  pub listed : List Listed
+  pub schedule : Id
+  pub namespace : Id
+  pub after : ℕ
+  pub at : ℕ
+
+-- a restoration knows its point from its own snapshot on, and that snapshot; from the switch's state on the one that serves
+pub data RestorationState : Type 0 where
+  Fencing : RestorationState
+  Snapshotting : (point : ℕ) (own : Id) → RestorationState
+  Switching : (point : ℕ) (serving : Id) → RestorationState
+  Restoring : (point : ℕ) (serving : Id) → RestorationState
+  Releasing : (point : ℕ) (serving : Id) → RestorationState
+  Restored : (point : ℕ) (serving : Id) → RestorationState
+
+pub record RestorationRecord : Type 0 where
+  pub id : Id
+  pub schedule : Id
+  pub namespace : Id
+  pub to : ℕ
+  pub listed : List Listed
+  pub state : RestorationState
+
+pub data CloneState : Type 0 where
+  Accepted : CloneState
+  CloneSnapshot : (own : Id) → CloneState
+  Copying : (serving : Id) (copied_at : ℕ) → CloneState
+  CloneReleasing : (serving : Id) (copied_at : ℕ) → CloneState
+  CloneComplete : (serving : Id) (copied_at : ℕ) → CloneState
+
+-- a source's table, with the one that stands for it in the clone
+pub record IdPair : Type 0 where
+  pub source : Id
+  pub target : Id
+
+-- a source's tablet with the target that takes its rows, for the target's table
+pub record TabletPair : Type 0 where
+  pub source : Id
+  pub source_slot : ℕ
+  pub target : Id
+  pub slot : ℕ
+  pub table : Id
+  pub low : ℕ
+  pub high : ℕ
+
+pub record CloneRecord : Type 0 where
+  pub id : Id
+  pub source : Id
+  pub source_name : List ℕ
+  pub target : List ℕ
+  pub target_id : Id
+  pub tables : List IdPair
+  pub tablets : List TabletPair
+  pub to : ℕ
+  pub listed : List Listed
+  pub state : CloneState
+
+-- a command of an operation was sent to the tablet of a slot
+pub record Sent : Type 0 where
+  pub operation : Id
+  pub slot : ℕ
+
+-- the states as they are printed
+pub data State : Type 0 where
+  IsCreating : State
+  IsComplete : State
+  IsFencing : State
+  IsSnapshot : State
+  IsSwitching : State
+  IsRestoring : State
+  IsReleasing : State
+  IsRestored : State
+  IsAccepted : State
+  IsCopying : State
+
+abbrev pub snapshot_state : Bool → State
+snapshot_state false = IsCreating
+snapshot_state true = IsComplete
+
+abbrev pub restoration_state : RestorationState → State
+restoration_state Fencing = IsFencing
+restoration_state (Snapshotting point own) = IsSnapshot
+restoration_state (Switching point serving) = IsSwitching
+restoration_state (Restoring point serving) = IsRestoring
+restoration_state (Releasing point serving) = IsReleasing
+restoration_state (Restored point serving) = IsRestored
+
+abbrev pub clone_state : CloneState → State
+clone_state Accepted = IsAccepted
+clone_state (CloneSnapshot own) = IsSnapshot
+clone_state (Copying serving copied_at) = IsCopying
+clone_state (CloneReleasing serving copied_at) = IsReleasing
+clone_state (CloneComplete serving copied_at) = IsComplete
+
+abbrev pub point_of : RestorationState → Option ℕ
+point_of Fencing = None
+point_of (Snapshotting point own) = Some point
+point_of (Switching point serving) = Some point
+point_of (Restoring point serving) = Some point
+point_of (Releasing point serving) = Some point
+point_of (Restored point serving) = Some point
+
+-- the snapshot that a restoration names: its own, and later the one that serves its time
+abbrev pub named_by_restoration : RestorationState → Option Id
+named_by_restoration Fencing = None
+named_by_restoration (Snapshotting point own) = Some own
+named_by_restoration (Switching point serving) = Some serving
+named_by_restoration (Restoring point serving) = Some serving
+named_by_restoration (Releasing point serving) = Some serving
+named_by_restoration (Restored point serving) = Some serving
+
+abbrev pub named_by_clone : CloneState → Option Id
+named_by_clone Accepted = None
+named_by_clone (CloneSnapshot own) = Some own
+named_by_clone (Copying serving copied_at) = Some serving
+named_by_clone (CloneReleasing serving copied_at) = Some serving
+named_by_clone (CloneComplete serving copied_at) = Some serving
+
+abbrev pub is_restored : RestorationState → Bool
+is_restored (Restored point serving) = true
+is_restored Fencing = false
+is_restored (Snapshotting point own) = false
+is_restored (Switching point serving) = false
+is_restored (Restoring point serving) = false
+is_restored (Releasing point serving) = false
+
+abbrev pub is_cloned : CloneState → Bool
+is_cloned (CloneComplete serving copied_at) = true
+is_cloned Accepted = false
+is_cloned (CloneSnapshot own) = false
+is_cloned (Copying serving copied_at) = false
+is_cloned (CloneReleasing serving copied_at) = false
+
+-- whether a clone's target is current: from the move into its release on
+abbrev pub is_visible : CloneState → Bool
+is_visible Accepted = false
+is_visible (CloneSnapshot own) = false
+is_visible (Copying serving copied_at) = false
+is_visible (CloneReleasing serving copied_at) = true
+is_visible (CloneComplete serving copied_at) = true
+
+-- the first listed tablet without ack
+abbrev pub first_unacked : List Listed → Option Listed
+first_unacked [] = None
+first_unacked (l ∷ ls) = if l.acked then first_unacked ls else Some l
+
+-- the listed tablet of a slot without ack
+abbrev pub unacked_at : List Listed → ℕ → Option Listed
+unacked_at [] slot = None
+unacked_at (l ∷ ls) slot = if (l.slot == slot) && not l.acked then Some l else unacked_at ls slot
+
+-- the tablet of the slot is acked
+abbrev pub acked_at : ℕ → List Listed → List Listed
+acked_at slot ls = map {A = Listed} (λ l. record l { acked = l.acked || (l.slot == slot) }) ls
+
+abbrev pub lists_tablet : Id → List Listed → Bool
+lists_tablet tablet ls = list_any (λ l. same l.tablet tablet) ls
+
+abbrev pub is_sent : List Sent → Id → ℕ → Bool
+is_sent sent operation slot = list_any (λ s. same s.operation operation && (s.slot == slot)) sent
+
+-- without the marks of an operation, or of one of its slots
+abbrev pub unsent : Id → List Sent → List Sent
+unsent operation sent = filter (λ s. not (same s.operation operation)) sent
+
+abbrev pub unsent_at : Id → ℕ → List Sent → List Sent
+unsent_at operation slot sent = filter (λ s. not (same s.operation operation && (s.slot == slot))) sent
+
+abbrev pub schedule_with : List Schedule → Id → Option Schedule
+schedule_with [] id = None
+schedule_with (s ∷ ss) id = if same s.id id then Some s else schedule_with ss id
+
+-- the schedule of a namespace
+abbrev pub schedule_of : List Schedule → Id → Option Schedule
+schedule_of [] ns = None
+schedule_of (s ∷ ss) ns = if same s.namespace ns then Some s else schedule_of ss ns
+
+abbrev pub snapshot_with : List SnapshotRecord → Id → Option SnapshotRecord
+snapshot_with [] id = None
+snapshot_with (r ∷ rs) id = if same r.id id then Some r else snapshot_with rs id
+
+-- the unfinished snapshot of a schedule
+abbrev pub unfinished_of : List SnapshotRecord → Id → Option Id
+unfinished_of [] schedule = None
+unfinished_of (r ∷ rs) schedule = if same r.schedule schedule && not r.complete then Some r.id else unfinished_of rs schedule

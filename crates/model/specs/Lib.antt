@@ -11,3 +11,5 @@ pub mod Parts
 pub mod Schedules
 pub mod Journal
 pub mod Entries
+pub mod Right
+pub mod Stands

@@ -1,0 +1,156 @@
+-- When an entry is right: its reply is that of one list of stamped changes, the journal of the entries before it.
+use Rattle.std.specs.Prelude.{◌≡◌, ◌≢◌, ℕ, ◌≤◌, ◌<◌, Bool, true, false, List, [], ◌∷◌, ◌++◌, Option, Some, None, ◌==◌, ◌&&◌, ◌⊎◌, not, nat_le, if◌then◌else◌}
+use Rattle.std.specs.List.{filter}
+use Rattle.std.specs.Option.{is_some}
+use Rattle.std.specs.Str.{bytes_eq}
+use Rattle.row_values.specs.Rows.{cut_to}
+use Rattle.row_values.specs.Codes.{code_of}
+use Rattle.row_values.specs.declared.rows.KeyedRow.{KeyedRow}
+use Rattle.model.specs.Ids.{Id, same}
+use Rattle.model.specs.Times.{time_of}
+use Rattle.model.specs.Store.{precedes, in_range, present}
+use Rattle.model.specs.Schema.{Column, column_named, is_of_kind}
+use Rattle.model.specs.Activity.{Interval, active_at}
+use Rattle.model.specs.Journal.{Change, ChangeAct, NamespaceMade, NamespaceDropped, TableMade, TableRenamed, TableDropped, ColumnAdded, ColumnDropped, RowChanged, NamespaceRestored, NamespaceCloned, TableView, is_in, namespace_at, table_at, row_at}
+use Rattle.model.specs.Tablets.{Tablet}
+use Rattle.model.specs.Acts.{NamedCell, NamedOp, NamedUpsert, NamedDelete, NamedItem, Place, At, Refusal, UnknownNamespace, UnknownTable, UnknownColumn, WrongKind, CrossTablet, Future, TooOld, Reply, Placed, Refused}
+
+-- Rows in order over several places
+
+-- whether a key is asked: all are, or one is
+abbrev pub is_asked : Option (List ℕ) → List ℕ → Bool
+is_asked None key = true
+is_asked (Some asked) key = bytes_eq asked key
+
+-- the row of a key that a place is to give: that of the view at x, where it is present, asked, and its code is in the place's range
+abbrev pub row_of_place : List Change → ℕ → Option (List ℕ) → List ℕ → Tablet → List ℕ → List KeyedRow
+row_of_place changes x asked columns t key =
+    if is_asked asked key && in_range t.low t.high (code_of key) then present key (cut_to (row_at changes x t.table key) columns) else []
+
+abbrev pub rows_of_places : List Change → ℕ → Option (List ℕ) → List ℕ → (ℕ → Tablet) → List At → List ℕ → List KeyedRow
+rows_of_places changes x asked columns tablets [] key = []
+rows_of_places changes x asked columns tablets (place ∷ places) key =
+    row_of_place changes x asked columns (tablets place.slot) key ++ rows_of_places changes x asked columns tablets places key
+
+abbrev pub InOrderFrom : List ℕ → List KeyedRow → Type 0
+InOrderFrom low [] = Unit {0}
+InOrderFrom low (r ∷ rs) = (precedes r.key low ≡ false) × InOrderFrom r.key rs
+
+-- the keys don't fall
+abbrev pub InOrder : List KeyedRow → Type 0
+InOrder [] = Unit {0}
+InOrder (r ∷ rs) = InOrderFrom r.key rs
+
+abbrev pub of_key : List ℕ → List KeyedRow → List KeyedRow
+of_key key rows = filter (λ r. bytes_eq r.key key) rows
+
+-- a read gives the rows of the view at x: in order of key, those of one key in the order of the places
+pub record RowsRight (changes : List Change) (x : ℕ) (asked : Option (List ℕ)) (columns : List ℕ) (tablets : ℕ → Tablet) (places : List At) (rows : List KeyedRow) : Type 0 where
+  pub in_order : InOrder rows
+  pub each : (key : List ℕ) → of_key key rows ≡ rows_of_places changes x asked columns tablets places key
+
+-- Looks
+
+-- the current namespace of a name
+pub record NamespaceFound (changes : List Change) (now : ℕ) (name : List ℕ) : Type 0 where
+  pub id : Id
+  pub named : namespace_at changes now id ≡ Some name
+
+-- the table of a name in the current namespace of a name, in the view at x; it is current
+pub record TableFound (changes : List Change) (x now : ℕ) (namespace table : List ℕ) : Type 0 where
+  pub owner : Id
+  pub owner_named : namespace_at changes now owner ≡ Some namespace
+  pub id : Id
+  pub view : TableView
+  pub found : table_at changes x id ≡ Some view
+  pub inside : view.namespace ≡ owner
+  pub named : view.name ≡ table
+  pub current : is_some (table_at changes now id) ≡ true
+
+-- the first cell that is faulty in either way decides
+abbrev pub fault_of_cell : Option Column → NamedCell → Option Refusal
+fault_of_cell None cell = Some UnknownColumn
+fault_of_cell (Some column) cell = if is_of_kind column.kind cell.value then None else Some WrongKind
+
+abbrev pub or_fault : Option Refusal → Option Refusal → Option Refusal
+or_fault None later = later
+or_fault (Some why) later = Some why
+
+abbrev pub fault_of_cells : List NamedCell → List Column → Option Refusal
+fault_of_cells [] columns = None
+fault_of_cells (cell ∷ cells) columns = or_fault (fault_of_cell (column_named columns cell.column) cell) (fault_of_cells cells columns)
+
+abbrev pub fault_of_op : NamedOp → List Column → Option Refusal
+fault_of_op (NamedUpsert cells) columns = fault_of_cells cells columns
+fault_of_op NamedDelete columns = None
+
+abbrev pub fault_of : List NamedItem → List Column → Option Refusal
+fault_of [] columns = None
+fault_of (item ∷ items) columns = or_fault (fault_of_op item.op columns) (fault_of items columns)
+
+abbrev pub InActivity : Interval → List Interval → Type 0
+InActivity i [] = ⊥
+InActivity i (j ∷ js) = (j ≡ i) ⊎ InActivity i js
+
+-- a place is a tablet of the table that is active at the stamp
+abbrev pub IsActivePlace : List Interval → ℕ → Id → Place → Type 0
+IsActivePlace activity now table place = record {
+    interval : Interval;
+    listed : InActivity interval activity;
+    table_is : interval.table ≡ table;
+    active : active_at now interval ≡ true;
+    slot_is : place.slot ≡ interval.slot;
+    tablet_is : place.tablet ≡ interval.tablet;
+    low_is : place.low ≡ interval.low;
+    high_is : place.high ≡ interval.high }
+
+-- the table of a look was found, with these columns, and its batch has no fault
+pub record LookRight (changes : List Change) (x now : ℕ) (namespace table : List ℕ) (batch : List NamedItem) (fault : Option Refusal) (columns : List Column → Type 0) : Type 0 where
+  pub found : TableFound changes x now namespace table
+  pub columns_are : columns found.view.columns
+  pub judged : fault_of batch found.view.columns ≡ fault
+
+abbrev pub AnyColumns : List Column → Type 0
+AnyColumns columns = Unit {0}
+
+-- what a look's reply says of the view at x, and at its stamp
+abbrev pub LookReplyRight : Reply → List Change → ℕ → ℕ → List ℕ → List ℕ → List NamedItem → Type 0
+LookReplyRight (Refused UnknownNamespace) changes x now namespace table batch = NamespaceFound changes now namespace → ⊥
+LookReplyRight (Refused (Future n)) changes x now namespace table batch = NamespaceFound changes now namespace
+LookReplyRight (Refused (TooOld asked cutoff)) changes x now namespace table batch = NamespaceFound changes now namespace
+LookReplyRight (Refused UnknownTable) changes x now namespace table batch = NamespaceFound changes now namespace × (TableFound changes x now namespace table → ⊥)
+LookReplyRight (Refused UnknownColumn) changes x now namespace table batch = LookRight changes x now namespace table batch (Some UnknownColumn) AnyColumns
+LookReplyRight (Refused WrongKind) changes x now namespace table batch = LookRight changes x now namespace table batch (Some WrongKind) AnyColumns
+LookReplyRight (Refused (CrossTablet first other)) changes x now namespace table batch = LookRight changes x now namespace table batch None AnyColumns
+LookReplyRight (Placed places version columns) changes x now namespace table batch = LookRight changes x now namespace table batch None (λ kept. columns ≡ kept)
+LookReplyRight _ changes x now namespace table batch = ⊥
+
+-- Nothing late
+
+-- whether a change is one of the namespace: of its name, of its tables, of their rows
+abbrev pub is_of : Id → ChangeAct → (Id → Option TableView) → Bool
+is_of ns (NamespaceMade namespace name) table_before = same namespace ns
+is_of ns (NamespaceDropped namespace) table_before = same namespace ns
+is_of ns (TableMade table namespace name columns) table_before = same namespace ns
+is_of ns (TableRenamed table name) table_before = is_in ns (table_before table)
+is_of ns (TableDropped table) table_before = is_in ns (table_before table)
+is_of ns (ColumnAdded table column) table_before = is_in ns (table_before table)
+is_of ns (ColumnDropped table column) table_before = is_in ns (table_before table)
+is_of ns (RowChanged table key op) table_before = is_in ns (table_before table)
+is_of ns (NamespaceRestored namespace to) table_before = same namespace ns
+is_of ns (NamespaceCloned source target name to tables) table_before = same target ns
+
+-- whether the journal has a restore of the namespace to T, or a clone of it at T
+abbrev pub fixes : ChangeAct → Id → ℕ → Bool
+fixes (NamespaceRestored namespace to) ns t = same namespace ns && (to == t)
+fixes (NamespaceCloned source target name to tables) ns t = same source ns && (to == t)
+fixes _ ns t = false
+
+abbrev pub is_fixed : List Change → Id → ℕ → Bool
+is_fixed [] ns t = false
+is_fixed (c ∷ earlier) ns t = if fixes c.act ns t then true else is_fixed earlier ns t
+
+-- no change of a namespace is stamped at or before the time of a restore of it, or of a clone, that the journal has before it
+abbrev pub NothingLate : List Change → Type 0
+NothingLate [] = Unit {0}
+NothingLate (c ∷ earlier) = NothingLate earlier × ((ns : Id) (t : ℕ) → is_fixed earlier ns t ≡ true → is_of ns c.act (table_at earlier t) ≡ true → t < c.stamp)

@@ -1,0 +1,183 @@
+-- What holds of the parts of a cluster against its journal after each entry: tablets stand for the journal, ranges cover the
+-- codes, and a record's state says what its tablets have done.
+use Rattle.std.specs.Prelude.{◌≡◌, ◌≢◌, ℕ, ◌≤◌, ◌<◌, Bool, true, false, List, [], ◌∷◌, ◌++◌, Option, Some, None, ◌==◌, ◌&&◌, ◌||◌, ◌⊎◌, ◌+◌, not, nat_le, nat_lt, if◌then◌else◌}
+use Rattle.std.specs.List.{list_any, filter}
+use Rattle.std.specs.Option.{is_some}
+use Rattle.row_values.specs.Codes.{code_of}
+use Rattle.model.specs.Ids.{Id, same}
+use Rattle.model.specs.Times.{before_end, is_open}
+use Rattle.model.specs.Store.{Version, read_of, in_range, of_rows, rows_at}
+use Rattle.model.specs.Catalog.{owns}
+use Rattle.model.specs.Activity.{Interval, active_at, last_of}
+use Rattle.row_values.specs.declared.value.RowOp.{RowOp}
+use Rattle.model.specs.Journal.{Change, NamespaceMade, NamespaceDropped, TableMade, TableRenamed, TableDropped, ColumnAdded, ColumnDropped, RowChanged, NamespaceRestored, NamespaceCloned, table_at, row_at}
+use Rattle.model.specs.Tablets.{Tablet, Body, RestoreFrom, BodyKind, FenceKind, FreezeKind, RestoreFromKind, CopyKind, ReleaseKind, kind_of, Command, Mark, FrozenSet, is_vacant, is_serving, is_done, holds_command, set_of}
+use Rattle.model.specs.Records.{Listed, SnapshotRecord, RestorationRecord, RestorationState, Fencing, Snapshotting, Switching, Restoring, Releasing, Restored, CloneRecord, CloneState, Accepted, CloneSnapshot, Copying, CloneReleasing, CloneComplete, lists_tablet, is_restored, is_cloned, point_of, TabletPair}
+use Rattle.model.specs.Parts.{Master, Parts}
+
+abbrev pub In : {A : Type 0} → A → List A → Type 0
+In x [] = ⊥
+In x (y ∷ ys) = (y ≡ x) ⊎ In x ys
+
+-- Tablets stand for the journal
+
+abbrev pub is_restore : Body → Bool
+is_restore (RestoreFrom snapshot to point version) = true
+is_restore _ = false
+
+abbrev pub first_of_two : Option ℕ → Option ℕ → Option ℕ
+first_of_two None later = later
+first_of_two (Some x) later = Some x
+
+-- the point of a restoration that still has rows to give to a tablet: it lists it for them, and they aren't taken yet
+abbrev pub awaited_of : RestorationState → RestorationRecord → Tablet → Option ℕ
+awaited_of (Restoring point serving) r t =
+    if list_any (λ l. same l.tablet t.tablet && is_restore l.body) r.listed && not (is_done t.done r.id RestoreFromKind) then Some point else None
+awaited_of _ r t = None
+
+abbrev pub awaited_in : List RestorationRecord → Tablet → Option ℕ
+awaited_in [] t = None
+awaited_in (r ∷ rs) t = first_of_two (awaited_of r.state r t) (awaited_in rs t)
+
+-- the last interval of a tablet, without one that begins at the point of the rows that it awaits
+abbrev pub counted : Option ℕ → List Interval → List Interval
+counted None activity = activity
+counted (Some point) activity = filter (λ i. not (i.from == point)) activity
+
+-- times from the awaited rows' point on are left out
+abbrev pub before_point : ℕ → Option ℕ → Bool
+before_point x None = true
+before_point x (Some point) = nat_lt x point
+
+-- the reads of a tablet's live store, from its cutoff on and before the end of its last activity, are those of the view
+pub record LiveStands (ps : Parts) (changes : List Change) (slot : ℕ) : Type 0 where
+  pub reads : (i : Interval) (key : List ℕ) (x : ℕ)
+    → last_of (counted (awaited_in ps.master.restorations (ps.tablet slot)) ps.master.activity) (ps.tablet slot).tablet ≡ Some i
+    → in_range (ps.tablet slot).low (ps.tablet slot).high (code_of key) ≡ true
+    → (ps.tablet slot).cutoff ≤ x → x ≤ (ps.tablet slot).clock → before_end x i.to ≡ true
+    → before_point x (awaited_in ps.master.restorations (ps.tablet slot)) ≡ true
+    → is_some (table_at changes x (ps.tablet slot).table) ≡ true
+    → read_of (ps.tablet slot).versions key x ≡ row_at changes x (ps.tablet slot).table key
+
+-- the reads of a frozen set, from its cutoff to its time, wherever the tablet was active, are those of the view
+pub record FrozenStands (ps : Parts) (changes : List Change) (slot : ℕ) (f : FrozenSet) : Type 0 where
+  pub reads : (i : Interval) (key : List ℕ) (x : ℕ) → In i ps.master.activity → i.tablet ≡ (ps.tablet slot).tablet → active_at x i ≡ true
+    → in_range (ps.tablet slot).low (ps.tablet slot).high (code_of key) ≡ true → f.cutoff ≤ x → x ≤ f.at
+    → is_some (table_at changes x (ps.tablet slot).table) ≡ true
+    → read_of f.versions key x ≡ row_at changes x (ps.tablet slot).table key
+
+-- a serving or hidden tablet stands for the journal
+pub record Stands (ps : Parts) (changes : List Change) : Type 0 where
+  pub live : (slot : ℕ) → is_vacant (ps.tablet slot).presence ≡ false → LiveStands ps changes slot
+  pub frozen : (slot : ℕ) (f : FrozenSet) → is_vacant (ps.tablet slot).presence ≡ false → In f (ps.tablet slot).frozen → FrozenStands ps changes slot f
+
+-- Ranges cover the codes
+
+-- how many tablets of the table were active at x with the code in their range
+abbrev pub holders : List Interval → Id → ℕ → ℕ → ℕ
+holders [] table code x = 0
+holders (i ∷ is) table code x = (if same i.table table && (active_at x i && in_range i.low i.high code) then 1 else 0) + holders is table code x
+
+-- the ranges of a table's active tablets divide the codes, without gap or overlap, at each time at which the view has the table
+abbrev pub Cover : List Interval → List Change → Type 0
+Cover activity changes = (table : Id) (code x : ℕ) → code < 65536 → is_some (table_at changes x table) ≡ true → holders activity table code x ≡ 1
+
+-- What a record's state says
+
+abbrev pub is_active_tablet : List Interval → Id → Bool
+is_active_tablet activity tablet = list_any (λ i. is_open i.to && same i.tablet tablet) activity
+
+-- the versions are the rows of the view at T whose code is in the range, one upsert each at the stamp
+pub record AreRowsAt (versions : List Version) (low high stamp : ℕ) (changes : List Change) (to : ℕ) (table : Id) : Type 0 where
+  pub stamps : (v : Version) → In v versions → v.stamp ≡ stamp
+  pub upserts : versions ≡ of_rows (rows_at versions stamp) stamp
+  pub rows : (key : List ℕ) → in_range low high (code_of key) ≡ true → read_of versions key stamp ≡ row_at changes to table key
+  pub inside : (v : Version) → In v versions → in_range low high (code_of v.key) ≡ true
+
+-- a listed tablet that is present holds the frozen set of the snapshot
+abbrev pub HoldsFrozen : Id → ℕ → Tablet → Type 0
+HoldsFrozen snapshot at t = record { set : FrozenSet; held : set_of t.frozen snapshot ≡ Some set; time : set.at ≡ at }
+
+pub record SnapshotFacts (r : SnapshotRecord) (ps : Parts) : Type 0 where
+  pub frozen : (l : Listed) → In l r.listed → (r.complete || l.acked) ≡ true → (ps.tablet l.slot).tablet ≡ l.tablet
+    → is_vacant (ps.tablet l.slot).presence ≡ false → HoldsFrozen r.id r.at (ps.tablet l.slot)
+
+-- every active tablet of the namespace is fenced by the operation
+abbrev pub AllFenced : Id → Id → Parts → Type 0
+AllFenced operation ns ps = (i : Interval) → In i ps.master.activity → is_open i.to ≡ true → owns ps.master.catalog.owners ns i.table ≡ true
+    → (ps.tablet i.slot).fence ≡ Some operation
+
+-- no tablet has a fence of the operation
+abbrev pub NoneFenced : Id → Parts → Type 0
+NoneFenced operation ps = (slot : ℕ) → (ps.tablet slot).fence ≢ Some operation
+
+abbrev pub is_restore_of : Id → ℕ → Change → Bool
+is_restore_of ns point c = elim c.act [
+    NamespaceRestored namespace to ↦ same namespace ns && (c.stamp == point)
+    | NamespaceMade namespace name ↦ false
+    | NamespaceDropped namespace ↦ false
+    | TableMade table namespace name columns ↦ false
+    | TableRenamed table name ↦ false
+    | TableDropped table ↦ false
+    | ColumnAdded table column ↦ false
+    | ColumnDropped table column ↦ false
+    | RowChanged table key op ↦ false
+    | NamespaceCloned source target name to tables ↦ false ]
+
+-- the changes before the restore of the namespace at the point; all where there is none
+abbrev pub before_restore : List Change → Id → ℕ → List Change → List Change
+before_restore [] ns point all = all
+before_restore (c ∷ earlier) ns point all = if is_restore_of ns point c then earlier else before_restore earlier ns point all
+
+-- the point comes after each change of a row of the namespace that was made before its restore, by more than one
+abbrev pub AfterRows : Id → ℕ → Parts → List Change → Type 0
+AfterRows ns point ps changes = (c : Change) (table : Id) (key : List ℕ) (op : RowOp) → In c (before_restore changes ns point changes)
+    → c.act ≡ RowChanged table key op → owns ps.master.catalog.owners ns table ≡ true → c.stamp + 1 < point
+
+abbrev pub RestorationStateFacts : RestorationState → RestorationRecord → Parts → List Change → Type 0
+RestorationStateFacts Fencing r ps changes = (l : Listed) → In l r.listed → l.acked ≡ true
+    → ((ps.tablet l.slot).fence ≡ Some r.id) × (r.to < (ps.tablet l.slot).clock)
+RestorationStateFacts (Snapshotting point own) r ps changes = AllFenced r.id r.namespace ps
+RestorationStateFacts (Switching point serving) r ps changes = AllFenced r.id r.namespace ps
+RestorationStateFacts (Restoring point serving) r ps changes = (l : Listed) → In l r.listed → (ps.tablet l.slot).tablet ≡ l.tablet → record {
+    fenced : is_serving (ps.tablet l.slot).presence ≡ true → (ps.tablet l.slot).fence ≡ Some r.id;
+    restored : is_restore l.body ≡ true → is_done (ps.tablet l.slot).done r.id RestoreFromKind ≡ true
+      → ((ps.tablet l.slot).cutoff ≡ point)
+        × AreRowsAt (ps.tablet l.slot).versions (ps.tablet l.slot).low (ps.tablet l.slot).high point changes r.to (ps.tablet l.slot).table }
+RestorationStateFacts (Releasing point serving) r ps changes = (l : Listed) → In l r.listed → l.acked ≡ true → (ps.tablet l.slot).fence ≢ Some r.id
+RestorationStateFacts (Restored point serving) r ps changes = NoneFenced r.id ps
+
+abbrev pub CloneStateFacts : CloneState → CloneRecord → Parts → List Change → Type 0
+CloneStateFacts Accepted c ps changes = Unit {0}
+CloneStateFacts (CloneSnapshot own) c ps changes = Unit {0}
+CloneStateFacts (Copying serving copied_at) c ps changes = (l : Listed) (p : TabletPair) → In l c.listed → In p c.tablets → p.target ≡ l.tablet → l.acked ≡ true
+    → ((ps.tablet l.slot).fence ≡ Some c.id)
+      × AreRowsAt (ps.tablet l.slot).versions p.low p.high copied_at changes c.to (ps.tablet p.source_slot).table
+CloneStateFacts (CloneReleasing serving copied_at) c ps changes = Unit {0}
+CloneStateFacts (CloneComplete serving copied_at) c ps changes = NoneFenced c.id ps
+
+-- a fence names an unfinished operation that holds the tablet's namespace, or made the tablet
+pub record FenceFacts (ps : Parts) (slot : ℕ) (operation : Id) : Type 0 where
+  pub by :
+    ((r : RestorationRecord) × (In r ps.master.restorations × ((r.id ≡ operation) × (is_restored r.state ≡ false) × (owns ps.master.catalog.owners r.namespace (ps.tablet slot).table ≡ true))))
+    ⊎ ((c : CloneRecord) × (In c ps.master.clones × ((c.id ≡ operation) × (is_cloned c.state ≡ false) × (owns ps.master.catalog.owners c.target_id (ps.tablet slot).table ≡ true))))
+
+abbrev pub NoneTwice : List Command → Type 0
+NoneTwice [] = Unit {0}
+NoneTwice (c ∷ cs) = (holds_command cs c.operation (kind_of c.body) ≡ false) × NoneTwice cs
+
+-- what the records' states say of the parts
+pub record RecordFacts (ps : Parts) (changes : List Change) : Type 0 where
+  pub snapshots : (r : SnapshotRecord) → In r ps.master.snapshots → SnapshotFacts r ps
+  pub restorations : (r : RestorationRecord) → In r ps.master.restorations → RestorationStateFacts r.state r ps changes
+  pub clones : (c : CloneRecord) → In c ps.master.clones → CloneStateFacts c.state c ps changes
+  -- a restoration's point comes after the rows that it undoes
+  pub after_rows : (r : RestorationRecord) (point : ℕ) → In r ps.master.restorations → point_of r.state ≡ Some point → AfterRows r.namespace point ps changes
+  -- a tablet that was sent a command, or did it, has a clock above the stamp that gave it
+  pub after_freeze : (slot : ℕ) (r : SnapshotRecord) → In r ps.master.snapshots
+      → (holds_command (ps.tablet slot).inbox r.id FreezeKind || is_done (ps.tablet slot).done r.id FreezeKind) ≡ true → r.at < (ps.tablet slot).clock
+  pub after_restore : (slot : ℕ) (r : RestorationRecord) (point : ℕ) → In r ps.master.restorations → point_of r.state ≡ Some point
+      → (holds_command (ps.tablet slot).inbox r.id RestoreFromKind || is_done (ps.tablet slot).done r.id RestoreFromKind) ≡ true → point < (ps.tablet slot).clock
+  pub fences : (slot : ℕ) (operation : Id) → (ps.tablet slot).fence ≡ Some operation → FenceFacts ps slot operation
+  pub once : (slot : ℕ) → NoneTwice (ps.tablet slot).inbox
+  pub fresh : (slot : ℕ) (c : Command) → In c (ps.tablet slot).inbox → is_done (ps.tablet slot).done c.operation (kind_of c.body) ≡ false

@@ -9,3 +9,5 @@ pub mod Records
 pub mod Acts
 pub mod Parts
 pub mod Schedules
+pub mod Lists
+pub mod Operations

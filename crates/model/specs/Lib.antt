@@ -9,6 +9,8 @@ pub mod Records
 pub mod Acts
 pub mod Parts
 pub mod Schedules
+pub mod Lists
+pub mod Operations
 pub mod Journal
 pub mod Entries
 pub mod Right

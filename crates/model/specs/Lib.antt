@@ -15,3 +15,4 @@ pub mod Journal
 pub mod Entries
 pub mod Right
 pub mod Stands
+pub mod Retained

@@ -11,6 +11,7 @@ pub mod Parts
 pub mod Schedules
 pub mod Lists
 pub mod Operations
+pub mod Looks
 pub mod Journal
 pub mod Entries
 pub mod Right

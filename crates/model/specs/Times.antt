@@ -42,3 +42,8 @@ time_of (Some x) n = x
 abbrev pub is_future : Option ℕ → ℕ → Bool
 is_future None n = false
 is_future (Some x) n = nat_le n x
+
+-- whether a time before this one is asked
+abbrev pub is_below : Option ℕ → ℕ → Bool
+is_below None low = false
+is_below (Some x) low = nat_lt x low

@@ -11,3 +11,4 @@ pub mod Parts
 pub mod Schedules
 pub mod Lists
 pub mod Operations
+pub mod Coordination

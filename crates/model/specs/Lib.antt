@@ -12,6 +12,7 @@ pub mod Schedules
 pub mod Lists
 pub mod Operations
 pub mod Looks
+pub mod Coordination
 pub mod Journal
 pub mod Entries
 pub mod Right

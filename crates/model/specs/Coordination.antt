@@ -1,0 +1,127 @@
+-- A coordinator brings a record's commands to the listed tablets: it sends one, has the tablet do it, and tells the master
+-- that it is done.
+use Rattle.std.specs.Prelude.{ℕ, List, [], ◌∷◌, ◌++◌, Option, Some, None, ◌==◌, ◌&&◌, not, nat_lt, map, if◌then◌else◌}
+use Rattle.std.specs.Option.{option_and_then}
+use Rattle.row_values.specs.declared.rows.KeyedRow.{KeyedRow}
+use Rattle.model.specs.Ids.{Id, Kind, Snapshot, Restoration, Clone, same}
+use Rattle.model.specs.Tablets.{Tablet as TabletPart, FrozenSet, Body, RestoreFrom, Copy, Command, Offer, set_of, rows_of_set, cutoff_of_set, kind_of, is_done}
+use Rattle.model.specs.Tablets as tell
+use Rattle.model.specs.Records.{Listed, SnapshotRecord, RestorationRecord, CloneRecord, unacked_at, acked_at, is_restored, is_cloned, is_sent, unsent_at}
+use Rattle.model.specs.Acts.{NotPending, Idle, OtherSlot, NotDone, Gone, SentTo, Done, Acked, Refused}
+use Rattle.model.specs.Parts.{Master, Parts, Outcome, Check, If, Ticks, Sends, Acks, Unsends, judged, refused}
+
+-- the unfinished record of an id
+
+abbrev pub unfinished_snapshot : List SnapshotRecord → Id → Option SnapshotRecord
+unfinished_snapshot [] id = None
+unfinished_snapshot (r ∷ rs) id = if same r.id id && not r.complete then Some r else unfinished_snapshot rs id
+
+abbrev pub unfinished_restoration : List RestorationRecord → Id → Option RestorationRecord
+unfinished_restoration [] id = None
+unfinished_restoration (r ∷ rs) id = if same r.id id && not (is_restored r.state) then Some r else unfinished_restoration rs id
+
+abbrev pub unfinished_clone : List CloneRecord → Id → Option CloneRecord
+unfinished_clone [] id = None
+unfinished_clone (r ∷ rs) id = if same r.id id && not (is_cloned r.state) then Some r else unfinished_clone rs id
+
+-- the tablet of the slot that the unfinished record of an id lists without ack, with what it is to do
+abbrev pub pending_of : Kind → Master → Id → ℕ → Option Listed
+pending_of Snapshot m operation slot = option_and_then (λ r. unacked_at r.listed slot) (unfinished_snapshot m.snapshots operation)
+pending_of Restoration m operation slot = option_and_then (λ r. unacked_at r.listed slot) (unfinished_restoration m.restorations operation)
+pending_of Clone m operation slot = option_and_then (λ r. unacked_at r.listed slot) (unfinished_clone m.clones operation)
+pending_of _ m operation slot = None
+
+abbrev pub pending : Master → Id → ℕ → Option Listed
+pending m operation slot = pending_of operation.kind m operation slot
+
+-- the command of a listed tablet
+abbrev pub command_for : Id → Listed → Command
+command_for operation l = record { operation = operation; tablet = l.tablet; body = l.body }
+
+abbrev pub sending : Option Listed → Id → ℕ → Outcome
+sending None operation slot = refused (NotPending operation)
+sending (Some l) operation slot =
+    record { master = Sends operation slot; tablets = record { slot = slot; act = Offer (command_for operation l) } ∷ []; reply = SentTo }
+
+-- the pending command goes into the tablet's inbox, and the master marks it as sent
+unfoldable pub send : Id → ℕ → ℕ → Parts → Outcome
+send operation slot n ps = sending (pending ps.master operation slot) operation slot
+
+-- the slot of the tablet whose frozen rows a command takes: of a copy its source, else the tablet's own
+abbrev pub source_slot : ℕ → Body → ℕ
+source_slot slot (Copy source snapshot to stamp table low high version) = source
+source_slot slot _ = slot
+
+-- the rows that a copy takes from its source
+abbrev pub rows_for : Body → List FrozenSet → List KeyedRow
+rows_for (Copy source snapshot to stamp table low high version) frozen = rows_of_set (set_of frozen snapshot) to
+rows_for _ frozen = []
+
+-- the history of the frozen set that a command takes its rows from may be cut above the time that it asks for
+abbrev pub gone_from : Option FrozenSet → ℕ → Check
+gone_from set to = If (nat_lt to (cutoff_of_set set)) (Gone to (cutoff_of_set set))
+
+abbrev pub gone : Body → List FrozenSet → List Check
+gone (RestoreFrom snapshot to point version) frozen = gone_from (set_of frozen snapshot) to ∷ []
+gone (Copy source snapshot to stamp table low high version) frozen = gone_from (set_of frozen snapshot) to ∷ []
+gone _ frozen = []
+
+abbrev pub processing : List Command → ℕ → ℕ → TabletPart → Outcome
+processing [] slot other source = refused Idle
+processing (c ∷ cs) slot other source = judged
+    (If (not (other == source_slot slot c.body)) (OtherSlot (source_slot slot c.body)) ∷ gone c.body source.frozen)
+    (record {
+      master = Ticks;
+      tablets = record { slot = slot; act = tell.Process (rows_for c.body source.frozen) } ∷ [];
+      reply = Done c.operation (kind_of c.body);
+    })
+
+-- the tablet does the first command of its inbox; the other slot is that of the rows' source
+unfoldable pub process : ℕ → ℕ → ℕ → Parts → Outcome
+process slot other n ps = processing (ps.tablet slot).inbox slot other (ps.tablet other)
+
+abbrev pub acknowledging : Option Listed → Id → ℕ → TabletPart → Outcome
+acknowledging None operation slot t = refused (NotPending operation)
+acknowledging (Some l) operation slot t =
+    if is_done t.done operation (kind_of l.body)
+    then record { master = Acks operation slot; tablets = []; reply = Acked }
+    else record { master = Unsends operation slot; tablets = []; reply = Refused NotDone }
+
+-- the master notes that the tablet did its command; where it didn't, the sent mark goes, so that the command is sent again
+unfoldable pub ack : Id → ℕ → ℕ → Parts → Outcome
+ack operation slot n ps = acknowledging (pending ps.master operation slot) operation slot (ps.tablet slot)
+
+-- what the master is told gets its meaning: each effect sets the clock to the stamp, besides what it says
+
+abbrev pub sent_to : Id → ℕ → ℕ → Master → Master
+sent_to operation slot n m = record m {
+  clock = n;
+  sent = if is_sent m.sent operation slot then m.sent else m.sent ++ record { operation = operation; slot = slot } ∷ [];
+}
+
+abbrev pub unsent_by : Id → ℕ → ℕ → Master → Master
+unsent_by operation slot n m = record m { clock = n; sent = unsent_at operation slot m.sent }
+
+-- the operation's record notes the ack of the slot's tablet
+
+abbrev pub acked_snapshot : Id → ℕ → List SnapshotRecord → List SnapshotRecord
+acked_snapshot id slot rs = map {A = SnapshotRecord} (λ r. record r { listed = if same r.id id then acked_at slot r.listed else r.listed }) rs
+
+abbrev pub acked_restoration : Id → ℕ → List RestorationRecord → List RestorationRecord
+acked_restoration id slot rs = map {A = RestorationRecord} (λ r. record r { listed = if same r.id id then acked_at slot r.listed else r.listed }) rs
+
+abbrev pub acked_clone : Id → ℕ → List CloneRecord → List CloneRecord
+acked_clone id slot rs = map {A = CloneRecord} (λ r. record r { listed = if same r.id id then acked_at slot r.listed else r.listed }) rs
+
+abbrev pub acked_by : Kind → Id → ℕ → ℕ → Master → Master
+acked_by Snapshot operation slot n m = record m { clock = n; snapshots = acked_snapshot operation slot m.snapshots }
+acked_by Restoration operation slot n m = record m { clock = n; restorations = acked_restoration operation slot m.restorations }
+acked_by Clone operation slot n m = record m { clock = n; clones = acked_clone operation slot m.clones }
+acked_by _ operation slot n m = record m { clock = n }
+
+abbrev pub acked : Id → ℕ → ℕ → Master → Master
+acked operation slot n m = acked_by operation.kind operation slot n m
+
+-- a restart of the master loses the sent marks and nothing else
+abbrev pub restarted_master : ℕ → Master → Master
+restarted_master n m = record m { clock = n; sent = [] }

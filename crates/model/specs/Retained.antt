@@ -2,14 +2,13 @@
 -- it needs.
 use Rattle.std.specs.Prelude.{◌≡◌, ◌≢◌, ℕ, ◌≤◌, ◌<◌, Bool, true, false, List, [], ◌∷◌, Option, Some, None, ◌&&◌, ◌+◌, ◌-◌, max, not, if◌then◌else◌}
 use Rattle.std.specs.Option.{is_some}
-use Rattle.model.specs.Ids.{Id, same}
+use Rattle.model.specs.Ids.{Id, same, In}
 use Rattle.model.specs.Catalog.{owns, kept_from}
 use Rattle.model.specs.Activity.{Interval, active_at, last_of}
 use Rattle.model.specs.Tablets.{Tablet, FrozenSet, set_of, is_vacant}
 use Rattle.model.specs.Records.{Schedule, Listed, SnapshotRecord, RestorationRecord, CloneRecord, TabletPair, is_restored, is_cloned, lists_tablet, schedule_of}
 use Rattle.model.specs.Schedules.{floor, complete_to, serving}
 use Rattle.model.specs.Operations.{time_of_user}
-use Rattle.model.specs.Stands.{In}
 use Rattle.model.specs.Parts.{Parts}
 
 -- a tablet is present: its slot's part holds it

@@ -6,13 +6,14 @@ use Rattle.std.specs.Str.{bytes_eq}
 use Rattle.row_values.specs.Rows.{cut_to}
 use Rattle.row_values.specs.Codes.{code_of}
 use Rattle.row_values.specs.declared.rows.KeyedRow.{KeyedRow}
-use Rattle.model.specs.Ids.{Id, same}
+use Rattle.model.specs.Ids.{Id, same, In}
 use Rattle.model.specs.Times.{time_of}
 use Rattle.model.specs.Store.{precedes, in_range, present}
 use Rattle.model.specs.Schema.{Column, column_named, is_of_kind}
 use Rattle.model.specs.Activity.{Interval, active_at}
 use Rattle.model.specs.Journal.{Change, ChangeAct, NamespaceMade, NamespaceDropped, TableMade, TableRenamed, TableDropped, ColumnAdded, ColumnDropped, RowChanged, NamespaceRestored, NamespaceCloned, TableView, is_in, namespace_at, table_at, row_at}
 use Rattle.model.specs.Tablets.{Tablet}
+use Rattle.model.specs.Looks.{batch_fault}
 use Rattle.model.specs.Acts.{NamedCell, NamedOp, NamedUpsert, NamedDelete, NamedItem, Place, At, Refusal, UnknownNamespace, UnknownTable, UnknownColumn, WrongKind, CrossTablet, Future, TooOld, Reply, Placed, Refused}
 
 -- Rows in order over several places
@@ -67,36 +68,11 @@ pub record TableFound (changes : List Change) (x now : ℕ) (namespace table : L
   pub named : view.name ≡ table
   pub current : is_some (table_at changes now id) ≡ true
 
--- the first cell that is faulty in either way decides
-abbrev pub fault_of_cell : Option Column → NamedCell → Option Refusal
-fault_of_cell None cell = Some UnknownColumn
-fault_of_cell (Some column) cell = if is_of_kind column.kind cell.value then None else Some WrongKind
-
-abbrev pub or_fault : Option Refusal → Option Refusal → Option Refusal
-or_fault None later = later
-or_fault (Some why) later = Some why
-
-abbrev pub fault_of_cells : List NamedCell → List Column → Option Refusal
-fault_of_cells [] columns = None
-fault_of_cells (cell ∷ cells) columns = or_fault (fault_of_cell (column_named columns cell.column) cell) (fault_of_cells cells columns)
-
-abbrev pub fault_of_op : NamedOp → List Column → Option Refusal
-fault_of_op (NamedUpsert cells) columns = fault_of_cells cells columns
-fault_of_op NamedDelete columns = None
-
-abbrev pub fault_of : List NamedItem → List Column → Option Refusal
-fault_of [] columns = None
-fault_of (item ∷ items) columns = or_fault (fault_of_op item.op columns) (fault_of items columns)
-
-abbrev pub InActivity : Interval → List Interval → Type 0
-InActivity i [] = ⊥
-InActivity i (j ∷ js) = (j ≡ i) ⊎ InActivity i js
-
 -- a place is a tablet of the table that is active at the stamp
 abbrev pub IsActivePlace : List Interval → ℕ → Id → Place → Type 0
 IsActivePlace activity now table place = record {
     interval : Interval;
-    listed : InActivity interval activity;
+    listed : In interval activity;
     table_is : interval.table ≡ table;
     active : active_at now interval ≡ true;
     slot_is : place.slot ≡ interval.slot;
@@ -108,7 +84,7 @@ IsActivePlace activity now table place = record {
 pub record LookRight (changes : List Change) (x now : ℕ) (namespace table : List ℕ) (batch : List NamedItem) (fault : Option Refusal) (columns : List Column → Type 0) : Type 0 where
   pub found : TableFound changes x now namespace table
   pub columns_are : columns found.view.columns
-  pub judged : fault_of batch found.view.columns ≡ fault
+  pub judged : batch_fault found.view.columns batch ≡ fault
 
 abbrev pub AnyColumns : List Column → Type 0
 AnyColumns columns = Unit {0}

@@ -4,7 +4,7 @@ use Rattle.std.specs.Prelude.{◌≡◌, ◌≢◌, ℕ, ◌≤◌, ◌<◌, Boo
 use Rattle.std.specs.List.{list_any, filter}
 use Rattle.std.specs.Option.{is_some}
 use Rattle.row_values.specs.Codes.{code_of}
-use Rattle.model.specs.Ids.{Id, same}
+use Rattle.model.specs.Ids.{Id, same, In}
 use Rattle.model.specs.Times.{before_end, is_open}
 use Rattle.model.specs.Store.{Version, read_of, in_range, of_rows, rows_at}
 use Rattle.model.specs.Catalog.{owns}
@@ -14,10 +14,6 @@ use Rattle.model.specs.Journal.{Change, NamespaceMade, NamespaceDropped, TableMa
 use Rattle.model.specs.Tablets.{Tablet, Body, RestoreFrom, BodyKind, FenceKind, FreezeKind, RestoreFromKind, CopyKind, ReleaseKind, kind_of, Command, Mark, FrozenSet, is_vacant, is_serving, is_done, holds_command, set_of}
 use Rattle.model.specs.Records.{Listed, SnapshotRecord, RestorationRecord, RestorationState, Fencing, Snapshotting, Switching, Restoring, Releasing, Restored, CloneRecord, CloneState, Accepted, CloneSnapshot, Copying, CloneReleasing, CloneComplete, lists_tablet, is_restored, is_cloned, point_of, TabletPair}
 use Rattle.model.specs.Parts.{Master, Parts}
-
-abbrev pub In : {A : Type 0} → A → List A → Type 0
-In x [] = ⊥
-In x (y ∷ ys) = (y ≡ x) ⊎ In x ys
 
 -- Tablets stand for the journal
 

@@ -12,3 +12,4 @@ pub mod Schedules
 pub mod Lists
 pub mod Operations
 pub mod Looks
+pub mod Changed

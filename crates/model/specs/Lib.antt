@@ -13,3 +13,5 @@ pub mod Lists
 pub mod Operations
 pub mod Looks
 pub mod Changed
+pub mod Lines
+pub mod Changes

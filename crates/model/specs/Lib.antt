@@ -12,9 +12,12 @@ pub mod Schedules
 pub mod Lists
 pub mod Operations
 pub mod Looks
+pub mod Changed
+pub mod Changes
 pub mod Coordination
 pub mod Journal
 pub mod Entries
 pub mod Right
 pub mod Stands
 pub mod Retained
+pub mod Lines

@@ -12,3 +12,5 @@ pub mod Schedules
 pub mod Lists
 pub mod Operations
 pub mod Coordination
+pub mod Restored
+pub mod Moves

@@ -15,6 +15,8 @@ pub mod Looks
 pub mod Changed
 pub mod Changes
 pub mod Coordination
+pub mod Restored
+pub mod Moves
 pub mod Journal
 pub mod Entries
 pub mod Right

@@ -1,0 +1,99 @@
+-- What a restoration brings back and a clone takes over of the catalog and of the tablets of a time. A column that the
+-- table gets later never takes an id that was given before, not even one that the time doesn't show.
+use Rattle.std.specs.Prelude.{ℕ, false, List, [], ◌∷◌, ◌++◌, Option, Some, None, ◌&&◌, ◌+◌, map, if◌then◌else◌}
+use Rattle.std.specs.Option.{unwrap_or, option_map_or}
+use Rattle.model.specs.Ids.{Id, same}
+use Rattle.model.specs.Times.{holds_at, ended}
+use Rattle.model.specs.Schema.{Schema}
+use Rattle.model.specs.Catalog.{Catalog, TableRecord, Owner, tables_at, latest, current_table, end_tables, owns, set_kept_from}
+use Rattle.model.specs.Activity.{Interval, active_at}
+use Rattle.model.specs.Tablets.{RestoreFrom, Hide}
+use Rattle.model.specs.Records.{Listed, IdPair, TabletPair, CloneRecord}
+use Rattle.model.specs.Parts.{Master}
+use Rattle.model.specs.Lists.{by_table_and_number, once, active_tablets, tablets_active_at}
+
+-- the newest kept schema of the table of a record
+abbrev pub newest : List TableRecord → TableRecord → Schema
+newest rs r = unwrap_or (latest rs r.id) r.schema
+
+-- a table as it was, current again from a point on, under a new version of its schema
+abbrev pub back_at : List TableRecord → ℕ → TableRecord → TableRecord
+back_at rs point r = record r {
+  schema = record { version = (newest rs r).version + 1; next = (newest rs r).next; columns = r.schema.columns };
+  from = point;
+  to = None;
+}
+
+-- the tables of a namespace at a time, current again from a point on
+abbrev pub tables_back : List TableRecord → Id → ℕ → ℕ → List TableRecord
+tables_back rs ns to point = map (back_at rs point) (tables_at rs ns to)
+
+-- the current tables of the namespace give way to these
+abbrev pub replace : Id → List TableRecord → ℕ → List TableRecord → List TableRecord
+replace ns tables point rs = end_tables ns point rs ++ tables
+
+-- the namespace's tables are those of a time, from a point on
+abbrev pub restored_tables : List TableRecord → Id → ℕ → ℕ → List TableRecord
+restored_tables rs ns to point = replace ns (tables_back rs ns to point) point rs
+
+-- the version of a table's current schema
+abbrev pub version_of : List TableRecord → Id → ℕ
+version_of rs table = option_map_or (λ r. r.schema.version) (current_table rs table) 0
+
+-- the open intervals of a namespace's tablets end
+abbrev pub end_namespace_tablets : List Owner → Id → ℕ → List Interval → List Interval
+end_namespace_tablets owners ns point is = map {A = Interval} (λ i. record i { to = if owns owners ns i.table then ended point i.to else i.to }) is
+
+abbrev pub begun_at : ℕ → Interval → Interval
+begun_at point i = record i { from = point; to = None }
+
+-- from a point on the namespace's active tablets are those that were active at a time
+abbrev pub restored_activity : Master → Id → ℕ → ℕ → List Interval
+restored_activity m ns to point = end_namespace_tablets m.catalog.owners ns point m.activity ++ map (begun_at point) (tablets_active_at m ns to)
+
+-- the tablets that a switch concerns: those that were active at the time, and the others that are now
+abbrev pub concerned : Master → Id → ℕ → List Interval
+concerned m ns to = by_table_and_number (once (tablets_active_at m ns to ++ active_tablets m ns))
+
+-- the tablets of the time are to take their rows of then, the others to be hidden; `tables` are those after the switch
+abbrev pub switch_list : Master → Id → ℕ → ℕ → Id → List TableRecord → List Listed
+switch_list m ns to point serving tables = map {A = Interval} (λ i. record {
+  tablet = i.tablet;
+  slot = i.slot;
+  body = if active_at to i then RestoreFrom serving to point (version_of tables i.table) else Hide point;
+  acked = false;
+}) (concerned m ns to)
+
+-- the record of a table at a time
+abbrev pub table_at : List TableRecord → Id → ℕ → Option TableRecord
+table_at [] table x = None
+table_at (r ∷ rs) table x = if holds_at x r.from r.to && same r.id table then Some r else table_at rs table x
+
+-- a table as it was, under another id in another namespace
+abbrev pub cloned : List TableRecord → Id → Id → ℕ → TableRecord → TableRecord
+cloned rs target table at r = record {
+  id = table;
+  namespace = target;
+  name = r.name;
+  schema = record { version = 1; next = (newest rs r).next; columns = r.schema.columns };
+  from = at;
+  to = None;
+}
+
+-- the tables of the pairs' sources at a time, in the target
+abbrev pub cloned_tables : List IdPair → List TableRecord → Id → ℕ → ℕ → List TableRecord
+cloned_tables [] rs target to at = []
+cloned_tables (p ∷ ps) rs target to at =
+    option_map_or (λ r. cloned rs target p.target at r ∷ []) (table_at rs p.source to) [] ++ cloned_tables ps rs target to at
+
+-- the target of a clone becomes current
+abbrev pub with_clone : CloneRecord → ℕ → Catalog → Catalog
+with_clone r at c = record c {
+  namespaces = c.namespaces ++ record { id = r.target_id; name = r.target; from = at; to = None } ∷ [];
+  tables = c.tables ++ cloned_tables r.tables c.tables r.target_id r.to at;
+  kept_from = set_kept_from c.kept_from r.target_id at;
+}
+
+-- the target tablets of a clone are active from a time on
+abbrev pub cloned_activity : ℕ → List TabletPair → List Interval
+cloned_activity at pairs = map (λ p. record { slot = p.slot; tablet = p.target; table = p.table; low = p.low; high = p.high; from = at; to = None }) pairs

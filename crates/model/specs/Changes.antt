@@ -11,18 +11,14 @@ use Rattle.model.specs.Catalog.{TableRecord, namespace_named, current_named, cur
 use Rattle.model.specs.Activity.{Interval}
 use Rattle.model.specs.Tablets.{Tablet, TabletAct, Make, Child, SetVersion, PutOut, Told}
 use Rattle.model.specs.Records.{Schedule, CloneRecord, is_visible, schedule_with, schedule_of, unfinished_of}
-use Rattle.model.specs.Acts.{Command, CreateNamespace, DropNamespace, CreateTable, AddColumn, DropColumn, RenameTable, DropTable, Split, CreateSchedule, DeleteSchedule, TakeSnapshot, Restore, CloneNamespace, ListSchedules, ListSnapshots, ListRestorations, ListClones, ListTablets, Refusal, UnknownNamespace, UnknownTable, UnknownColumn, UnknownSchedule, BadPeriod, NameTaken, ScheduleExists, NotEmpty, UnderSchedule, NoSchedule, TooMany, SlotsFull, TooEarly, Future, Busy, StalePlan, TooNarrow, NotDue, Ok, Schedules, Snapshots, Restorations, Clones, Tablets}
-use Rattle.model.specs.Parts.{Master, Parts, Changes, Outcome, Check, If, judged, answered}
+use Rattle.model.specs.Acts.{Command, CreateNamespace, DropNamespace, CreateTable, AddColumn, DropColumn, RenameTable, DropTable, Split, CreateSchedule, DeleteSchedule, TakeSnapshot, Restore, CloneNamespace, ListSchedules, ListSnapshots, ListRestorations, ListClones, ListTablets, UnknownNamespace, UnknownTable, UnknownColumn, UnknownSchedule, BadPeriod, NameTaken, ScheduleExists, NotEmpty, UnderSchedule, NoSchedule, TooMany, SlotsFull, TooEarly, Future, Busy, StalePlan, TooNarrow, NotDue, Ok, Schedules, Snapshots, Restorations, Clones, Tablets}
+use Rattle.model.specs.Parts.{Master, Parts, Changes, Outcome, If, judged, answered}
 use Rattle.model.specs.Schedules.{is_period, low, next_due, is_due}
 use Rattle.model.specs.Lists.{next_snapshot}
 use Rattle.model.specs.Operations.{holder, user}
-use Rattle.model.specs.Looks.{free_slots, known, table_of, plan_of, the_table}
+use Rattle.model.specs.Looks.{free_slots, known, names, table_of, plan_of, the_table}
 use Rattle.model.specs.Changed.{next_namespace, next_table, next_schedule, next_restoration, next_clone, the_schedule, next_tablet, shares, children, parent_of, sources, clone_time}
 use Rattle.model.specs.Lines.{schedule_lines, snapshot_lines, restoration_lines, clone_lines, tablet_lines}
-
--- where there is one, it is named
-abbrev pub names : Option Id → (Id → Refusal) → Check
-names found why = If (is_some found) (why (known found))
 
 -- the most current namespaces, tables of a namespace, and columns of a table
 abbrev pub most_namespaces : ℕ

@@ -14,6 +14,7 @@ pub mod Operations
 pub mod Looks
 pub mod Changed
 pub mod Changes
+pub mod RowActs
 pub mod Coordination
 pub mod Restored
 pub mod Moves

@@ -12,7 +12,7 @@ use Rattle.model.specs.Catalog.{kept_from, TableRecord, namespace_named, table_n
 use Rattle.model.specs.Activity.{Interval}
 use Rattle.model.specs.Records.{CloneRecord, is_cloned}
 use Rattle.model.specs.Acts.{Command, NamedCell, NamedOp, NamedUpsert, NamedDelete, NamedItem, CreateTable, AddColumn, DropColumn, DropTable, Split, Refusal, UnknownNamespace, UnknownTable, UnknownColumn, WrongKind, Future, CrossTablet, TooOld, Place, Planned, Placed, Present}
-use Rattle.model.specs.Parts.{Master, Outcome, If, judged, answered}
+use Rattle.model.specs.Parts.{Master, Outcome, Check, If, judged, answered}
 use Rattle.model.specs.Lists.{by_range}
 
 -- the slots that the targets of unfinished clones have
@@ -40,6 +40,10 @@ least_slots count slots = if nat_le count (length slots) then take count slots e
 -- the namespace that is found, or that of nothing
 abbrev pub known : Option Id → Id
 known id = unwrap_or id no_id
+
+-- a refusal that comes where something is found, and names it
+abbrev pub names : Option Id → (Id → Refusal) → Check
+names found why = If (is_some found) (why (known found))
 
 -- the current table of a name in the namespace of a name
 abbrev pub table_of : Master → List ℕ → List ℕ → Option TableRecord

@@ -23,3 +23,4 @@ pub mod Right
 pub mod Stands
 pub mod Retained
 pub mod Lines
+pub mod Work

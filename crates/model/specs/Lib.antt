@@ -24,3 +24,4 @@ pub mod Stands
 pub mod Retained
 pub mod Lines
 pub mod Work
+pub mod Cleanup

@@ -12,8 +12,8 @@ use Rattle.model.specs.Coordination.{source_slot}
 use Rattle.model.specs.Moves.{Progress, snapshot_progress, restoration_progress, clone_progress}
 
 -- the unfinished records: snapshots, then restorations, then clones, each by number
-abbrev pub unfinished : Master → List Progress
-unfinished m =
+abbrev pub unfinished_records : Master → List Progress
+unfinished_records m =
     map snapshot_progress (filter (λ r. not r.complete) m.snapshots)
     ++ map (restoration_progress m) (filter (λ r. not (is_restored r.state)) m.restorations)
     ++ map (clone_progress m) (filter (λ r. not (is_cloned r.state)) m.clones)
@@ -34,7 +34,7 @@ first_work (p ∷ ps) sent = option_or (work_for (first_unacked p.listed) p.awai
 
 -- what a coordinator does next, as the master knows it
 abbrev pub next_work : Master → Option WorkItem
-next_work m = first_work (unfinished m) m.sent
+next_work m = first_work (unfinished_records m) m.sent
 
 -- a tablet with a command in its inbox does it first
 abbrev pub collecting : List Command → Id → ℕ → ℕ → Act

@@ -24,3 +24,5 @@ pub mod Right
 pub mod Stands
 pub mod Retained
 pub mod Lines
+pub mod Work
+pub mod Cleanup

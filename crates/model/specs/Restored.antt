@@ -65,9 +65,9 @@ switch_list m ns to point serving tables = map {A = Interval} (λ i. record {
 }) (concerned m ns to)
 
 -- the record of a table at a time
-abbrev pub table_at : List TableRecord → Id → ℕ → Option TableRecord
-table_at [] table x = None
-table_at (r ∷ rs) table x = if holds_at x r.from r.to && same r.id table then Some r else table_at rs table x
+abbrev pub record_at : List TableRecord → Id → ℕ → Option TableRecord
+record_at [] table x = None
+record_at (r ∷ rs) table x = if holds_at x r.from r.to && same r.id table then Some r else record_at rs table x
 
 -- a table as it was, under another id in another namespace
 abbrev pub cloned : List TableRecord → Id → Id → ℕ → TableRecord → TableRecord
@@ -84,7 +84,7 @@ cloned rs target table at r = record {
 abbrev pub cloned_tables : List IdPair → List TableRecord → Id → ℕ → ℕ → List TableRecord
 cloned_tables [] rs target to at = []
 cloned_tables (p ∷ ps) rs target to at =
-    option_map_or (λ r. cloned rs target p.target at r ∷ []) (table_at rs p.source to) [] ++ cloned_tables ps rs target to at
+    option_map_or (λ r. cloned rs target p.target at r ∷ []) (record_at rs p.source to) [] ++ cloned_tables ps rs target to at
 
 -- the target of a clone becomes current
 abbrev pub with_clone : CloneRecord → ℕ → Catalog → Catalog

@@ -18,11 +18,11 @@ pub mod RowActs
 pub mod Coordination
 pub mod Restored
 pub mod Moves
+pub mod Work
+pub mod Cleanup
 pub mod Journal
 pub mod Entries
 pub mod Right
 pub mod Stands
 pub mod Retained
 pub mod Lines
-pub mod Work
-pub mod Cleanup

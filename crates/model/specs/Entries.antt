@@ -1,17 +1,16 @@
 -- Entries of a history, what an event touches, and what it must meet.
-use Rattle.std.specs.Prelude.{◌≡◌, ◌≢◌, ℕ, ◌≤◌, ◌<◌, Bool, true, false, List, [], ◌∷◌, ◌++◌, Option, Some, None, ◌==◌, ◌&&◌, ◌⊎◌, ◌+◌, ◌^◌, min, fold, map, length, if◌then◌else◌}
+use Rattle.std.specs.Prelude.{◌≡◌, ℕ, ◌≤◌, ◌<◌, false, List, [], ◌∷◌, Option, Some, None, ◌==◌, ◌^◌, min, fold, map, length, if◌then◌else◌}
 use Rattle.std.specs.Str.{bytes_eq}
 use Rattle.row_values.specs.Stamps as rule
 use Rattle.row_values.specs.declared.value.Value.{Value}
 use Rattle.row_values.specs.declared.value.Value.TheVariants.{Int, Text, Null}
-use Rattle.row_values.specs.declared.value.Cell.{Cell}
 use Rattle.row_values.specs.declared.value.RowOp.{RowOp}
 use Rattle.row_values.specs.declared.value.RowOp.TheVariants.{Upsert, Delete}
 use Rattle.row_values.specs.declared.value.Item.{Item}
-use Rattle.model.specs.Ids.{Id, Kind, Tablet, Snapshot, rising}
+use Rattle.model.specs.Ids.{Kind, Tablet, Snapshot, rising}
 use Rattle.model.specs.Times.{end_of_time}
 use Rattle.model.specs.Schema.{NewColumn}
-use Rattle.model.specs.Acts.{NamedCell, NamedOp, NamedUpsert, NamedDelete, NamedItem, Command, CreateNamespace, DropNamespace, CreateTable, AddColumn, DropColumn, RenameTable, DropTable, Split, CreateSchedule, Restore, CloneNamespace, ListTablets, Ask, AskPlan, AskKeys, AskTable, At, Act, Look, Change, Write, Read, Cutoff, Compact, Send, Process, Ack, Advance, Remove, Prune, Restart, Stats, Event, Reply}
+use Rattle.model.specs.Acts.{NamedOp, NamedUpsert, NamedDelete, NamedItem, Command, CreateNamespace, DropNamespace, CreateTable, AddColumn, DropColumn, RenameTable, DropTable, Split, CreateSchedule, Restore, CloneNamespace, ListTablets, Ask, AskPlan, AskKeys, AskTable, Act, Look, Change, Write, Read, Cutoff, Compact, Send, Process, Ack, Advance, Remove, Prune, Restart, Stats, Event, Reply}
 use Rattle.model.specs.Parts.{Parts}
 
 -- an event that was performed, with its place in the history, its stamp and its reply

@@ -13,6 +13,7 @@ pub mod Lists
 pub mod Operations
 pub mod Looks
 pub mod Changed
+pub mod Lines
 pub mod Changes
 pub mod RowActs
 pub mod Coordination
@@ -22,7 +23,8 @@ pub mod Work
 pub mod Cleanup
 pub mod Journal
 pub mod Entries
+pub mod History
 pub mod Right
 pub mod Stands
 pub mod Retained
-pub mod Lines
+pub mod Left

@@ -1,12 +1,11 @@
 -- What retention keeps: while a time is retained, nothing removes a version, a frozen set, a tablet or a catalog record that
 -- it needs.
-use Rattle.std.specs.Prelude.{◌≡◌, ◌≢◌, ℕ, ◌≤◌, ◌<◌, Bool, true, false, List, [], ◌∷◌, Option, Some, None, ◌&&◌, ◌+◌, ◌-◌, max, not, if◌then◌else◌}
-use Rattle.std.specs.Option.{is_some}
+use Rattle.std.specs.Prelude.{◌≡◌, ℕ, ◌≤◌, ◌<◌, true, false, List, [], ◌∷◌, Option, Some, None, ◌&&◌, ◌+◌, max, not, if◌then◌else◌}
 use Rattle.model.specs.Ids.{Id, same, In}
 use Rattle.model.specs.Catalog.{owns, kept_from}
 use Rattle.model.specs.Activity.{Interval, active_at, last_of}
 use Rattle.model.specs.Tablets.{Tablet, FrozenSet, set_of, is_vacant}
-use Rattle.model.specs.Records.{Schedule, Listed, SnapshotRecord, RestorationRecord, CloneRecord, TabletPair, is_restored, is_cloned, lists_tablet, schedule_of}
+use Rattle.model.specs.Records.{Schedule, Listed, SnapshotRecord, RestorationRecord, CloneRecord, TabletPair, is_restored, is_cloned, lists_tablet}
 use Rattle.model.specs.Schedules.{floor, complete_to, serving}
 use Rattle.model.specs.Operations.{time_of_user}
 use Rattle.model.specs.Parts.{Parts}
@@ -35,8 +34,9 @@ SetOrLiveReaches (Some set) cutoff to = set.cutoff ≤ to
 abbrev pub UnservedReaches : Option SnapshotRecord → Tablet → Id → ℕ → Type 0
 UnservedReaches None t tablet to = t.cutoff ≤ to
 UnservedReaches (Some r) t tablet to = record {
-    listed : to ≤ r.at → (lists_tablet tablet r.listed ≡ true) × SetOrLiveReaches (set_of t.frozen r.id) t.cutoff to;
-    later : r.at < to → t.cutoff ≤ to }
+  listed : to ≤ r.at → (lists_tablet tablet r.listed ≡ true) × SetOrLiveReaches (set_of t.frozen r.id) t.cutoff to;
+  later : r.at < to → t.cutoff ≤ to;
+}
 
 -- the rows of a tablet at a time can be had
 abbrev pub Reaches : Option SnapshotRecord → Option SnapshotRecord → Tablet → Id → ℕ → Type 0

@@ -1,5 +1,5 @@
 -- When an entry is right: its reply is that of one list of stamped changes, the journal of the entries before it.
-use Rattle.std.specs.Prelude.{◌≡◌, ◌≢◌, ℕ, ◌≤◌, ◌<◌, Bool, true, false, List, [], ◌∷◌, ◌++◌, Option, Some, None, ◌==◌, ◌&&◌, ◌⊎◌, not, nat_le, if◌then◌else◌}
+use Rattle.std.specs.Prelude.{◌≡◌, ℕ, ◌<◌, Bool, true, false, List, [], ◌∷◌, ◌++◌, Option, Some, None, ◌==◌, ◌&&◌, if◌then◌else◌}
 use Rattle.std.specs.List.{filter}
 use Rattle.std.specs.Option.{is_some}
 use Rattle.std.specs.Str.{bytes_eq}
@@ -7,14 +7,13 @@ use Rattle.row_values.specs.Rows.{cut_to}
 use Rattle.row_values.specs.Codes.{code_of}
 use Rattle.row_values.specs.declared.rows.KeyedRow.{KeyedRow}
 use Rattle.model.specs.Ids.{Id, same, In}
-use Rattle.model.specs.Times.{time_of}
 use Rattle.model.specs.Store.{precedes, in_range, present}
-use Rattle.model.specs.Schema.{Column, column_named, is_of_kind}
+use Rattle.model.specs.Schema.{Column}
 use Rattle.model.specs.Activity.{Interval, active_at}
 use Rattle.model.specs.Journal.{Change, ChangeAct, NamespaceMade, NamespaceDropped, TableMade, TableRenamed, TableDropped, ColumnAdded, ColumnDropped, RowChanged, NamespaceRestored, NamespaceCloned, TableView, is_in, namespace_at, table_at, row_at}
 use Rattle.model.specs.Tablets.{Tablet}
 use Rattle.model.specs.Looks.{batch_fault}
-use Rattle.model.specs.Acts.{NamedCell, NamedOp, NamedUpsert, NamedDelete, NamedItem, Place, At, Refusal, UnknownNamespace, UnknownTable, UnknownColumn, WrongKind, CrossTablet, Future, TooOld, Reply, Placed, Refused}
+use Rattle.model.specs.Acts.{NamedItem, Place, At, Refusal, UnknownNamespace, UnknownTable, UnknownColumn, WrongKind, CrossTablet, Future, TooOld, Reply, Placed, Refused}
 
 -- Rows in order over several places
 
@@ -71,14 +70,15 @@ pub record TableFound (changes : List Change) (x now : ℕ) (namespace table : L
 -- a place is a tablet of the table that is active at the stamp
 abbrev pub IsActivePlace : List Interval → ℕ → Id → Place → Type 0
 IsActivePlace activity now table place = record {
-    interval : Interval;
-    listed : In interval activity;
-    table_is : interval.table ≡ table;
-    active : active_at now interval ≡ true;
-    slot_is : place.slot ≡ interval.slot;
-    tablet_is : place.tablet ≡ interval.tablet;
-    low_is : place.low ≡ interval.low;
-    high_is : place.high ≡ interval.high }
+  interval : Interval;
+  listed : In interval activity;
+  table_is : interval.table ≡ table;
+  active : active_at now interval ≡ true;
+  slot_is : place.slot ≡ interval.slot;
+  tablet_is : place.tablet ≡ interval.tablet;
+  low_is : place.low ≡ interval.low;
+  high_is : place.high ≡ interval.high;
+}
 
 -- the table of a look was found, with these columns, and its batch has no fault
 pub record LookRight (changes : List Change) (x now : ℕ) (namespace table : List ℕ) (batch : List NamedItem) (fault : Option Refusal) (columns : List Column → Type 0) : Type 0 where

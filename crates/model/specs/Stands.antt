@@ -1,6 +1,6 @@
 -- What holds of the parts of a cluster against its journal after each entry: tablets stand for the journal, ranges cover the
 -- codes, and a record's state says what its tablets have done.
-use Rattle.std.specs.Prelude.{◌≡◌, ◌≢◌, ℕ, ◌≤◌, ◌<◌, Bool, true, false, List, [], ◌∷◌, ◌++◌, Option, Some, None, ◌==◌, ◌&&◌, ◌||◌, ◌⊎◌, ◌+◌, not, nat_le, nat_lt, if◌then◌else◌}
+use Rattle.std.specs.Prelude.{◌≡◌, ◌≢◌, ℕ, ◌≤◌, ◌<◌, Bool, true, false, List, [], ◌∷◌, Option, Some, None, ◌==◌, ◌&&◌, ◌||◌, ◌⊎◌, ◌+◌, not, nat_lt, if◌then◌else◌}
 use Rattle.std.specs.List.{list_any, filter}
 use Rattle.std.specs.Option.{is_some}
 use Rattle.row_values.specs.Codes.{code_of}
@@ -11,9 +11,9 @@ use Rattle.model.specs.Catalog.{owns}
 use Rattle.model.specs.Activity.{Interval, active_at, last_of}
 use Rattle.row_values.specs.declared.value.RowOp.{RowOp}
 use Rattle.model.specs.Journal.{Change, NamespaceMade, NamespaceDropped, TableMade, TableRenamed, TableDropped, ColumnAdded, ColumnDropped, RowChanged, NamespaceRestored, NamespaceCloned, table_at, row_at}
-use Rattle.model.specs.Tablets.{Tablet, Body, RestoreFrom, BodyKind, FenceKind, FreezeKind, RestoreFromKind, CopyKind, ReleaseKind, kind_of, Command, Mark, FrozenSet, is_vacant, is_serving, is_done, holds_command, set_of}
-use Rattle.model.specs.Records.{Listed, SnapshotRecord, RestorationRecord, RestorationState, Fencing, Snapshotting, Switching, Restoring, Releasing, Restored, CloneRecord, CloneState, Accepted, CloneSnapshot, Copying, CloneReleasing, CloneComplete, lists_tablet, is_restored, is_cloned, point_of, TabletPair}
-use Rattle.model.specs.Parts.{Master, Parts}
+use Rattle.model.specs.Tablets.{Tablet, Body, RestoreFrom, FreezeKind, RestoreFromKind, kind_of, Command, FrozenSet, is_vacant, is_serving, is_done, holds_command, set_of}
+use Rattle.model.specs.Records.{Listed, SnapshotRecord, RestorationRecord, RestorationState, Fencing, Snapshotting, Switching, Restoring, Releasing, Restored, CloneRecord, CloneState, Accepted, CloneSnapshot, Copying, CloneReleasing, CloneComplete, is_restored, is_cloned, point_of, TabletPair}
+use Rattle.model.specs.Parts.{Parts}
 
 -- Tablets stand for the journal
 
@@ -48,19 +48,19 @@ before_point x (Some point) = nat_lt x point
 -- the reads of a tablet's live store, from its cutoff on and before the end of its last activity, are those of the view
 pub record LiveStands (ps : Parts) (changes : List Change) (slot : ℕ) : Type 0 where
   pub reads : (i : Interval) (key : List ℕ) (x : ℕ)
-    → last_of (counted (awaited_in ps.master.restorations (ps.tablet slot)) ps.master.activity) (ps.tablet slot).tablet ≡ Some i
-    → in_range (ps.tablet slot).low (ps.tablet slot).high (code_of key) ≡ true
-    → (ps.tablet slot).cutoff ≤ x → x ≤ (ps.tablet slot).clock → before_end x i.to ≡ true
-    → before_point x (awaited_in ps.master.restorations (ps.tablet slot)) ≡ true
-    → is_some (table_at changes x (ps.tablet slot).table) ≡ true
-    → read_of (ps.tablet slot).versions key x ≡ row_at changes x (ps.tablet slot).table key
+      → last_of (counted (awaited_in ps.master.restorations (ps.tablet slot)) ps.master.activity) (ps.tablet slot).tablet ≡ Some i
+      → in_range (ps.tablet slot).low (ps.tablet slot).high (code_of key) ≡ true
+      → (ps.tablet slot).cutoff ≤ x → x ≤ (ps.tablet slot).clock → before_end x i.to ≡ true
+      → before_point x (awaited_in ps.master.restorations (ps.tablet slot)) ≡ true
+      → is_some (table_at changes x (ps.tablet slot).table) ≡ true
+      → read_of (ps.tablet slot).versions key x ≡ row_at changes x (ps.tablet slot).table key
 
 -- the reads of a frozen set, from its cutoff to its time, wherever the tablet was active, are those of the view
 pub record FrozenStands (ps : Parts) (changes : List Change) (slot : ℕ) (f : FrozenSet) : Type 0 where
   pub reads : (i : Interval) (key : List ℕ) (x : ℕ) → In i ps.master.activity → i.tablet ≡ (ps.tablet slot).tablet → active_at x i ≡ true
-    → in_range (ps.tablet slot).low (ps.tablet slot).high (code_of key) ≡ true → f.cutoff ≤ x → x ≤ f.at
-    → is_some (table_at changes x (ps.tablet slot).table) ≡ true
-    → read_of f.versions key x ≡ row_at changes x (ps.tablet slot).table key
+      → in_range (ps.tablet slot).low (ps.tablet slot).high (code_of key) ≡ true → f.cutoff ≤ x → x ≤ f.at
+      → is_some (table_at changes x (ps.tablet slot).table) ≡ true
+      → read_of f.versions key x ≡ row_at changes x (ps.tablet slot).table key
 
 -- a serving or hidden tablet stands for the journal
 pub record Stands (ps : Parts) (changes : List Change) : Type 0 where
@@ -96,7 +96,7 @@ HoldsFrozen snapshot at t = record { set : FrozenSet; held : set_of t.frozen sna
 
 pub record SnapshotFacts (r : SnapshotRecord) (ps : Parts) : Type 0 where
   pub frozen : (l : Listed) → In l r.listed → (r.complete || l.acked) ≡ true → (ps.tablet l.slot).tablet ≡ l.tablet
-    → is_vacant (ps.tablet l.slot).presence ≡ false → HoldsFrozen r.id r.at (ps.tablet l.slot)
+      → is_vacant (ps.tablet l.slot).presence ≡ false → HoldsFrozen r.id r.at (ps.tablet l.slot)
 
 -- every active tablet of the namespace is fenced by the operation
 abbrev pub AllFenced : Id → Id → Parts → Type 0
@@ -109,16 +109,17 @@ NoneFenced operation ps = (slot : ℕ) → (ps.tablet slot).fence ≢ Some opera
 
 abbrev pub is_restore_of : Id → ℕ → Change → Bool
 is_restore_of ns point c = elim c.act [
-    NamespaceRestored namespace to ↦ same namespace ns && (c.stamp == point)
-    | NamespaceMade namespace name ↦ false
-    | NamespaceDropped namespace ↦ false
-    | TableMade table namespace name columns ↦ false
-    | TableRenamed table name ↦ false
-    | TableDropped table ↦ false
-    | ColumnAdded table column ↦ false
-    | ColumnDropped table column ↦ false
-    | RowChanged table key op ↦ false
-    | NamespaceCloned source target name to tables ↦ false ]
+  | NamespaceRestored namespace to ↦ same namespace ns && (c.stamp == point)
+  | NamespaceMade namespace name ↦ false
+  | NamespaceDropped namespace ↦ false
+  | TableMade table namespace name columns ↦ false
+  | TableRenamed table name ↦ false
+  | TableDropped table ↦ false
+  | ColumnAdded table column ↦ false
+  | ColumnDropped table column ↦ false
+  | RowChanged table key op ↦ false
+  | NamespaceCloned source target name to tables ↦ false
+]
 
 -- the changes before the restore of the namespace at the point; all where there is none
 abbrev pub before_restore : List Change → Id → ℕ → List Change → List Change
@@ -136,10 +137,11 @@ RestorationStateFacts Fencing r ps changes = (l : Listed) → In l r.listed → 
 RestorationStateFacts (Snapshotting point own) r ps changes = AllFenced r.id r.namespace ps
 RestorationStateFacts (Switching point serving) r ps changes = AllFenced r.id r.namespace ps
 RestorationStateFacts (Restoring point serving) r ps changes = (l : Listed) → In l r.listed → (ps.tablet l.slot).tablet ≡ l.tablet → record {
-    fenced : is_serving (ps.tablet l.slot).presence ≡ true → (ps.tablet l.slot).fence ≡ Some r.id;
-    restored : is_restore l.body ≡ true → is_done (ps.tablet l.slot).done r.id RestoreFromKind ≡ true
+  fenced : is_serving (ps.tablet l.slot).presence ≡ true → (ps.tablet l.slot).fence ≡ Some r.id;
+  restored : is_restore l.body ≡ true → is_done (ps.tablet l.slot).done r.id RestoreFromKind ≡ true
       → ((ps.tablet l.slot).cutoff ≡ point)
-        × AreRowsAt (ps.tablet l.slot).versions (ps.tablet l.slot).low (ps.tablet l.slot).high point changes r.to (ps.tablet l.slot).table }
+      × AreRowsAt (ps.tablet l.slot).versions (ps.tablet l.slot).low (ps.tablet l.slot).high point changes r.to (ps.tablet l.slot).table;
+}
 RestorationStateFacts (Releasing point serving) r ps changes = (l : Listed) → In l r.listed → l.acked ≡ true → (ps.tablet l.slot).fence ≢ Some r.id
 RestorationStateFacts (Restored point serving) r ps changes = NoneFenced r.id ps
 
@@ -148,15 +150,15 @@ CloneStateFacts Accepted c ps changes = Unit {0}
 CloneStateFacts (CloneSnapshot own) c ps changes = Unit {0}
 CloneStateFacts (Copying serving copied_at) c ps changes = (l : Listed) (p : TabletPair) → In l c.listed → In p c.tablets → p.target ≡ l.tablet → l.acked ≡ true
     → ((ps.tablet l.slot).fence ≡ Some c.id)
-      × AreRowsAt (ps.tablet l.slot).versions p.low p.high copied_at changes c.to (ps.tablet p.source_slot).table
+    × AreRowsAt (ps.tablet l.slot).versions p.low p.high copied_at changes c.to (ps.tablet p.source_slot).table
 CloneStateFacts (CloneReleasing serving copied_at) c ps changes = Unit {0}
 CloneStateFacts (CloneComplete serving copied_at) c ps changes = NoneFenced c.id ps
 
 -- a fence names an unfinished operation that holds the tablet's namespace, or made the tablet
 pub record FenceFacts (ps : Parts) (slot : ℕ) (operation : Id) : Type 0 where
   pub by :
-    ((r : RestorationRecord) × (In r ps.master.restorations × ((r.id ≡ operation) × (is_restored r.state ≡ false) × (owns ps.master.catalog.owners r.namespace (ps.tablet slot).table ≡ true))))
-    ⊎ ((c : CloneRecord) × (In c ps.master.clones × ((c.id ≡ operation) × (is_cloned c.state ≡ false) × (owns ps.master.catalog.owners c.target_id (ps.tablet slot).table ≡ true))))
+      ((r : RestorationRecord) × (In r ps.master.restorations × ((r.id ≡ operation) × (is_restored r.state ≡ false) × (owns ps.master.catalog.owners r.namespace (ps.tablet slot).table ≡ true))))
+      ⊎ ((c : CloneRecord) × (In c ps.master.clones × ((c.id ≡ operation) × (is_cloned c.state ≡ false) × (owns ps.master.catalog.owners c.target_id (ps.tablet slot).table ≡ true))))
 
 abbrev pub NoneTwice : List Command → Type 0
 NoneTwice [] = Unit {0}

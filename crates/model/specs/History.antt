@@ -1,0 +1,227 @@
+-- Histories, the newest entry first: what they leave, which are legal, the journal of their changes, and which are right.
+use Rattle.std.specs.Prelude.{◌≡◌, ℕ, ◌≤◌, ◌<◌, Bool, true, false, List, [], ◌∷◌, Option, Some, None, ◌==◌, ◌&&◌, ◌+◌, ◌-◌, not, length, unwrap_or, if◌then◌else◌}
+use Rattle.row_values.specs.declared.value.Item.{Item}
+use Rattle.model.specs.Ids.{Id, has}
+use Rattle.model.specs.Times.{end_of_time, time_of}
+use Rattle.model.specs.Schema.{Column, column_named, numbered}
+use Rattle.model.specs.Catalog.{TableRecord, namespace_named}
+use Rattle.model.specs.Activity.{Interval}
+use Rattle.model.specs.Tablets.{act_for, effect}
+use Rattle.model.specs.Records.{Schedule, RestorationRecord, RestorationState, Switching, CloneRecord, CloneState, Copying, schedule_with, schedule_of}
+use Rattle.model.specs.Acts.{Command, CreateNamespace, DropNamespace, CreateTable, AddColumn, DropColumn, RenameTable, DropTable, Restore, CloneNamespace, Ask, AskPlan, AskKeys, AskTable, AskWork, AskRemovable, AskPresent, Act, Look, Change, Write, Read, Cutoff, Compact, Send, Process, Ack, Advance, Remove, Prune, Restart, Stats, Event, TooEarly, Future, SlotsFull, Reply, Ok, Work, Removable, Rows, Advanced, Refused}
+use Rattle.model.specs.Parts.{Master, Parts, start, MasterAct, Ticks, Changes, Sends, Acks, Unsends, Moves, Removes, Prunes, Restarts, Outcome, answered}
+use Rattle.model.specs.Schedules.{low, InWindow}
+use Rattle.model.specs.Operations.{user}
+use Rattle.model.specs.Looks.{look_plan, look_keys, look_table, look_present, table_of, known}
+use Rattle.model.specs.Changes.{change}
+use Rattle.model.specs.Changed.{changed}
+use Rattle.model.specs.RowActs.{write, read, cutoff, compact, stats, restart}
+use Rattle.model.specs.Coordination.{unfinished_restoration, unfinished_clone, send, process, ack, sent_to, acked, unsent_by, restarted_master}
+use Rattle.model.specs.Moves.{advance, moved}
+use Rattle.model.specs.Work.{next_work}
+use Rattle.model.specs.Cleanup.{remove, prune, removable, removed, pruned}
+use Rattle.model.specs.Journal as made
+use Rattle.model.specs.Journal.{TableMade}
+use Rattle.model.specs.Entries.{Entry, slots_of, log_of, stamp_of, Asked}
+use Rattle.model.specs.Right.{RowsRight, LookReplyRight, NothingLate}
+
+-- What a history leaves
+
+abbrev pub look : Ask → ℕ → Master → Outcome
+look (AskPlan command) n m = look_plan command m
+look (AskKeys namespace table batch at) n m = look_keys namespace table batch at n m
+look (AskTable namespace table at) n m = look_table namespace table at n m
+look AskWork n m = answered (Work (next_work m))
+look AskRemovable n m = answered (Removable (removable m n))
+look AskPresent n m = look_present m
+
+-- what an act does at a stamp: what the touched parts are told, and the reply
+abbrev pub outcome : Act → ℕ → Parts → Outcome
+outcome (Look ask) n ps = look ask n ps.master
+outcome (Change command slots) n ps = change command slots n ps
+outcome (Write place version batch) n ps = write place version batch n ps
+outcome (Read places version key at columns) n ps = read places version key at columns n ps
+outcome (Cutoff slot) n ps = cutoff slot n ps
+outcome (Compact slot) n ps = compact slot n ps
+outcome (Send operation slot) n ps = send operation slot n ps
+outcome (Process slot other) n ps = process slot other n ps
+outcome (Ack operation slot) n ps = ack operation slot n ps
+outcome (Advance operation) n ps = advance operation n ps
+outcome (Remove target slots) n ps = remove target slots n ps
+outcome Prune n ps = prune n ps
+outcome (Restart slot) n ps = restart slot n ps
+outcome (Stats slot) n ps = stats slot n ps
+
+-- the master after what it is told at a stamp
+abbrev pub master_effect : MasterAct → ℕ → Master → Master
+master_effect Ticks n m = record m { clock = n }
+master_effect (Changes command slots) n m = changed command slots n m
+master_effect (Sends operation slot) n m = sent_to operation slot n m
+master_effect (Acks operation slot) n m = acked operation slot n m
+master_effect (Unsends operation slot) n m = unsent_by operation slot n m
+master_effect (Moves operation) n m = moved operation n m
+master_effect (Removes target) n m = removed target n m
+master_effect Prunes n m = pruned n m
+master_effect Restarts n m = restarted_master n m
+
+-- the parts after an outcome: each touched one does what it is told
+abbrev pub told : Act → Outcome → ℕ → Parts → Parts
+told act o n ps = record {
+  master = if has (slots_of act) 0 then master_effect o.master n ps.master else ps.master;
+  tablet = λ i. if has (slots_of act) i && not (i == 0) then effect (act_for o.tablets i) n (ps.tablet i) else ps.tablet i;
+}
+
+-- the parts that an entry leaves
+abbrev pub next : Entry → Parts → Parts
+next e ps = told e.event.act (outcome e.event.act e.stamp ps) e.stamp ps
+
+-- the parts that a history leaves, from the empty cluster
+unfoldable pub replay : ℕ → List Entry → Parts
+replay slots [] = start slots
+replay slots (e ∷ earlier) = next e (replay slots earlier)
+
+-- Legal histories
+
+-- how many entries the log of a slot holds
+abbrev pub held : ℕ → List Entry → ℕ
+held slot [] = 0
+held slot (e ∷ earlier) = if log_of e.event.act == slot then 1 + held slot earlier else held slot earlier
+
+abbrev pub most_entries : ℕ
+most_entries = 1000000
+
+-- the entry is the one that the parts before it give for its event
+pub record IsStep (slots : ℕ) (e : Entry) (earlier : List Entry) : Type 0 where
+  pub asked : Asked slots e.event
+  pub number : e.number ≡ length earlier + 1
+  pub stamp : e.stamp ≡ stamp_of e.event (replay slots earlier)
+  pub before_end : e.stamp < end_of_time
+  pub room : held (log_of e.event.act) earlier < most_entries
+  pub reply : e.reply ≡ (outcome e.event.act e.stamp (replay slots earlier)).reply
+
+-- each entry is the one that the entries before it give
+abbrev pub Legal : ℕ → List Entry → Type 0
+Legal slots [] = Unit {0}
+Legal slots (e ∷ earlier) = Legal slots earlier × IsStep slots e earlier
+
+-- the entry that an event makes after a history
+unfoldable pub entry_of : ℕ → Event → List Entry → Entry
+entry_of slots event earlier = let n = stamp_of event (replay slots earlier) in record {
+  number = length earlier + 1;
+  event = event;
+  stamp = n;
+  reply = (outcome event.act n (replay slots earlier)).reply;
+}
+
+-- The journal of a history
+
+abbrev pub rows_made : ℕ → Id → List Item → List made.Change → List made.Change
+rows_made n table [] earlier = earlier
+rows_made n table (item ∷ items) earlier = rows_made n table items (record { stamp = n; act = made.RowChanged table item.key item.op } ∷ earlier)
+
+-- a change in front of the earlier ones
+abbrev pub with : ℕ → made.ChangeAct → List made.Change → List made.Change
+with n act earlier = record { stamp = n; act = act } ∷ earlier
+
+-- a change of the table that a command names
+abbrev pub with_table : Option TableRecord → (TableRecord → made.ChangeAct) → ℕ → List made.Change → List made.Change
+with_table None act n earlier = earlier
+with_table (Some t) act n earlier = with n (act t) earlier
+
+abbrev pub id_of_column : Option Column → ℕ
+id_of_column None = 0
+id_of_column (Some column) = column.id
+
+-- the one change of an accepted command; the identifiers are those that it made
+abbrev pub with_command : Command → List Id → ℕ → Master → List made.Change → List made.Change
+with_command (CreateNamespace name) (id ∷ ids) n m earlier = with n (made.NamespaceMade id name) earlier
+with_command (DropNamespace name) ids n m earlier = with n (made.NamespaceDropped (known (namespace_named m.catalog.namespaces name))) earlier
+with_command (CreateTable namespace table tablets columns) (id ∷ ids) n m earlier =
+    with n (made.TableMade id (known (namespace_named m.catalog.namespaces namespace)) table (numbered 1 columns)) earlier
+with_command (AddColumn namespace table name kind) ids n m earlier =
+    with_table (table_of m namespace table) (λ t. made.ColumnAdded t.id (record { id = t.schema.next; name = name; kind = kind })) n earlier
+with_command (DropColumn namespace table name) ids n m earlier =
+    with_table (table_of m namespace table) (λ t. made.ColumnDropped t.id (id_of_column (column_named t.schema.columns name))) n earlier
+with_command (RenameTable namespace table name) ids n m earlier = with_table (table_of m namespace table) (λ t. made.TableRenamed t.id name) n earlier
+with_command (DropTable namespace table) ids n m earlier = with_table (table_of m namespace table) (λ t. made.TableDropped t.id) n earlier
+with_command _ ids n m earlier = earlier
+
+-- the restore of a restoration that leaves its state of switching, stamped at its point
+abbrev pub with_restoration : RestorationState → RestorationRecord → List made.Change → List made.Change
+with_restoration (Switching point serving) r earlier = with point (made.NamespaceRestored r.namespace r.to) earlier
+with_restoration _ r earlier = earlier
+
+-- the clone whose target becomes current
+abbrev pub with_clone : CloneState → CloneRecord → ℕ → List made.Change → List made.Change
+with_clone (Copying serving copied_at) c n earlier = with n (made.NamespaceCloned c.source c.target_id c.target c.to c.tables) earlier
+with_clone _ c n earlier = earlier
+
+abbrev pub with_either : Option RestorationRecord → Option CloneRecord → ℕ → List made.Change → List made.Change
+with_either (Some r) clone n earlier = with_restoration r.state r earlier
+with_either None (Some c) n earlier = with_clone c.state c n earlier
+with_either None None n earlier = earlier
+
+-- the changes of an entry in front of the earlier ones; an entry that was refused has none
+abbrev pub with_changes : Act → Reply → ℕ → Parts → List made.Change → List made.Change
+with_changes (Change command slots) (Ok ids) n ps earlier = with_command command ids n ps.master earlier
+with_changes (Write place version batch) (Ok ids) n ps earlier = rows_made n (ps.tablet place.slot).table batch earlier
+with_changes (Advance operation) (Advanced state) n ps earlier = with_either (unfinished_restoration ps.master.restorations operation) (unfinished_clone ps.master.clones operation) n earlier
+with_changes _ _ n ps earlier = earlier
+
+-- the changes that a history made, the newest first
+unfoldable pub journal_of : ℕ → List Entry → List made.Change
+journal_of slots [] = []
+journal_of slots (e ∷ earlier) = with_changes e.event.act e.reply e.stamp (replay slots earlier) (journal_of slots earlier)
+
+-- Activity of all tablets that ever were
+
+abbrev pub is_removal : MasterAct → Bool
+is_removal (Removes target) = true
+is_removal Ticks = false
+is_removal (Changes command slots) = false
+is_removal (Sends operation slot) = false
+is_removal (Acks operation slot) = false
+is_removal (Unsends operation slot) = false
+is_removal (Moves operation) = false
+is_removal Prunes = false
+is_removal Restarts = false
+
+-- as the master keeps it, but that no removal forgets
+unfoldable pub activity_of : ℕ → List Entry → List Interval
+activity_of slots [] = []
+activity_of slots (e ∷ earlier) =
+    let ps = replay slots earlier in
+    let o = outcome e.event.act e.stamp ps in
+    if has (slots_of e.event.act) 0 && not (is_removal o.master)
+    then (master_effect o.master e.stamp (record ps.master { activity = activity_of slots earlier })).activity
+    else activity_of slots earlier
+
+-- Right histories
+
+-- a restore or a clone of a namespace that no operation uses is refused exactly outside the window
+abbrev pub WindowRight : Reply → Schedule → ℕ → ℕ → Type 0
+WindowRight (Refused (TooEarly from)) s n to = (from ≡ low s n) × (to < from)
+WindowRight (Refused (Future now)) s n to = (now ≡ n) × ((low s n ≤ to) × (n ≤ to))
+WindowRight (Refused (SlotsFull free needed)) s n to = InWindow s n to
+WindowRight (Ok ids) s n to = InWindow s n to
+WindowRight _ s n to = Unit {0}
+
+abbrev pub WindowRightOf : Option Schedule → Reply → Master → ℕ → ℕ → Type 0
+WindowRightOf None reply m n to = Unit {0}
+WindowRightOf (Some s) reply m n to = user m s.namespace ≡ None → WindowRight reply s n to
+
+-- the reply of an entry is right, against the journal of the entries before it
+abbrev pub ReplyRight : Act → Reply → ℕ → Parts → List made.Change → Type 0
+ReplyRight (Look (AskKeys namespace table batch at)) reply n ps changes = LookReplyRight reply changes (time_of at n) n namespace table batch
+ReplyRight (Look (AskTable namespace table at)) reply n ps changes = LookReplyRight reply changes (time_of at n) n namespace table []
+ReplyRight (Read places version key at columns) (Rows rows) n ps changes = RowsRight changes (time_of at n) key columns ps.tablet places rows
+ReplyRight (Change (Restore schedule to) slots) reply n ps changes = WindowRightOf (schedule_with ps.master.schedules schedule) reply ps.master n to
+ReplyRight (Change (CloneNamespace source target to) slots) reply n ps changes =
+    WindowRightOf (schedule_of ps.master.schedules (known (namespace_named ps.master.catalog.namespaces source))) reply ps.master n (unwrap_or to (n - 1))
+ReplyRight _ reply n ps changes = Unit {0}
+
+-- each reply is that of one list of stamped changes, and no change comes too late for a restore or a clone
+abbrev pub Right : ℕ → List Entry → Type 0
+Right slots [] = Unit {0}
+Right slots (e ∷ earlier) = Right slots earlier
+    × (ReplyRight e.event.act e.reply e.stamp (replay slots earlier) (journal_of slots earlier) × NothingLate (journal_of slots (e ∷ earlier)))

@@ -87,9 +87,9 @@ if_current rs None = None
 if_current rs (Some t) = if is_some (current_table rs t.id) then Some t else None
 
 -- the current table of a name; where a time is asked, the table that had the name then, if it is current
-abbrev pub table_at : List TableRecord → Id → List ℕ → Option ℕ → Option TableRecord
-table_at rs ns name None = current_named rs ns name
-table_at rs ns name (Some x) = if_current rs (table_named rs ns name x)
+abbrev pub table_asked : List TableRecord → Id → List ℕ → Option ℕ → Option TableRecord
+table_asked rs ns name None = current_named rs ns name
+table_asked rs ns name (Some x) = if_current rs (table_named rs ns name x)
 
 abbrev pub no_table : TableRecord
 no_table = record { id = no_id; namespace = no_id; name = []; schema = first_schema []; from = 0; to = None }
@@ -143,7 +143,7 @@ unfoldable pub look_keys : List ℕ → List ℕ → List NamedItem → Option �
 look_keys namespace table batch at n m =
     let ns = namespace_named m.catalog.namespaces namespace in
     let from = kept_from m.catalog.kept_from (known ns) in
-    let found = table_at m.catalog.tables (known ns) table at in
+    let found = table_asked m.catalog.tables (known ns) table at in
     let t = the_table found in
     let fault = batch_fault t.schema.columns batch in
     let home = holding m t.id (first_code batch) in
@@ -163,7 +163,7 @@ unfoldable pub look_table : List ℕ → List ℕ → Option ℕ → ℕ → Mas
 look_table namespace table at n m =
     let ns = namespace_named m.catalog.namespaces namespace in
     let from = kept_from m.catalog.kept_from (known ns) in
-    let found = table_at m.catalog.tables (known ns) table at in
+    let found = table_asked m.catalog.tables (known ns) table at in
     let t = the_table found in
     judged
     (If (is_none ns) UnknownNamespace

@@ -26,14 +26,18 @@ first_of_two None later = later
 first_of_two (Some x) later = Some x
 
 -- the point of a restoration that still has rows to give to a tablet: it lists it for them, and they aren't taken yet
-abbrev pub awaited_of : RestorationState → RestorationRecord → Tablet → Option ℕ
-awaited_of (Restoring point serving) r t =
-    if list_any (λ l. same l.tablet t.tablet && is_restore l.body) r.listed && not (is_done t.done r.id RestoreFromKind) then Some point else None
-awaited_of _ r t = None
+abbrev pub awaited_of : RestorationState → RestorationRecord → Id → List Mark → Option ℕ
+awaited_of (Restoring point serving) r tablet done =
+    if list_any (λ l. same l.tablet tablet && is_restore l.body) r.listed && not (is_done done r.id RestoreFromKind) then Some point else None
+awaited_of _ r tablet done = None
 
-abbrev pub awaited_in : List RestorationRecord → Tablet → Option ℕ
-awaited_in [] t = None
-awaited_in (r ∷ rs) t = first_of_two (awaited_of r.state r t) (awaited_in rs t)
+abbrev pub awaited_in : List RestorationRecord → Id → List Mark → Option ℕ
+awaited_in [] tablet done = None
+awaited_in (r ∷ rs) tablet done = first_of_two (awaited_of r.state r tablet done) (awaited_in rs tablet done)
+
+-- the point of the rows that a tablet awaits
+abbrev pub awaited : Parts → Tablet → Option ℕ
+awaited ps t = awaited_in ps.master.restorations t.tablet t.done
 
 -- the last interval of a tablet, without one that begins at the point of the rows that it awaits
 abbrev pub counted : Option ℕ → List Interval → List Interval
@@ -48,10 +52,10 @@ before_point x (Some point) = nat_lt x point
 -- the reads of a tablet's live store, from its cutoff on and before the end of its last activity, are those of the view
 pub record LiveStands (ps : Parts) (changes : List Change) (slot : ℕ) : Type 0 where
   pub reads : (i : Interval) (key : List ℕ) (x : ℕ)
-      → last_of (counted (awaited_in ps.master.restorations (ps.tablet slot)) ps.master.activity) (ps.tablet slot).tablet ≡ Some i
+      → last_of (counted (awaited ps (ps.tablet slot)) ps.master.activity) (ps.tablet slot).tablet ≡ Some i
       → in_range (ps.tablet slot).low (ps.tablet slot).high (code_of key) ≡ true
       → (ps.tablet slot).cutoff ≤ x → x ≤ (ps.tablet slot).clock → before_end x i.to ≡ true
-      → before_point x (awaited_in ps.master.restorations (ps.tablet slot)) ≡ true
+      → before_point x (awaited ps (ps.tablet slot)) ≡ true
       → is_some (table_at changes x (ps.tablet slot).table) ≡ true
       → read_of (ps.tablet slot).versions key x ≡ row_at changes x (ps.tablet slot).table key
 

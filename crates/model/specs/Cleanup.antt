@@ -10,9 +10,10 @@ use Rattle.model.specs.Activity.{Interval, last_of, forget}
 use Rattle.model.specs.Tablets.{Tablet as TabletPart, Presence, Vacant, InService, OutOfService, Empty, Clear, DropFrozen, standing, is_hidden}
 use Rattle.model.specs.Records.{Listed, SnapshotRecord, RestorationRecord, CloneRecord, named_by_restoration, named_by_clone, is_restored, is_cloned, lists_tablet, schedule_of, snapshot_with}
 use Rattle.model.specs.Acts.{Refusal, UnknownSnapshot, Moved, StalePlan, InWindow, IsListed, Removal, Removed, Pruned}
-use Rattle.model.specs.Parts.{Master, Parts, Outcome, Check, If, Removes, Prunes, judged, refused}
+use Rattle.model.specs.Parts.{Master, Parts, Outcome, If, Removes, Prunes, judged, refused}
 use Rattle.model.specs.Schedules.{floor, history_retention}
 use Rattle.model.specs.Operations.{time_of_user}
+use Rattle.model.specs.Looks.{names}
 
 -- the floor of a namespace at a stamp
 abbrev pub floor_of : Master → Id → ℕ → ℕ
@@ -59,10 +60,6 @@ naming_clone (r ∷ rs) snapshot = if not (is_cloned r.state) && is_this snapsho
 abbrev pub lister_of_snapshot : Master → SnapshotRecord → Option Id
 lister_of_snapshot m r = option_or (if r.complete then None else Some r.id) (option_or (naming_restoration m.restorations r.id) (naming_clone m.clones r.id))
 
-abbrev pub unless_listed : Option Id → List Check
-unless_listed None = []
-unless_listed (Some by) = If true (IsListed by) ∷ []
-
 -- a tablet is present as long as the master keeps an interval of it
 abbrev pub is_present : Master → Id → Bool
 is_present m tablet = is_some (last_of m.activity tablet)
@@ -88,7 +85,7 @@ is_hidden_as tablet t = is_hidden t.presence && same t.tablet tablet
 abbrev pub removing_unknown : List ℕ → Refusal → Outcome
 removing_unknown slots why = judged (If (not (same_slots slots [])) (StalePlan []) ∷ []) (refused why)
 
--- a hidden tablet is removed at or above the end of its last activity, and its part becomes empty
+-- a tablet goes that was hidden at or before the floor; its part becomes empty
 abbrev pub removing_tablet : Option Interval → Id → List ℕ → ℕ → Parts → Outcome
 removing_tablet None target slots n ps = removing_unknown slots (Moved 0 Empty)
 removing_tablet (Some i) target slots n ps =
@@ -98,10 +95,11 @@ removing_tablet (Some i) target slots n ps =
     (If (not (same_slots slots (i.slot ∷ []))) (StalePlan (i.slot ∷ []))
     ∷ If (not (is_hidden_as target t)) (Moved i.slot (standing t))
     ∷ If (nat_lt floor (hidden_at t.presence)) (InWindow (hidden_at t.presence) floor)
-    ∷ unless_listed (lister_of_tablet ps.master target))
+    ∷ names (lister_of_tablet ps.master target) IsListed
+    ∷ [])
     (record { master = Removes target; tablets = record { slot = i.slot; act = Clear } ∷ []; reply = Removed })
 
--- a snapshot is removed above its time, and the frozen sets go
+-- a snapshot goes whose time is below the floor; the tablets drop their frozen sets of it
 abbrev pub removing_snapshot : Option SnapshotRecord → Id → List ℕ → ℕ → Parts → Outcome
 removing_snapshot None target slots n ps = removing_unknown slots UnknownSnapshot
 removing_snapshot (Some r) target slots n ps =
@@ -110,7 +108,8 @@ removing_snapshot (Some r) target slots n ps =
     judged
     (If (not (same_slots slots plan)) (StalePlan plan)
     ∷ If (nat_le floor r.at) (InWindow r.at floor)
-    ∷ unless_listed (lister_of_snapshot ps.master r))
+    ∷ names (lister_of_snapshot ps.master r) IsListed
+    ∷ [])
     (record { master = Removes target; tablets = map (λ slot. record { slot = slot; act = DropFrozen target }) plan; reply = Removed })
 
 abbrev pub removing : Kind → Id → List ℕ → ℕ → Parts → Outcome

@@ -11,7 +11,7 @@ use Rattle.model.specs.Catalog.{owns}
 use Rattle.model.specs.Activity.{Interval, active_at, last_of}
 use Rattle.row_values.specs.declared.value.RowOp.{RowOp}
 use Rattle.model.specs.Journal.{Change, NamespaceMade, NamespaceDropped, TableMade, TableRenamed, TableDropped, ColumnAdded, ColumnDropped, RowChanged, NamespaceRestored, NamespaceCloned, table_at, row_at}
-use Rattle.model.specs.Tablets.{Tablet, Body, RestoreFrom, FreezeKind, RestoreFromKind, kind_of, Command, FrozenSet, is_vacant, is_serving, is_done, holds_command, set_of}
+use Rattle.model.specs.Tablets.{Tablet, Body, RestoreFrom, FreezeKind, RestoreFromKind, kind_of, Command, Mark, FrozenSet, is_vacant, is_serving, is_done, holds_command, set_of}
 use Rattle.model.specs.Records.{Listed, SnapshotRecord, RestorationRecord, RestorationState, Fencing, Snapshotting, Switching, Restoring, Releasing, Restored, CloneRecord, CloneState, Accepted, CloneSnapshot, Copying, CloneReleasing, CloneComplete, is_restored, is_cloned, point_of, TabletPair}
 use Rattle.model.specs.Parts.{Parts}
 

@@ -1,0 +1,2 @@
+//! Laws of a store.
+#![tactic(auto)]

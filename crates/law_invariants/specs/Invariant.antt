@@ -2,7 +2,7 @@
 use Rattle.std.specs.Prelude.{◌≡◌, ℕ, ◌≤◌, ◌<◌, ◌+◌, Bool, true, false, List, [], ◌∷◌, Option, Some, None, ◌&&◌, if◌then◌else◌, option_map}
 use Rattle.std.specs.Option.{is_some}
 use Rattle.row_values.specs.Codes.{code_of}
-use Rattle.model.specs.Ids.{Id, Kind, Namespace, Table, Tablet as TabletKind, same, In}
+use Rattle.model.specs.Ids.{Id, Kind, Namespace, Table, Tablet as TabletKind, same, In, has}
 use Rattle.model.specs.Times.{holds_at, is_open, before_end}
 use Rattle.model.specs.Store.{Version, Below, in_range, read_of}
 use Rattle.model.specs.Catalog.{Catalog, NamespaceRecord, TableRecord, namespace_named, name_of, table_named, owner_of, kept_from}
@@ -11,7 +11,9 @@ use Rattle.model.specs.Restored.{record_at}
 use Rattle.model.specs.Journal.{Change, TableView, namespace_at, table_at, row_at}
 use Rattle.model.specs.Tablets.{Tablet, is_vacant, is_serving}
 use Rattle.model.specs.Stands.{awaited_in, before_point, holders}
-use Rattle.model.specs.Records.{RestorationRecord}
+use Rattle.model.specs.Records.{Schedule}
+use Rattle.model.specs.Schedules.{complete_to}
+use Rattle.model.specs.Entries.{clock_at}
 use Rattle.model.specs.Acts.{Act, Reply}
 use Rattle.model.specs.Right.{is_fixed, NothingLate}
 use Rattle.model.specs.History.{ReplyRight, with_changes}
@@ -79,57 +81,68 @@ StandsIn t changes i = (key : List ℕ) (x : ℕ) → in_range i.low i.high (cod
     → read_of t.versions key x ≡ row_at changes x i.table key
 
 -- an interval of a tablet: its slot's part holds the tablet, and unless rows are yet to be restored, it stands for the journal
-pub record IsGood (ps : Parts) (changes : List Change) (i : Interval) : Type 0 where
-  pub past : IsPast ps.master.clock i.from i.to
-  pub drawn : i.tablet.number ≤ ps.master.drawn.tablets
-  pub drawn_table : i.table.number ≤ ps.master.drawn.tables
+pub record IsGood (m : Master) (changes : List Change) (t : Tablet) (i : Interval) : Type 0 where
+  pub past : IsPast m.clock i.from i.to
+  pub drawn : i.tablet.number ≤ m.drawn.tablets
+  pub drawn_table : i.table.number ≤ m.drawn.tables
   pub slot_from : 1 ≤ i.slot
-  pub slot_to : i.slot ≤ ps.master.slots
-  pub present : is_vacant (ps.tablet i.slot).presence ≡ false
-  pub tablet_is : (ps.tablet i.slot).tablet ≡ i.tablet
-  pub table_is : (ps.tablet i.slot).table ≡ i.table
-  pub low_is : (ps.tablet i.slot).low ≡ i.low
-  pub high_is : (ps.tablet i.slot).high ≡ i.high
+  pub slot_to : i.slot ≤ m.slots
+  pub present : is_vacant t.presence ≡ false
+  pub tablet_is : t.tablet ≡ i.tablet
+  pub table_is : t.table ≡ i.table
+  pub low_is : t.low ≡ i.low
+  pub high_is : t.high ≡ i.high
   -- while the tablet is active, the view has its table
   pub viewed : (x : ℕ) → active_at x i ≡ true → is_some (table_at changes x i.table) ≡ true
-  pub stands : awaited_in ps.master.restorations (ps.tablet i.slot) ≡ None → StandsIn (ps.tablet i.slot) changes i
+  pub stands : awaited_in m.restorations t ≡ None → StandsIn t changes i
 
--- a tablet that takes writes has an open interval that began by its clock
-pub record IsOpen (activity : List Interval) (restorations : List RestorationRecord) (slot : ℕ) (t : Tablet) : Type 0 where
+-- a tablet that takes writes has an open interval that began by its clock, and its rows are taken
+pub record IsOpen (m : Master) (slot : ℕ) (t : Tablet) : Type 0 where
   pub interval : Interval
-  pub listed : In interval activity
+  pub listed : In interval m.activity
   pub slot_is : interval.slot ≡ slot
   pub opened : interval.to ≡ None
   pub begun : interval.from ≤ t.clock
-  -- its rows are taken
-  pub settled : awaited_in restorations t ≡ None
+  pub settled : awaited_in m.restorations t ≡ None
+
+-- what holds of a slot and the part in it
+pub record SlotGood (m : Master) (changes : List Change) (slot : ℕ) (t : Tablet) : Type 0 where
+  pub good : TabletGood t
+  pub each : (i : Interval) → In i m.activity → i.slot ≡ slot → IsGood m changes t i
+  pub opens : is_serving t.presence ≡ true → t.fence ≡ None → IsOpen m slot t
+  -- a time to which its namespace was taken back, or cloned, is over for it: it stamps only later changes
+  pub later : (ns : Id) (to : ℕ) → is_fixed changes ns to ≡ true → is_serving t.presence ≡ true → t.fence ≡ None
+      → owner_of m.catalog.owners t.table ≡ Some ns → to ≤ t.clock
 
 -- the tablets' ranges cover the codes of each table that the view has, and no code twice
 pub record Covered (activity : List Interval) (changes : List Change) : Type 0 where
   pub once : (table : Id) (code x : ℕ) → code < 65536 → holders activity table code x ≤ 1
   pub whole : (table : Id) (code x : ℕ) → code < 65536 → is_some (table_at changes x table) ≡ true → holders activity table code x ≡ 1
 
--- a time to which a namespace was taken back, or cloned, is over for it: its tablets and the master stamp only later changes
-pub record FixedFacts (ps : Parts) (ns : Id) (to : ℕ) : Type 0 where
-  pub past : to ≤ ps.master.clock
-  pub later : (slot : ℕ) → is_serving (ps.tablet slot).presence ≡ true → (ps.tablet slot).fence ≡ None
-      → owner_of ps.master.catalog.owners (ps.tablet slot).table ≡ Some ns → to ≤ (ps.tablet slot).clock
+-- what holds of the master
+pub record MasterGood (m : Master) (changes : List Change) : Type 0 where
+  pub namespaces : NamespacesStand m.catalog.namespaces m.clock m.drawn.namespaces changes
+  pub tables : TablesStand m.catalog m.clock m.drawn.tables changes
+  pub cover : Covered m.activity changes
+  -- a time to which a namespace was taken back, or cloned, is over for the master
+  pub past : (ns : Id) (to : ℕ) → is_fixed changes ns to ≡ true → to ≤ m.clock
+  -- the last complete snapshot of a schedule is over
+  pub complete : (s : Schedule) → In s m.schedules → complete_to s.complete s + 1 ≤ m.clock
 
 -- what holds after each entry
 pub record Inv (ps : Parts) (changes : List Change) : Type 0 where
-  pub namespaces : NamespacesStand ps.master.catalog.namespaces ps.master.clock ps.master.drawn.namespaces changes
-  pub tables : TablesStand ps.master.catalog ps.master.clock ps.master.drawn.tables changes
-  pub tablets : (slot : ℕ) → TabletGood (ps.tablet slot)
-  pub each : (i : Interval) → In i ps.master.activity → IsGood ps changes i
-  pub opens : (slot : ℕ) → is_serving (ps.tablet slot).presence ≡ true → (ps.tablet slot).fence ≡ None → IsOpen ps.master.activity ps.master.restorations slot (ps.tablet slot)
-  pub cover : Covered ps.master.activity changes
-  pub fixed : (ns : Id) (to : ℕ) → is_fixed changes ns to ≡ true → FixedFacts ps ns to
+  pub master : MasterGood ps.master changes
+  pub slots : (slot : ℕ) → SlotGood ps.master changes slot (ps.tablet slot)
   pub late : NothingLate changes
 
 -- an act keeps what holds, and its reply is right
 pub record Keeps (act : Act) (reply : Reply) (n : ℕ) (before after : Parts) (changes : List Change) : Type 0 where
   pub right : ReplyRight act reply n before changes
   pub inv : Inv after (with_changes act reply n before changes)
+
+-- the clocks of the slots that an act names are below its stamp
+abbrev pub Later : List ℕ → Parts → ℕ → Type 0
+Later slots ps n = (slot : ℕ) → has slots slot ≡ true → clock_at ps slot < n
 
 -- none of the refusals comes
 abbrev pub Passes : List Check → Type 0

@@ -1,0 +1,80 @@
+-- Clocks that rise to a stamp keep what holds; and an act keeps it where each of its refusals, or else its outcome, does.
+use Rattle.std.proofs.Common.{ℕ, ◌≡◌, ◌≤◌, ◌<◌, ◌+◌, max, List, [], ◌∷◌, Option, Some, None, Bool, true, false, cond, ◌&&◌, refl, sym, ap, subst, ◌∙◌, arith, not, le_trans, le_refl, le_of_lt, leb, eqb, eqb-true, leb-true}
+use Rattle.std.proofs.lemmas.Bool.{cond_both}
+use Rattle.model.specs.Ids.{Id, In, has}
+use Rattle.model.specs.Store.{Version, Below}
+use Rattle.model.specs.Catalog.{Catalog, NamespaceRecord, TableRecord}
+use Rattle.model.specs.Activity.{Interval}
+use Rattle.model.specs.Journal.{Change}
+use Rattle.model.specs.Tablets.{Tablet, act_for, effect, Clock, Told}
+use Rattle.model.specs.Acts.{Act, Reply, Refused, Refusal}
+use Rattle.model.specs.Parts.{Master, Parts, Check, If, Outcome, judged, refused, answered, Ticks}
+use Rattle.model.specs.Entries.{slots_of, clock_at}
+use Rattle.model.specs.History.{told, outcome, with_changes, ReplyRight}
+use Rattle.law_invariants.specs.Invariant.{EndsBy, IsPast, NamespacesStand, TablesStand, TabletGood, IsGood, IsOpen, SlotGood, MasterGood, Inv, Keeps, Later, Passes}
+
+pub ends_later : (to : Option ℕ) (from m n : ℕ) → m ≤ n → EndsBy m from to → EndsBy n from to
+ends_later None from m n le h = tt
+ends_later (Some to) from m n le h = (h.0, le_trans h.1 le)
+
+pub past_later : (from m n : ℕ) (to : Option ℕ) → m ≤ n → IsPast m from to → IsPast n from to
+past_later from m n to le h = record { begun = le_trans h.begun le; ended = ends_later to from m n le h.ended }
+
+pub below_later : (vs : List Version) (m n : ℕ) → m ≤ n → Below m vs → Below n vs
+below_later [] m n le h = tt
+below_later (v ∷ vs) m n le h = (omega (arith, h.0), below_later vs m n le h.1)
+
+pub namespaces_later : (rs : List NamespaceRecord) (m n drawn : ℕ) (changes : List Change) → m ≤ n → NamespacesStand rs m drawn changes → NamespacesStand rs n drawn changes
+namespaces_later rs m n drawn changes le h = record {
+    past = λ r isin. past_later r.from m n r.to le (h.past r isin);
+    drawn_before = h.drawn_before;
+    unique = h.unique;
+    found = h.found;
+    viewed = λ id x after. h.viewed id x (le_trans le after) }
+
+pub tables_later : (c : Catalog) (m n drawn : ℕ) (changes : List Change) → m ≤ n → TablesStand c m drawn changes → TablesStand c n drawn changes
+tables_later c m n drawn changes le h = record {
+    past = λ r isin. past_later r.from m n r.to le (h.past r isin);
+    drawn_before = h.drawn_before;
+    owned = h.owned;
+    owners_drawn = h.owners_drawn;
+    unique = h.unique;
+    found = h.found;
+    viewed = h.viewed;
+    unmade = h.unmade;
+    kept = λ ns. le_trans (h.kept ns) le }
+
+-- the master's clock rises
+pub master_ticked : (m : Master) (n : ℕ) (changes : List Change) → m.clock ≤ n → MasterGood m changes → MasterGood (record m { clock = n }) changes
+master_ticked m n changes le h = record {
+    namespaces = namespaces_later m.catalog.namespaces m.clock n m.drawn.namespaces changes le h.namespaces;
+    tables = tables_later m.catalog m.clock n m.drawn.tables changes le h.tables;
+    cover = h.cover;
+    past = λ ns to is. le_trans (h.past ns to is) le;
+    complete = λ s isin. le_trans (h.complete s isin) le }
+
+pub good_ticked : (m : Master) (n : ℕ) (changes : List Change) (t : Tablet) (i : Interval) → m.clock ≤ n → IsGood m changes t i → IsGood (record m { clock = n }) changes t i
+good_ticked m n changes t i le h = record {
+    past = past_later i.from m.clock n i.to le h.past;
+    drawn = h.drawn; drawn_table = h.drawn_table; slot_from = h.slot_from; slot_to = h.slot_to; present = h.present; tablet_is = h.tablet_is;
+    table_is = h.table_is; low_is = h.low_is; high_is = h.high_is; viewed = h.viewed; stands = h.stands }
+
+-- what holds of a slot holds under a later clock of the master
+pub slot_ticked : (m : Master) (n : ℕ) (changes : List Change) (slot : ℕ) (t : Tablet) → m.clock ≤ n → SlotGood m changes slot t → SlotGood (record m { clock = n }) changes slot t
+slot_ticked m n changes slot t le h = record {
+    good = h.good;
+    each = λ i isin is. good_ticked m n changes t i le (h.each i isin is);
+    opens = λ serving unfenced. let o = h.opens serving unfenced in record {
+        interval = o.interval; listed = o.listed; slot_is = o.slot_is; opened = o.opened; begun = o.begun; settled = o.settled };
+    later = h.later }
+
+-- and under a later clock of its own
+pub tablet_ticked : (m : Master) (n : ℕ) (changes : List Change) (slot : ℕ) (t : Tablet) → t.clock ≤ n → SlotGood m changes slot t → SlotGood m changes slot (record t { clock = n })
+tablet_ticked m n changes slot t le h = record {
+    good = record { sorted = h.good.sorted; below = below_later t.versions (t.clock + 1) (n + 1) (omega arith) h.good.below; cutoff = le_trans h.good.cutoff le };
+    each = λ i isin is. let g = h.each i isin is in record {
+        past = g.past; drawn = g.drawn; drawn_table = g.drawn_table; slot_from = g.slot_from; slot_to = g.slot_to; present = g.present; tablet_is = g.tablet_is;
+        table_is = g.table_is; low_is = g.low_is; high_is = g.high_is; viewed = g.viewed; stands = g.stands };
+    opens = λ serving unfenced. let o = h.opens serving unfenced in record {
+        interval = o.interval; listed = o.listed; slot_is = o.slot_is; opened = o.opened; begun = le_trans o.begun le; settled = o.settled };
+    later = λ ns to is serving unfenced owned. le_trans (h.later ns to is serving unfenced owned) le }

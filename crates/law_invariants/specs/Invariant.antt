@@ -94,7 +94,7 @@ pub record IsGood (m : Master) (changes : List Change) (t : Tablet) (i : Interva
   pub high_is : t.high ≡ i.high
   -- while the tablet is active, the view has its table
   pub viewed : (x : ℕ) → active_at x i ≡ true → is_some (table_at changes x i.table) ≡ true
-  pub stands : awaited_in m.restorations t ≡ None → StandsIn t changes i
+  pub stands : awaited_in m.restorations t.tablet t.done ≡ None → StandsIn t changes i
 
 -- a tablet that takes writes has an open interval that began by its clock, and its rows are taken
 pub record IsOpen (m : Master) (slot : ℕ) (t : Tablet) : Type 0 where
@@ -103,7 +103,7 @@ pub record IsOpen (m : Master) (slot : ℕ) (t : Tablet) : Type 0 where
   pub slot_is : interval.slot ≡ slot
   pub opened : interval.to ≡ None
   pub begun : interval.from ≤ t.clock
-  pub settled : awaited_in m.restorations t ≡ None
+  pub settled : awaited_in m.restorations t.tablet t.done ≡ None
 
 -- what holds of a slot and the part in it
 pub record SlotGood (m : Master) (changes : List Change) (slot : ℕ) (t : Tablet) : Type 0 where

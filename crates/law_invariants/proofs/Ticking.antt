@@ -78,3 +78,65 @@ tablet_ticked m n changes slot t le h = record {
     opens = λ serving unfenced. let o = h.opens serving unfenced in record {
         interval = o.interval; listed = o.listed; slot_is = o.slot_is; opened = o.opened; begun = le_trans o.begun le; settled = o.settled };
     later = λ ns to is serving unfenced owned. le_trans (h.later ns to is serving unfenced owned) le }
+
+-- the parts under later clocks: those of the slots for which the test holds, and the master's where it does
+pub slots_ticked : (m : Master) (n : ℕ) (changes : List Change) (slot : ℕ) (b : Bool) (t : Tablet) → (b ≡ true → t.clock ≤ n)
+    → SlotGood m changes slot t → SlotGood m changes slot (cond b (record t { clock = n }) t)
+slots_ticked m n changes slot b t le h = cond_both b (record t { clock = n }) t (λ u. SlotGood m changes slot u) (λ e. tablet_ticked m n changes slot t (le e) h) (λ e. h)
+
+pub master_ticked_if : (b : Bool) (m : Master) (n : ℕ) (changes : List Change) → (b ≡ true → m.clock ≤ n) → MasterGood m changes
+    → MasterGood (cond b (record m { clock = n }) m) changes
+master_ticked_if b m n changes le h = cond_both b (record m { clock = n }) m (λ k. MasterGood k changes) (λ e. master_ticked m n changes (le e) h) (λ e. h)
+
+pub slot_ticked_if : (b : Bool) (m : Master) (n : ℕ) (changes : List Change) (slot : ℕ) (t : Tablet) → (b ≡ true → m.clock ≤ n) → SlotGood m changes slot t
+    → SlotGood (cond b (record m { clock = n }) m) changes slot t
+slot_ticked_if b m n changes slot t le h = cond_both b (record m { clock = n }) m (λ k. SlotGood k changes slot t) (λ e. slot_ticked m n changes slot t (le e) h) (λ e. h)
+
+pub both_left : (a b : Bool) → (a && b) ≡ true → a ≡ true
+both_left true b e = refl
+both_left false b e = e
+
+pub both_right : (a b : Bool) → (a && b) ≡ true → b ≡ true
+both_right true b e = e
+both_right false b e = absurd (let q = e in grind arith)
+
+pub not_true : (b : Bool) → not b ≡ true → b ≡ false
+not_true false e = refl
+not_true true e = absurd (let q = e in grind arith)
+
+-- a touched part's clock is below the stamp
+pub tablet_before : (slots : List ℕ) (ps : Parts) (n slot : ℕ) → Later slots ps n → (has slots slot && not (eqb slot 0)) ≡ true → (ps.tablet slot).clock ≤ n
+tablet_before slots ps n slot later e =
+    let h : has slots slot ≡ true = both_left _ _ e in
+    let f : eqb slot 0 ≡ false = not_true _ (both_right _ _ e) in
+    let l : clock_at ps slot < n = later slot h in
+    le_of_lt (rw f at l)
+
+pub master_before : (slots : List ℕ) (ps : Parts) (n : ℕ) → Later slots ps n → has slots 0 ≡ true → ps.master.clock ≤ n
+master_before slots ps n later e = le_of_lt (later 0 e)
+
+-- an act that tells the parts nothing keeps what holds
+pub nothing_told : (act : Act) (reply : Reply) (n : ℕ) (ps : Parts) (changes : List Change) → Later (slots_of act) ps n → Inv ps changes → Inv (told act (answered reply) n ps) changes
+nothing_told act reply n ps changes later inv = record {
+    master = master_ticked_if (has (slots_of act) 0) ps.master n changes (master_before (slots_of act) ps n later) inv.master;
+    slots = λ slot. slot_ticked_if (has (slots_of act) 0) ps.master n changes slot _ (master_before (slots_of act) ps n later)
+        (slots_ticked ps.master n changes slot (has (slots_of act) slot && not (eqb slot 0)) (ps.tablet slot) (tablet_before (slots_of act) ps n slot later) (inv.slots slot));
+    late = inv.late }
+
+-- an act that is refused keeps what holds, where its reply says nothing more
+pub refused_keeps : (act : Act) (why : Refusal) (n : ℕ) (ps : Parts) (changes : List Change) → Later (slots_of act) ps n → Inv ps changes
+    → ReplyRight act (Refused why) n ps changes → with_changes act (Refused why) n ps changes ≡ changes → Keeps act (Refused why) n ps (told act (refused why) n ps) changes
+refused_keeps act why n ps changes later inv right same_ = record {
+    right = right;
+    inv = subst (Inv (told act (refused why) n ps)) (sym same_) (nothing_told act (Refused why) n ps changes later inv) }
+
+-- what is to be shown of an act's outcome
+abbrev pub KeepsAll : Act → ℕ → Parts → List Change → Outcome → Type 0
+KeepsAll act n ps changes o = Keeps act o.reply n ps (told act o n ps) changes
+
+-- an act keeps what holds where each refusal does, and the outcome where none comes
+pub by_checks : (act : Act) (n : ℕ) (ps : Parts) (changes : List Change) (checks : List Check) (o : Outcome)
+    → ((why : Refusal) → KeepsAll act n ps changes (refused why)) → (Passes checks → KeepsAll act n ps changes o) → KeepsAll act n ps changes (judged checks o)
+by_checks act n ps changes [] o no_ go = go tt
+by_checks act n ps changes (If false why ∷ checks) o no_ go = by_checks act n ps changes checks o no_ (λ p. go (refl, p))
+by_checks act n ps changes (If true why ∷ checks) o no_ go = no_ why

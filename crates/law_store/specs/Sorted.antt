@@ -4,8 +4,14 @@ use Rattle.std.specs.Str.{bytes_eq}
 use Rattle.row_values.specs.Rows.{applied}
 use Rattle.row_values.specs.declared.value.Item.{Item}
 use Rattle.row_values.specs.declared.rows.Row.{Row}
+use Rattle.row_values.specs.declared.rows.KeyedRow.{KeyedRow}
 use Rattle.row_values.specs.declared.value.Cell.{Cell}
-use Rattle.model.specs.Store.{Version, precedes, has_old}
+use Rattle.row_values.specs.Codes.{code_of}
+use Rattle.model.specs.Ids.{In}
+use Rattle.model.specs.Store.{Version, precedes, has_old, read_of, in_range}
+use Rattle.model.specs.Acts.{At}
+use Rattle.model.specs.Journal.{Change, row_at}
+use Rattle.model.specs.Tablets.{Tablet}
 
 -- a version of the key and the stamp may stand ahead of the list: no key there precedes its own, and no stamp of its
 -- own key there is earlier
@@ -43,3 +49,47 @@ item_step key row item = if bytes_eq item.key key then applied row item.op else 
 abbrev pub OnceOld : ℕ → List Version → Type 0
 OnceOld c [] = Unit {0}
 OnceOld c (v ∷ vs) = (v.stamp ≤ c → has_old vs v.key c ≡ false) × OnceOld c vs
+
+-- each key of the versions comes strictly behind this one
+abbrev pub Behind : List ℕ → List Version → Type 0
+Behind key [] = Unit {0}
+Behind key (v ∷ vs) = (precedes key v.key ≡ true) × Behind key vs
+
+-- each key of the rows comes strictly behind this one
+abbrev pub RowsBehind : List ℕ → List KeyedRow → Type 0
+RowsBehind key [] = Unit {0}
+RowsBehind key (r ∷ rs) = (precedes key r.key ≡ true) × RowsBehind key rs
+
+-- the keys of the rows rise, so each stands once
+abbrev pub Rising : List KeyedRow → Type 0
+Rising [] = Unit {0}
+Rising (r ∷ rs) = RowsBehind r.key rs × Rising rs
+
+-- each version is stamped n
+abbrev pub StampedAt : ℕ → List Version → Type 0
+StampedAt n [] = Unit {0}
+StampedAt n (v ∷ vs) = (v.stamp ≡ n) × StampedAt n vs
+
+-- each row is present, with its cells in order
+abbrev pub ArePresent : List KeyedRow → Type 0
+ArePresent [] = Unit {0}
+ArePresent (r ∷ rs) = (r.row.present ≡ true) × IsRow r.row × ArePresent rs
+
+-- what holds of each key of the versions, of the rows, of the items
+abbrev pub EachKey : (List ℕ → Type 0) → List Version → Type 0
+EachKey P [] = Unit {0}
+EachKey P (v ∷ vs) = P v.key × EachKey P vs
+
+abbrev pub EachRowKey : (List ℕ → Type 0) → List KeyedRow → Type 0
+EachRowKey P [] = Unit {0}
+EachRowKey P (r ∷ rs) = P r.key × EachRowKey P rs
+
+abbrev pub EachItemKey : (List ℕ → Type 0) → List Item → Type 0
+EachItemKey P [] = Unit {0}
+EachItemKey P (item ∷ items) = P item.key × EachItemKey P items
+
+-- the places' tablets read at x as the view does, of the keys in their ranges
+abbrev pub ReadsView : List Change → ℕ → (ℕ → Tablet) → List At → Type 0
+ReadsView changes x tablets places = (place : At) (key : List ℕ) → In place places
+    → in_range (tablets place.slot).low (tablets place.slot).high (code_of key) ≡ true
+    → read_of (tablets place.slot).versions key x ≡ row_at changes x (tablets place.slot).table key

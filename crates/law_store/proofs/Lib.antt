@@ -1,0 +1,10 @@
+pub mod Keys
+pub mod Cells
+pub mod Writing
+pub mod Choosing
+pub mod Compaction
+pub mod Merging
+pub mod Listing
+pub mod Restoring
+pub mod Members
+pub mod Reading

@@ -63,7 +63,7 @@ precedes_self a = either_way (precedes a a) (λ e. precedes_back a a e) (λ e. e
 pub precedes_apart : (a b : List ℕ) → precedes a b ≡ true → bytes_eq a b ≡ false
 precedes_apart a b e = either_way (bytes_eq a b)
     (λ same. let P : List ℕ → Type 0 = λ k. precedes a k ≡ true in
-        absurd (true≢false (sym (subst P (sym (equal_keys a b same)) e) ∙ precedes_self a)))
+    absurd (true≢false (sym (subst P (sym (equal_keys a b same)) e) ∙ precedes_self a)))
     (λ apart. apart)
 
 -- what precedes a key precedes those that do not stand before it

@@ -66,8 +66,8 @@ present_from : (vs all : List Version) (x : ℕ) → ArePresent (rows_from all v
 present_from [] all x = tt
 present_from (v ∷ vs) all x = let rest = present_from vs all x in
     cond_both (has_key vs v.key) _ _ (λ rs. ArePresent (rs ++ rows_from all vs x))
-        (λ more. rest)
-        (λ last. cond_both (read_of all v.key x).present _ _ (λ rs. ArePresent (rs ++ rows_from all vs x)) (λ here. (here, row_read all v.key x, rest)) (λ none. rest))
+    (λ more. rest)
+    (λ last. cond_both (read_of all v.key x).present _ _ (λ rs. ArePresent (rs ++ rows_from all vs x)) (λ here. (here, row_read all v.key x, rest)) (λ none. rest))
 
 pub present_rows_at : (vs : List Version) (x : ℕ) → ArePresent (rows_at vs x)
 present_rows_at vs x = present_from vs vs x
@@ -82,10 +82,10 @@ kept_back (r ∷ rs) all n c rising reads =
     let v : Version = record { key = r.key; stamp = n; op = Upsert r.row.cells } in
     let rest = kept_back rs all n c rising.1 (λ l s isin. reads l s (inr isin)) in
     either_way (ltb c n)
-        (λ new. rw (kept_new all v (of_rows rs n) c (ltb-true _ _ new)) (ap (λ ws. v ∷ ws) rest))
-        (λ old. let l : n ≤ c = ltb-false _ _ old in let p = reads l r (inl refl) in
-            rw (kept_row all v (of_rows rs n) c l (no_old rs n r.key c rising.0) (ap (λ q. q.present) p.0 ∙ p.1))
-                (ap (λ (q : Row). record { key = r.key; stamp = n; op = Upsert q.cells } ∷ kept_from all (of_rows rs n) c) p.0 ∙ ap (λ ws. v ∷ ws) rest))
+    (λ new. rw (kept_new all v (of_rows rs n) c (ltb-true _ _ new)) (ap (λ ws. v ∷ ws) rest))
+    (λ old. let l : n ≤ c = ltb-false _ _ old in let p = reads l r (inl refl) in
+    rw (kept_row all v (of_rows rs n) c l (no_old rs n r.key c rising.0) (ap (λ q. q.present) p.0 ∙ p.1))
+    (ap (λ (q : Row). record { key = r.key; stamp = n; op = Upsert q.cells } ∷ kept_from all (of_rows rs n) c) p.0 ∙ ap (λ ws. v ∷ ws) rest))
 
 -- compaction changes no versions that are made of rows
 pub kept_of_rows : (rs : List KeyedRow) (n c : ℕ) → Rising rs → ArePresent rs → kept (of_rows rs n) c ≡ of_rows rs n

@@ -50,12 +50,13 @@ master_ticked m n changes le h = record {
     namespaces = namespaces_later m.catalog.namespaces m.clock n m.drawn.namespaces changes le h.namespaces;
     tables = tables_later m.catalog m.clock n m.drawn.tables changes le h.tables;
     cover = h.cover;
+    spaces = h.spaces;
     past = λ ns to is. le_trans (h.past ns to is) le;
     complete = λ s isin. le_trans (h.complete s isin) le }
 
 pub good_ticked : (m : Master) (n : ℕ) (changes : List Change) (t : Tablet) (i : Interval) → m.clock ≤ n → IsGood m changes t i → IsGood (record m { clock = n }) changes t i
 good_ticked m n changes t i le h = record {
-    past = past_later i.from m.clock n i.to le h.past;
+    past = past_later i.from m.clock n i.to le h.past; over = h.over;
     drawn = h.drawn; drawn_table = h.drawn_table; slot_from = h.slot_from; slot_to = h.slot_to; present = h.present; tablet_is = h.tablet_is;
     table_is = h.table_is; low_is = h.low_is; high_is = h.high_is; viewed = h.viewed; stands = h.stands }
 
@@ -73,7 +74,7 @@ pub tablet_ticked : (m : Master) (n : ℕ) (changes : List Change) (slot : ℕ) 
 tablet_ticked m n changes slot t le h = record {
     good = record { sorted = h.good.sorted; below = below_later t.versions (t.clock + 1) (n + 1) (omega arith) h.good.below; cutoff = le_trans h.good.cutoff le };
     each = λ i isin is. let g = h.each i isin is in record {
-        past = g.past; drawn = g.drawn; drawn_table = g.drawn_table; slot_from = g.slot_from; slot_to = g.slot_to; present = g.present; tablet_is = g.tablet_is;
+        past = g.past; over = ends_later i.to i.from t.clock n le g.over; drawn = g.drawn; drawn_table = g.drawn_table; slot_from = g.slot_from; slot_to = g.slot_to; present = g.present; tablet_is = g.tablet_is;
         table_is = g.table_is; low_is = g.low_is; high_is = g.high_is; viewed = g.viewed; stands = g.stands };
     opens = λ serving unfenced. let o = h.opens serving unfenced in record {
         interval = o.interval; listed = o.listed; slot_is = o.slot_is; opened = o.opened; begun = le_trans o.begun le; settled = o.settled };

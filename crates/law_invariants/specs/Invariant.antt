@@ -83,6 +83,8 @@ StandsIn t changes i = (key : List ℕ) (x : ℕ) → in_range i.low i.high (cod
 -- an interval of a tablet: its slot's part holds the tablet, and unless rows are yet to be restored, it stands for the journal
 pub record IsGood (m : Master) (changes : List Change) (t : Tablet) (i : Interval) : Type 0 where
   pub past : IsPast m.clock i.from i.to
+  -- an interval that has ended is over for the tablet too
+  pub over : EndsBy t.clock i.from i.to
   pub drawn : i.tablet.number ≤ m.drawn.tablets
   pub drawn_table : i.table.number ≤ m.drawn.tables
   pub slot_from : 1 ≤ i.slot
@@ -124,6 +126,8 @@ pub record MasterGood (m : Master) (changes : List Change) : Type 0 where
   pub namespaces : NamespacesStand m.catalog.namespaces m.clock m.drawn.namespaces changes
   pub tables : TablesStand m.catalog m.clock m.drawn.tables changes
   pub cover : Covered m.activity changes
+  -- a table of the view is in the namespace in which it was made
+  pub spaces : (id : Id) (x : ℕ) (v : TableView) → table_at changes x id ≡ Some v → owner_of m.catalog.owners id ≡ Some v.namespace
   -- a time to which a namespace was taken back, or cloned, is over for the master
   pub past : (ns : Id) (to : ℕ) → is_fixed changes ns to ≡ true → to ≤ m.clock
   -- the last complete snapshot of a schedule is over

@@ -1,2 +1,3 @@
 pub mod Ticking
 pub mod Frame
+pub mod Rewriting

@@ -1,3 +1,5 @@
+pub mod Finding
 pub mod Ticking
 pub mod Frame
 pub mod Rewriting
+pub mod Overlap

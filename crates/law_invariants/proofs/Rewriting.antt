@@ -6,8 +6,8 @@ use Rattle.model.specs.Journal.{Change}
 use Rattle.model.specs.Tablets.{Tablet}
 use Rattle.model.specs.Parts.{Master}
 use Rattle.law_store.specs.Sorted.{Sorted}
-use Rattle.law_invariants.specs.Invariant.{EndsBy, SlotGood}
-use Rattle.law_invariants.proofs.Ticking.{ends_later}
+use Rattle.law_invariants.specs.Invariant.{SlotGood}
+use Rattle.law_invariants.proofs.Ticking.{over_later}
 
 -- the tablet after it, its clock at a stamp
 abbrev pub rewritten : Tablet → ℕ → List Version → ℕ → Tablet
@@ -19,7 +19,7 @@ pub rewriting_keeps : (m : Master) (n : ℕ) (changes : List Change) (slot : ℕ
 rewriting_keeps m n changes slot t vs c le up within sorted below same h = record {
     good = record { sorted = sorted; below = below; cutoff = within };
     each = λ i isin is. let g = h.each i isin is in record {
-        past = g.past; over = ends_later i.to i.from t.clock n le g.over; drawn = g.drawn; drawn_table = g.drawn_table; slot_from = g.slot_from; slot_to = g.slot_to;
+        past = g.past; over = over_later i.to i.from t.clock n le g.over; drawn = g.drawn; drawn_table = g.drawn_table; slot_from = g.slot_from; slot_to = g.slot_to;
         present = g.present; tablet_is = g.tablet_is; table_is = g.table_is; low_is = g.low_is; high_is = g.high_is; viewed = g.viewed;
         stands = λ settled key x ranged cut before. same key x cut ∙ g.stands settled key x ranged (le_trans up cut) before };
     opens = λ serving unfenced. let o = h.opens serving unfenced in record {

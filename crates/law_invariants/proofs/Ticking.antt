@@ -11,11 +11,15 @@ use Rattle.model.specs.Acts.{Act, Reply, Refused, Refusal}
 use Rattle.model.specs.Parts.{Master, Parts, Check, If, Outcome, judged, refused, answered, Ticks}
 use Rattle.model.specs.Entries.{slots_of, clock_at}
 use Rattle.model.specs.History.{told, outcome, with_changes, ReplyRight}
-use Rattle.law_invariants.specs.Invariant.{EndsBy, IsPast, NamespacesStand, TablesStand, TabletGood, IsGood, IsOpen, SlotGood, MasterGood, Inv, Keeps, Later, Passes}
+use Rattle.law_invariants.specs.Invariant.{EndsBy, OverBy, IsPast, NamespacesStand, TablesStand, TabletGood, IsGood, IsOpen, SlotGood, MasterGood, Inv, Keeps, Later, Passes}
 
 pub ends_later : (to : Option ℕ) (from m n : ℕ) → m ≤ n → EndsBy m from to → EndsBy n from to
 ends_later None from m n le h = tt
 ends_later (Some to) from m n le h = (h.0, le_trans h.1 le)
+
+pub over_later : (to : Option ℕ) (from m n : ℕ) → m ≤ n → OverBy m from to → OverBy n from to
+over_later None from m n le h = tt
+over_later (Some to) from m n le h = (h.0, le_trans h.1 le)
 
 pub past_later : (from m n : ℕ) (to : Option ℕ) → m ≤ n → IsPast m from to → IsPast n from to
 past_later from m n to le h = record { begun = le_trans h.begun le; ended = ends_later to from m n le h.ended }
@@ -74,7 +78,7 @@ pub tablet_ticked : (m : Master) (n : ℕ) (changes : List Change) (slot : ℕ) 
 tablet_ticked m n changes slot t le h = record {
     good = record { sorted = h.good.sorted; below = below_later t.versions (t.clock + 1) (n + 1) (omega arith) h.good.below; cutoff = le_trans h.good.cutoff le };
     each = λ i isin is. let g = h.each i isin is in record {
-        past = g.past; over = ends_later i.to i.from t.clock n le g.over; drawn = g.drawn; drawn_table = g.drawn_table; slot_from = g.slot_from; slot_to = g.slot_to; present = g.present; tablet_is = g.tablet_is;
+        past = g.past; over = over_later i.to i.from t.clock n le g.over; drawn = g.drawn; drawn_table = g.drawn_table; slot_from = g.slot_from; slot_to = g.slot_to; present = g.present; tablet_is = g.tablet_is;
         table_is = g.table_is; low_is = g.low_is; high_is = g.high_is; viewed = g.viewed; stands = g.stands };
     opens = λ serving unfenced. let o = h.opens serving unfenced in record {
         interval = o.interval; listed = o.listed; slot_is = o.slot_is; opened = o.opened; begun = le_trans o.begun le; settled = o.settled };

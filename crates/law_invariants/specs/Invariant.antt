@@ -25,6 +25,11 @@ abbrev pub EndsBy : ℕ → ℕ → Option ℕ → Type 0
 EndsBy time from None = Unit {0}
 EndsBy time from (Some to) = (from ≤ to) × (to ≤ time)
 
+-- an end comes after the start, and at or before the time
+abbrev pub OverBy : ℕ → ℕ → Option ℕ → Type 0
+OverBy time from None = Unit {0}
+OverBy time from (Some to) = (from < to) × (to ≤ time)
+
 -- The catalog
 
 -- a namespace's or a table's record lies before the time
@@ -84,7 +89,7 @@ StandsIn t changes i = (key : List ℕ) (x : ℕ) → in_range i.low i.high (cod
 pub record IsGood (m : Master) (changes : List Change) (t : Tablet) (i : Interval) : Type 0 where
   pub past : IsPast m.clock i.from i.to
   -- an interval that has ended is over for the tablet too
-  pub over : EndsBy t.clock i.from i.to
+  pub over : OverBy t.clock i.from i.to
   pub drawn : i.tablet.number ≤ m.drawn.tablets
   pub drawn_table : i.table.number ≤ m.drawn.tables
   pub slot_from : 1 ≤ i.slot

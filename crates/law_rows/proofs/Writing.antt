@@ -106,7 +106,7 @@ slot_written m n batch changes slot t less serving unfenced all h =
       opens = λ s u. let p = h.opens s u in record { interval = p.interval; listed = p.listed; slot_is = p.slot_is; opened = p.opened; begun = le_trans p.begun (le_of_lt less); settled = p.settled };
       later = λ ns to is s u owned. le_trans (h.later ns to (sym (fixed_stay batch n t.table changes ns to) ∙ is) s u owned) (le_of_lt less) }
 
-none_is : (o : Option Id) → is_some o ≡ false → o ≡ None
+pub none_is : {A : Type 0} (o : Option A) → is_some o ≡ false → o ≡ None
 none_is None e = refl
 none_is (Some x) e = absurd (let q = e in grind arith)
 

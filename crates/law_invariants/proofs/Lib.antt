@@ -3,3 +3,6 @@ pub mod Ticking
 pub mod Frame
 pub mod Rewriting
 pub mod Overlap
+pub mod Holding
+pub mod Journaling
+pub mod Covering

@@ -56,7 +56,8 @@ master_ticked m n changes le h = record {
     cover = h.cover;
     spaces = h.spaces;
     past = λ ns to is. le_trans (h.past ns to is) le;
-    complete = λ s isin. le_trans (h.complete s isin) le }
+    complete = λ s isin. le_trans (h.complete s isin) le;
+    listed = h.listed }
 
 pub good_ticked : (m : Master) (n : ℕ) (changes : List Change) (t : Tablet) (i : Interval) → m.clock ≤ n → IsGood m changes t i → IsGood (record m { clock = n }) changes t i
 good_ticked m n changes t i le h = record {

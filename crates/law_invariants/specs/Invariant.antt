@@ -11,7 +11,7 @@ use Rattle.model.specs.Restored.{record_at}
 use Rattle.model.specs.Journal.{Change, TableView, namespace_at, table_at, row_at}
 use Rattle.model.specs.Tablets.{Tablet, is_vacant, is_serving}
 use Rattle.model.specs.Stands.{awaited_in, before_point, holders}
-use Rattle.model.specs.Records.{Schedule}
+use Rattle.model.specs.Records.{Schedule, Listed, RestorationRecord}
 use Rattle.model.specs.Schedules.{complete_to}
 use Rattle.model.specs.Entries.{clock_at}
 use Rattle.model.specs.Acts.{Act, Reply}
@@ -137,6 +137,8 @@ pub record MasterGood (m : Master) (changes : List Change) : Type 0 where
   pub past : (ns : Id) (to : ℕ) → is_fixed changes ns to ≡ true → to ≤ m.clock
   -- the last complete snapshot of a schedule is over
   pub complete : (s : Schedule) → In s m.schedules → complete_to s.complete s + 1 ≤ m.clock
+  -- a restoration lists no tablet that is yet to be made
+  pub listed : (r : RestorationRecord) (l : Listed) → In r m.restorations → In l r.listed → l.tablet.number ≤ m.drawn.tablets
 
 -- what holds after each entry
 pub record Inv (ps : Parts) (changes : List Change) : Type 0 where

@@ -89,7 +89,7 @@ cutoff_keeps ps changes n slot later from inv =
 -- sent marks that are lost are none of what holds
 master_restarted : (m : Master) (n : ℕ) (changes : List Change) → m.clock ≤ n → MasterGood m changes → MasterGood (restarted_master n m) changes
 master_restarted m n changes le h = let k = master_ticked m n changes le h in record {
-    namespaces = k.namespaces; tables = k.tables; cover = k.cover; spaces = k.spaces; past = k.past; complete = k.complete }
+    namespaces = k.namespaces; tables = k.tables; cover = k.cover; spaces = k.spaces; past = k.past; complete = k.complete; listed = k.listed }
 
 slot_restarted : (m : Master) (n : ℕ) (changes : List Change) (slot : ℕ) (t : Tablet) → m.clock ≤ n → SlotGood m changes slot t → SlotGood (restarted_master n m) changes slot t
 slot_restarted m n changes slot t le h = let k = slot_ticked m n changes slot t le h in record {

@@ -1,1 +1,3 @@
 pub mod Ticking
+pub mod Finding
+pub mod Names

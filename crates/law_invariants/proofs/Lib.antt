@@ -1,3 +1,5 @@
 pub mod Ticking
 pub mod Finding
 pub mod Names
+pub mod Columns
+pub mod Records

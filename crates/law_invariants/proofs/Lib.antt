@@ -6,3 +6,6 @@ pub mod Overlap
 pub mod Holding
 pub mod Journaling
 pub mod Covering
+pub mod Names
+pub mod Columns
+pub mod Records

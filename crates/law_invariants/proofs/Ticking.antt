@@ -44,8 +44,10 @@ tables_later c m n drawn changes le h = record {
     owners_drawn = h.owners_drawn;
     unique = h.unique;
     found = h.found;
+    columns = h.columns;
     viewed = h.viewed;
     unmade = h.unmade;
+    inside = h.inside;
     kept = λ ns. le_trans (h.kept ns) le }
 
 -- the master's clock rises

@@ -1,10 +1,12 @@
 -- What holds of the parts and the journal after each entry of a legal history.
-use Rattle.std.specs.Prelude.{◌≡◌, ℕ, ◌≤◌, ◌<◌, ◌+◌, Bool, true, false, List, [], ◌∷◌, Option, Some, None, ◌&&◌, if◌then◌else◌, option_map}
+use Rattle.std.specs.Prelude.{◌≡◌, ℕ, ◌≤◌, ◌<◌, ◌+◌, Bool, true, false, List, [], ◌∷◌, Option, Some, None, ◌&&◌, ◌==◌, if◌then◌else◌, option_map}
 use Rattle.std.specs.Option.{is_some}
+use Rattle.std.specs.Str.{bytes_eq}
 use Rattle.row_values.specs.Codes.{code_of}
 use Rattle.model.specs.Ids.{Id, Kind, Namespace, Table, Tablet as TabletKind, same, In, has}
 use Rattle.model.specs.Times.{holds_at, is_open, before_end}
 use Rattle.model.specs.Store.{Version, Below, in_range, read_of}
+use Rattle.model.specs.Schema.{Column, Schema}
 use Rattle.model.specs.Catalog.{Catalog, NamespaceRecord, TableRecord, namespace_named, name_of, table_named, owner_of, kept_from}
 use Rattle.model.specs.Activity.{Interval, active_at}
 use Rattle.model.specs.Restored.{record_at}
@@ -45,31 +47,34 @@ view_of r = record { namespace = r.namespace; name = r.name; columns = r.schema.
 abbrev pub view_at : List TableRecord → ℕ → Id → Option TableView
 view_at rs x id = option_map view_of (record_at rs id x)
 
--- the table of a name in a namespace at x by the records
-abbrev pub named_at : List TableRecord → ℕ → Id → List ℕ → Option Id
-named_at rs x ns name = option_map {T = TableRecord} (λ r. r.id) (table_named rs ns name x)
+-- the columns of a schema: a name and an id are those of one column alone, and the next id is past all of them
+pub record ColumnsStand (s : Schema) : Type 0 where
+  pub apart : (c d : Column) → In c s.columns → In d s.columns → bytes_eq c.name d.name ≡ (c.id == d.id)
+  pub drawn : (c : Column) → In c s.columns → c.id < s.next
 
 -- the records of namespaces: a name is that of one current namespace alone
 pub record NamespacesStand (rs : List NamespaceRecord) (time drawn : ℕ) (changes : List Change) : Type 0 where
   pub past : (r : NamespaceRecord) → In r rs → IsPast time r.from r.to
   pub drawn_before : (r : NamespaceRecord) → In r rs → r.id.number ≤ drawn
-  pub unique : (id : Id) (name : List ℕ) → name_of rs id ≡ Some name → namespace_named rs name ≡ Some id
-  pub found : (id : Id) (name : List ℕ) → namespace_named rs name ≡ Some id → name_of rs id ≡ Some name
+  pub unique : (r : NamespaceRecord) → In r rs → is_open r.to ≡ true → namespace_named rs r.name ≡ Some r.id
+  pub found : (r : NamespaceRecord) → In r rs → is_open r.to ≡ true → name_of rs r.id ≡ Some r.name
   -- from the clock on the view names a namespace as the records do
   pub viewed : (id : Id) (x : ℕ) → time ≤ x → namespace_at changes x id ≡ name_of rs id
 
--- the records of tables: a name in a namespace is that of one table alone at each time
+-- the records of tables: at each time a table has one record, and a name in a namespace is that of one table alone
 pub record TablesStand (c : Catalog) (time drawn : ℕ) (changes : List Change) : Type 0 where
   pub past : (r : TableRecord) → In r c.tables → IsPast time r.from r.to
   pub drawn_before : (r : TableRecord) → In r c.tables → r.id.number ≤ drawn
   pub owned : (r : TableRecord) → In r c.tables → owner_of c.owners r.id ≡ Some r.namespace
   pub owners_drawn : (id : Id) → drawn < id.number → owner_of c.owners id ≡ None
-  pub unique : (x : ℕ) (id : Id) (v : TableView) → view_at c.tables x id ≡ Some v → named_at c.tables x v.namespace v.name ≡ Some id
-  pub found : (x : ℕ) (id ns : Id) (name : List ℕ) → named_at c.tables x ns name ≡ Some id
-      → (v : TableView) × ((view_at c.tables x id ≡ Some v) × ((v.namespace ≡ ns) × (v.name ≡ name)))
+  pub unique : (x : ℕ) (r : TableRecord) → In r c.tables → holds_at x r.from r.to ≡ true → table_named c.tables r.namespace r.name x ≡ Some r
+  pub found : (x : ℕ) (r : TableRecord) → In r c.tables → holds_at x r.from r.to ≡ true → record_at c.tables r.id x ≡ Some r
+  pub columns : (r : TableRecord) → In r c.tables → ColumnsStand r.schema
   -- where the catalog of its namespace is kept, the view has a table as the records do
   pub viewed : (id ns : Id) (x : ℕ) → owner_of c.owners id ≡ Some ns → kept_from c.kept_from ns ≤ x → table_at changes x id ≡ view_at c.tables x id
   pub unmade : (id : Id) (x : ℕ) → owner_of c.owners id ≡ None → table_at changes x id ≡ None
+  -- the view has a table in the namespace where it was made
+  pub inside : (id : Id) (x : ℕ) (v : TableView) → table_at changes x id ≡ Some v → owner_of c.owners id ≡ Some v.namespace
   pub kept : (ns : Id) → kept_from c.kept_from ns ≤ time
 
 -- Tablets

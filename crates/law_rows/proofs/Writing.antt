@@ -42,11 +42,12 @@ master_written m n table batch changes h =
         past = h.tables.past; drawn_before = h.tables.drawn_before; owned = h.tables.owned; owners_drawn = h.tables.owners_drawn; unique = h.tables.unique; found = h.tables.found;
         viewed = λ id ns x owner le. tables_stay batch n table changes x id ∙ h.tables.viewed id ns x owner le;
         unmade = λ id x owner. tables_stay batch n table changes x id ∙ h.tables.unmade id x owner;
-        kept = h.tables.kept };
+        kept = h.tables.kept; columns = h.tables.columns; inside = λ id x v found. h.tables.inside id x v (sym (tables_stay batch n table changes x id) ∙ found) };
       cover = record { once = h.cover.once; whole = λ t code x below is. h.cover.whole t code x below (ap is_some (sym (tables_stay batch n table changes x t)) ∙ is) };
       spaces = λ id x v found. h.spaces id x v (sym (tables_stay batch n table changes x id) ∙ found);
       past = λ ns to is. h.past ns to (sym (fixed_stay batch n table changes ns to) ∙ is);
-      complete = h.complete }
+      complete = h.complete;
+      listed = h.listed }
 
 -- a namespace that has the table in the view at some time is the one that owns it
 owner_is : (ns : Id) (v : Option TableView) (owner : Option Id) → ((w : TableView) → v ≡ Some w → owner ≡ Some w.namespace) → is_in ns v ≡ true → owner ≡ Some ns

@@ -1,0 +1,18 @@
+//! The main law: a legal history is right, and what holds after each entry holds of the parts that it leaves. It speaks of definitions
+//! alone, and so of no code. It is proved of the acts that `Covering` names; each further act adds its lemma, its case there and its line
+//! in the dispatch.
+#![tactic(auto)]
+
+ghost use Rattle.std.specs.Prelude.{ℕ, List};
+ghost use Rattle.model.specs.Entries.{Entry};
+ghost use Rattle.model.specs.History.{Legal, Right, replay, journal_of};
+ghost use Rattle.law_invariants.specs.Invariant.{Inv};
+ghost use Rattle.law.specs.Covering.{Covered};
+
+/// A legal history of covered acts is right: each reply is that of one list of stamped changes. What
+/// holds after each entry holds of the parts that the history leaves.
+pub fn legal_is_right()
+    ensures right { (slots : ℕ) (history : List Entry) → Legal slots history → Covered history → Right slots history }
+    ensures holds { (slots : ℕ) (history : List Entry) → Legal slots history → Covered history → Inv (replay slots history) (journal_of slots history) }
+{
+}

@@ -3,3 +3,4 @@ pub mod Finding
 pub mod Names
 pub mod Columns
 pub mod Records
+pub mod Looking

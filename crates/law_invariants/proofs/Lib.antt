@@ -4,3 +4,4 @@ pub mod Names
 pub mod Columns
 pub mod Records
 pub mod Looking
+pub mod Tables

@@ -5,3 +5,4 @@ pub mod Columns
 pub mod Records
 pub mod Looking
 pub mod Tables
+pub mod Cataloguing

@@ -9,3 +9,6 @@ pub mod Covering
 pub mod Names
 pub mod Columns
 pub mod Records
+pub mod Looking
+pub mod Tables
+pub mod Cataloguing

@@ -1,0 +1,268 @@
+-- What the looks for keys and for a table answer is right.
+use Rattle.std.proofs.Common.{ℕ, ◌≡◌, ◌≢◌, ◌<◌, ◌≤◌, Bool, true, false, cond, ◌&&◌, List, [], ◌∷◌, map, Option, Some, None, ◌⊎◌, inl, inr, refl, sym, ap, subst, ◌∙◌, arith, le_trans, le_refl, le_of_lt, ltb}
+use Rattle.std.specs.Option.{option_map, is_some, is_none, unwrap_or, option_or, option_to_list}
+use Rattle.std.proofs.lemmas.Bool.{true≢false, ltb-false, cond_both}
+use Rattle.model.specs.Ids.{Id, same, In, no_id}
+use Rattle.model.specs.Times.{is_open, holds_at, time_of, is_future, is_below}
+use Rattle.model.specs.Schema.{Column, column_named, is_of_kind}
+use Rattle.model.specs.Catalog.{Catalog, NamespaceRecord, TableRecord, namespace_named, name_of, table_named, current_named, current_table, owner_of, kept_from}
+use Rattle.model.specs.Restored.{record_at}
+use Rattle.model.specs.Journal.{Change, TableView, namespace_at, table_at}
+use Rattle.model.specs.Looks as looks
+use Rattle.model.specs.Looks.{holding, first_code, other_code, place_of, known, the_table, table_asked, if_current, value_fault, cells_fault, op_fault, batch_fault, look_keys, look_table}
+use Rattle.model.specs.Acts.{NamedCell, NamedOp, NamedUpsert, NamedDelete, NamedItem, Refusal, UnknownNamespace, UnknownTable, UnknownColumn, WrongKind, CrossTablet, Future, TooOld, Reply, Placed, Refused}
+use Rattle.model.specs.Parts.{Master, Check, If, Outcome, judged, refused, answered}
+use Rattle.model.specs.Right.{NamespaceFound, TableFound, LookRight, AnyColumns, LookReplyRight}
+use Rattle.law_store.proofs.Keys.{either_way}
+use Rattle.law_invariants.specs.Invariant.{NamespacesStand, TablesStand, MasterGood, view_of, view_at}
+use Rattle.law_invariants.proofs.Finding.{none_or_some}
+use Rattle.law_invariants.proofs.Names.{named_by_name, name_by_named}
+use Rattle.law_invariants.proofs.Records.{now_holds, current_named_at, current_table_at, table_named_is, record_at_is, IsNamedAt, IsTableAt}
+
+-- what holds of the master's catalog at a look
+pub record IsAsked (m : Master) (n : ℕ) (changes : List Change) : Type 0 where
+  pub later : m.clock ≤ n
+  pub namespaces : NamespacesStand m.catalog.namespaces m.clock m.drawn.namespaces changes
+  pub tables : TablesStand m.catalog m.clock m.drawn.tables changes
+
+pub asked : (m : Master) (n : ℕ) (changes : List Change) → m.clock < n → MasterGood m changes → IsAsked m n changes
+asked m n changes less h = record { later = le_of_lt less; namespaces = h.namespaces; tables = h.tables }
+
+-- Namespaces
+
+no_namespace : (m : Master) (n : ℕ) (changes : List Change) (namespace : List ℕ) → IsAsked m n changes → namespace_named m.catalog.namespaces namespace ≡ None → NamespaceFound changes n namespace → ⊥
+no_namespace m n changes namespace h none found =
+    let name : name_of m.catalog.namespaces found.id ≡ Some namespace = sym (h.namespaces.viewed found.id n h.later) ∙ found.named in
+    let named = named_by_name m.catalog.namespaces m.clock m.drawn.namespaces changes found.id namespace h.namespaces name in
+    cc
+
+namespace_found : (m : Master) (n : ℕ) (changes : List Change) (namespace : List ℕ) (id : Id) → IsAsked m n changes → namespace_named m.catalog.namespaces namespace ≡ Some id → namespace_at changes n id ≡ Some namespace
+namespace_found m n changes namespace id h named =
+    h.namespaces.viewed id n h.later ∙ name_by_named m.catalog.namespaces m.clock m.drawn.namespaces changes id namespace h.namespaces named
+
+-- Tables
+
+-- the time that is asked is kept
+asked_kept : (m : Master) (n : ℕ) (changes : List Change) (ns : Id) (at : Option ℕ) → IsAsked m n changes → is_below at (kept_from m.catalog.kept_from ns) ≡ false → kept_from m.catalog.kept_from ns ≤ time_of at n
+asked_kept m n changes ns None h below = le_trans (h.tables.kept ns) h.later
+asked_kept m n changes ns (Some x) h below = ltb-false x (kept_from m.catalog.kept_from ns) below
+
+-- a record that holds at x, of a namespace whose catalog is kept then, is in the view
+record_viewed : (m : Master) (n : ℕ) (changes : List Change) (x : ℕ) (t : TableRecord) → IsAsked m n changes → In t m.catalog.tables → holds_at x t.from t.to ≡ true → kept_from m.catalog.kept_from t.namespace ≤ x
+    → table_at changes x t.id ≡ Some (view_of t)
+record_viewed m n changes x t h isin holds kept =
+    h.tables.viewed t.id t.namespace x (h.tables.owned t isin) kept ∙ ap (option_map view_of) (h.tables.found x t isin holds)
+
+-- what the records say of the table that is asked
+record IsFoundAt (m : Master) (n x : ℕ) (ns : Id) (table : List ℕ) (t : TableRecord) : Type 0 where
+  is : IsNamedAt m.catalog.tables ns table x t
+  current : is_some (current_table m.catalog.tables t.id) ≡ true
+
+found_now : (m : Master) (n : ℕ) (changes : List Change) (ns : Id) (table : List ℕ) (t : TableRecord) → IsAsked m n changes → current_named m.catalog.tables ns table ≡ Some t → IsFoundAt m n n ns table t
+found_now m n changes ns table t h e =
+    let is = table_named_is m.catalog.tables ns table n t (sym (current_named_at m.catalog.tables m.clock n ns table h.tables.past h.later) ∙ e) in
+    record { is = is; current = ap is_some (current_table_at m.catalog.tables m.clock n t.id h.tables.past h.later ∙ h.tables.found n t is.listed is.holds) }
+
+found_then : (m : Master) (n x : ℕ) (ns : Id) (table : List ℕ) (t : TableRecord) (named : Option TableRecord) → table_named m.catalog.tables ns table x ≡ named → if_current m.catalog.tables named ≡ Some t → IsFoundAt m n x ns table t
+found_then m n x ns table t None is e = cc
+found_then m n x ns table t (Some s) is e = either_way (is_some (current_table m.catalog.tables s.id))
+    (λ current. let same_record : s ≡ t = (let q : Some s ≡ Some t = rw current at e in cc) in
+      let P : TableRecord → Type 0 = IsFoundAt m n x ns table in
+      subst P same_record (record { is = table_named_is m.catalog.tables ns table x s is; current = current }))
+    (λ gone. let q : None ≡ Some t = rw gone at e in cc)
+
+table_found : (m : Master) (n : ℕ) (changes : List Change) (ns : Id) (table : List ℕ) (at : Option ℕ) (t : TableRecord) → IsAsked m n changes → table_asked m.catalog.tables ns table at ≡ Some t → IsFoundAt m n (time_of at n) ns table t
+table_found m n changes ns table None t h e = found_now m n changes ns table t h e
+table_found m n changes ns table (Some x) t h e = found_then m n x ns table t (table_named m.catalog.tables ns table x) refl e
+
+some_mapped : (found : Option TableRecord) → is_some (option_map view_of found) ≡ is_some found
+some_mapped None = refl
+some_mapped (Some r) = refl
+
+asked_none : (m : Master) (n : ℕ) (changes : List Change) (ns : Id) (table : List ℕ) (at : Option ℕ) (r : TableRecord) → IsAsked m n changes → table_asked m.catalog.tables ns table at ≡ None
+    → table_named m.catalog.tables ns table (time_of at n) ≡ Some r → is_some (current_table m.catalog.tables r.id) ≡ true → ⊥
+asked_none m n changes ns table None r h none found current = let q = current_named_at m.catalog.tables m.clock n ns table h.tables.past h.later in cc
+asked_none m n changes ns table (Some x) r h none found current =
+    let q : if_current m.catalog.tables (Some r) ≡ None = sym (ap (if_current m.catalog.tables) found) ∙ none in
+    let p : Some r ≡ None = rw current at q in cc
+
+-- the table that the records have is that of the view
+view_found : (m : Master) (n x : ℕ) (changes : List Change) (namespace table : List ℕ) (ns : Id) (t : TableRecord) → IsAsked m n changes → namespace_named m.catalog.namespaces namespace ≡ Some ns → kept_from m.catalog.kept_from ns ≤ x
+    → IsFoundAt m n x ns table t → (f : TableFound changes x n namespace table) × (f.view ≡ view_of t)
+view_found m n x changes namespace table ns t h named kept f =
+    let kept_then : kept_from m.catalog.kept_from t.namespace ≤ x = subst (λ k. kept_from m.catalog.kept_from k ≤ x) (sym f.is.namespace_is) kept in
+    let current : is_some (table_at changes n t.id) ≡ true =
+      ap is_some (h.tables.viewed t.id t.namespace n (h.tables.owned t f.is.listed) (le_trans (h.tables.kept t.namespace) h.later))
+      ∙ some_mapped (record_at m.catalog.tables t.id n)
+      ∙ ap is_some (sym (current_table_at m.catalog.tables m.clock n t.id h.tables.past h.later)) ∙ f.current in
+    (record {
+      owner = ns;
+      owner_named = namespace_found m n changes namespace ns h named;
+      id = t.id;
+      view = view_of t;
+      found = record_viewed m n changes x t h f.is.listed f.is.holds kept_then;
+      inside = f.is.namespace_is;
+      named = f.is.name_is;
+      current = current }, refl)
+
+-- and where the records have none, the view has none
+no_table : (m : Master) (n : ℕ) (changes : List Change) (namespace table : List ℕ) (ns : Id) (at : Option ℕ) → IsAsked m n changes → namespace_named m.catalog.namespaces namespace ≡ Some ns
+    → kept_from m.catalog.kept_from ns ≤ time_of at n → table_asked m.catalog.tables ns table at ≡ None → TableFound changes (time_of at n) n namespace table → ⊥
+no_table m n changes namespace table ns at h named kept none f =
+    let x = time_of at n in
+    let rs = m.catalog.tables in
+    let name : name_of m.catalog.namespaces f.owner ≡ Some namespace = sym (h.namespaces.viewed f.owner n h.later) ∙ f.owner_named in
+    let owner_is : ns ≡ f.owner = (let q = named_by_name m.catalog.namespaces m.clock m.drawn.namespaces changes f.owner namespace h.namespaces name in cc) in
+    let view_is : f.view.namespace ≡ ns = f.inside ∙ sym owner_is in
+    let owned = h.tables.inside f.id x f.view f.found in
+    let kept_then : kept_from m.catalog.kept_from f.view.namespace ≤ x = subst (λ k. kept_from m.catalog.kept_from k ≤ x) (sym view_is) kept in
+    let seen : view_at rs x f.id ≡ Some f.view = sym (h.tables.viewed f.id f.view.namespace x owned kept_then) ∙ f.found in
+    none_or_some (record_at rs f.id x)
+    (λ gone. let q : None ≡ Some f.view = sym (ap (option_map view_of) gone) ∙ seen in cc)
+    (λ r there.
+      let is = record_at_is rs f.id x r there in
+      let same_view : view_of r ≡ f.view = (let q : Some (view_of r) ≡ Some f.view = sym (ap (option_map view_of) there) ∙ seen in cc) in
+      let namespace_is : r.namespace ≡ ns = ap (λ v. v.namespace) same_view ∙ view_is in
+      let name_is : r.name ≡ table = ap (λ v. v.name) same_view ∙ f.named in
+      let first = h.tables.unique x r is.listed is.holds in
+      let found : table_named rs ns table x ≡ Some r = sym (ap (λ k. table_named rs k r.name x) namespace_is ∙ ap (λ k. table_named rs ns k x) name_is) ∙ first in
+      let owned_now = h.tables.viewed f.id f.view.namespace n owned (le_trans (h.tables.kept f.view.namespace) h.later) in
+      let current : is_some (current_table rs r.id) ≡ true =
+        ap (λ k. is_some (current_table rs k)) is.id_is ∙ ap is_some (current_table_at rs m.clock n f.id h.tables.past h.later)
+        ∙ sym (some_mapped (record_at rs f.id n)) ∙ ap is_some (sym owned_now) ∙ f.current in
+      asked_none m n changes ns table at r h none found current)
+
+-- Judging
+
+-- a refusal that comes, or what follows where it does not
+step : (P : Reply → Type 0) (comes : Bool) (why : Refusal) (checks : List Check) (o : Outcome) → (comes ≡ true → P (Refused why)) → (comes ≡ false → P (judged checks o).reply) → P (judged (If comes why ∷ checks) o).reply
+step P true why checks o comes_ goes = comes_ refl
+step P false why checks o comes_ goes = goes refl
+
+none_is : {A : Type 0} (o : Option A) → is_none o ≡ true → o ≡ None
+none_is None e = refl
+none_is (Some x) e = cc
+
+some_is : {A : Type 0} (o : Option A) (d : A) → is_none o ≡ false → o ≡ Some (unwrap_or o d)
+some_is None d e = cc
+some_is (Some x) d e = refl
+
+is_some_is : {A : Type 0} (o : Option A) (d : A) → is_some o ≡ true → o ≡ Some (unwrap_or o d)
+is_some_is None d e = cc
+is_some_is (Some x) d e = refl
+
+not_some_is : {A : Type 0} (o : Option A) → is_some o ≡ false → o ≡ None
+not_some_is None e = refl
+not_some_is (Some x) e = cc
+
+-- a fault of a batch is one of its columns
+
+IsColumnFault : Option Refusal → Type 0
+IsColumnFault None = Unit {0}
+IsColumnFault (Some UnknownColumn) = Unit {0}
+IsColumnFault (Some WrongKind) = Unit {0}
+IsColumnFault (Some _) = ⊥
+
+value_faults : (column : Option Column) (cell : NamedCell) → IsColumnFault (value_fault column cell.value)
+unfolding IsColumnFault
+value_faults None cell = tt
+value_faults (Some column) cell = cond_both (is_of_kind column.kind cell.value) None (Some WrongKind) IsColumnFault (λ t. tt) (λ f. tt)
+
+either_fault : (a b : Option Refusal) → IsColumnFault a → IsColumnFault b → IsColumnFault (option_or a b)
+either_fault None b p q = q
+either_fault (Some why) b p q = p
+
+cells_faults : (columns : List Column) (cells : List NamedCell) → IsColumnFault (cells_fault columns cells)
+unfolding IsColumnFault
+cells_faults columns [] = tt
+cells_faults columns (cell ∷ cells) = either_fault (value_fault (column_named columns cell.column) cell.value) (cells_fault columns cells) (value_faults (column_named columns cell.column) cell) (cells_faults columns cells)
+
+op_faults : (columns : List Column) (op : NamedOp) → IsColumnFault (op_fault columns op)
+unfolding IsColumnFault
+op_faults columns (NamedUpsert cells) = cells_faults columns cells
+op_faults columns NamedDelete = tt
+
+batch_faults : (columns : List Column) (batch : List NamedItem) → IsColumnFault (batch_fault columns batch)
+unfolding IsColumnFault
+batch_faults columns [] = tt
+batch_faults columns (item ∷ items) = either_fault (op_fault columns item.op) (batch_fault columns items) (op_faults columns item.op) (batch_faults columns items)
+
+-- where the view has the table, a fault of the batch by its columns is the right refusal
+fault_right : (changes : List Change) (x n : ℕ) (namespace table : List ℕ) (batch : List NamedItem) (f : TableFound changes x n namespace table) (fault : Option Refusal) → IsColumnFault fault → batch_fault f.view.columns batch ≡ fault
+    → is_some fault ≡ true → LookReplyRight (Refused (unwrap_or fault UnknownColumn)) changes x n namespace table batch
+unfolding IsColumnFault
+fault_right changes x n namespace table batch f None kind is e = cc
+fault_right changes x n namespace table batch f (Some UnknownColumn) kind is e = record { found = f; columns_are = tt; judged = is }
+fault_right changes x n namespace table batch f (Some WrongKind) kind is e = record { found = f; columns_are = tt; judged = is }
+fault_right changes x n namespace table batch f (Some _) kind is e = absurd kind
+
+-- Looks
+
+-- the four refusals that both looks begin with, before what follows
+opening : (m : Master) (namespace table : List ℕ) (at : Option ℕ) (n : ℕ) → List Check → List Check
+opening m namespace table at n checks =
+    let ns = namespace_named m.catalog.namespaces namespace in
+    let from = kept_from m.catalog.kept_from (known ns) in
+    If (is_none ns) UnknownNamespace
+    ∷ If (is_future at n) (Future n)
+    ∷ If (is_below at from) (TooOld (time_of at n) from)
+    ∷ If (is_none (table_asked m.catalog.tables (known ns) table at)) UnknownTable
+    ∷ checks
+
+opening_right : (m : Master) (n : ℕ) (changes : List Change) (namespace table : List ℕ) (at : Option ℕ) (batch : List NamedItem) (checks : List Check) (o : Outcome) → IsAsked m n changes
+    → ((f : TableFound changes (time_of at n) n namespace table) → f.view ≡ view_of (the_table (table_asked m.catalog.tables (known (namespace_named m.catalog.namespaces namespace)) table at))
+        → LookReplyRight (judged checks o).reply changes (time_of at n) n namespace table batch)
+    → LookReplyRight (judged (opening m namespace table at n checks) o).reply changes (time_of at n) n namespace table batch
+unfolding opening
+opening_right m n changes namespace table at batch checks o h rest =
+    let ns = namespace_named m.catalog.namespaces namespace in
+    let from = kept_from m.catalog.kept_from (known ns) in
+    let found = table_asked m.catalog.tables (known ns) table at in
+    let P : Reply → Type 0 = λ reply. LookReplyRight reply changes (time_of at n) n namespace table batch in
+    let fourth : List Check = If (is_none found) UnknownTable ∷ checks in
+    let third : List Check = If (is_below at from) (TooOld (time_of at n) from) ∷ fourth in
+    step P (is_none ns) UnknownNamespace (If (is_future at n) (Future n) ∷ third) o
+    (λ none. no_namespace m n changes namespace h (none_is ns none))
+    (λ some.
+      let named : ns ≡ Some (known ns) = some_is ns no_id some in
+      let here : NamespaceFound changes n namespace = record { id = known ns; named = namespace_found m n changes namespace (known ns) h named } in
+      step P (is_future at n) (Future n) third o (λ _. here)
+      (λ _. step P (is_below at from) (TooOld (time_of at n) from) fourth o (λ _. here)
+      (λ below.
+        let kept = asked_kept m n changes (known ns) at h below in
+        step P (is_none found) UnknownTable checks o
+        (λ none. (here, no_table m n changes namespace table (known ns) at h named kept (none_is found none)))
+        (λ there.
+          let is : found ≡ Some (the_table found) = some_is found looks.no_table there in
+          let seen = view_found m n (time_of at n) changes namespace table (known ns) (the_table found) h named kept (table_found m n changes (known ns) table at (the_table found) h is) in
+          rest seen.0 seen.1))))
+
+-- the look for all tablets of a table
+pub look_table_right : (m : Master) (n : ℕ) (changes : List Change) (namespace table : List ℕ) (at : Option ℕ) → IsAsked m n changes
+    → LookReplyRight (look_table namespace table at n m).reply changes (time_of at n) n namespace table []
+unfolding look_table opening
+look_table_right m n changes namespace table at h =
+    opening_right m n changes namespace table at [] [] _ h (λ f is. record { found = f; columns_are = ap (λ v. v.columns) (sym is); judged = refl })
+
+-- the look for the tablet of the keys of a batch
+pub look_keys_right : (m : Master) (n : ℕ) (changes : List Change) (namespace table : List ℕ) (batch : List NamedItem) (at : Option ℕ) → IsAsked m n changes
+    → LookReplyRight (look_keys namespace table batch at n m).reply changes (time_of at n) n namespace table batch
+unfolding look_keys opening
+look_keys_right m n changes namespace table batch at h =
+    let t = the_table (table_asked m.catalog.tables (known (namespace_named m.catalog.namespaces namespace)) table at) in
+    let fault = batch_fault t.schema.columns batch in
+    let home = holding m t.id (first_code batch) in
+    let other = other_code home batch in
+    let o = answered (Placed (map place_of (option_to_list home)) t.schema.version t.schema.columns) in
+    let P : Reply → Type 0 = λ reply. LookReplyRight reply changes (time_of at n) n namespace table batch in
+    let last : List Check = If (is_some other) (CrossTablet (first_code batch) (unwrap_or other 0)) ∷ [] in
+    opening_right m n changes namespace table at batch (If (is_some fault) (unwrap_or fault UnknownColumn) ∷ last) o h
+    (λ f is.
+      let same_fault : batch_fault f.view.columns batch ≡ fault = ap (λ v. batch_fault v.columns batch) is in
+      step P (is_some fault) (unwrap_or fault UnknownColumn) last o
+      (λ some. fault_right changes (time_of at n) n namespace table batch f fault (batch_faults t.schema.columns batch) same_fault some)
+      (λ none.
+        let fine : batch_fault f.view.columns batch ≡ None = same_fault ∙ not_some_is fault none in
+        step P (is_some other) (CrossTablet (first_code batch) (unwrap_or other 0)) [] o
+        (λ _. record { found = f; columns_are = tt; judged = fine })
+        (λ _. record { found = f; columns_are = ap (λ v. v.columns) (sym is); judged = fine })))

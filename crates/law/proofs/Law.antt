@@ -4,10 +4,9 @@ use Rattle.std.proofs.lemmas.Bool.Decides.{nat_tests}
 use Rattle.row_values.specs.Stamps as rule
 use Rattle.model.specs.Ids.{has}
 use Rattle.model.specs.Journal.{Change}
-use Rattle.model.specs.Acts.{Ask, AskPlan, AskWork, AskRemovable, AskPresent, Act, Look, Write, Read, Cutoff, Compact, Restart, Stats, Planned, Work, Removable, Present}
+use Rattle.model.specs.Acts.{Act, Look, Write, Read, Cutoff, Compact, Restart, Stats}
 use Rattle.model.specs.Parts.{Parts, start}
 use Rattle.model.specs.Entries.{Entry, slots_of, clock_at, stamp_of, ActAsked}
-use Rattle.model.specs.Looks.{look_plan, look_present, plan_of}
 use Rattle.model.specs.History.{outcome, told, replay, journal_of, Legal, Right, with_changes, ReplyRight}
 use Rattle.law_store.proofs.Keys.{either_way}
 use Rattle.law_invariants.specs.Invariant.{Inv, Keeps, Later}
@@ -15,29 +14,13 @@ use Rattle.law_invariants.proofs.Ticking.{nothing_told, KeepsAll}
 use Rattle.law_rows.proofs.Keeping.{stats_keeps, restart_keeps, compact_keeps, cutoff_keeps}
 use Rattle.law_rows.proofs.Writing.{write_keeps}
 use Rattle.law_rows.proofs.Reading.{read_keeps}
-use Rattle.law.specs.Covering.{AskCovered, ActCovered, Covered}
+use Rattle.law_rows.proofs.Looking.{look_keeps}
+use Rattle.law.specs.Covering.{ActCovered, Covered}
 use Rattle.law.proofs.Starting.{start_holds}
-
--- a look that only answers
-plan_keeps : (command : _) (n : ℕ) (ps : Parts) (changes : List Change) → Later (slots_of (Look (AskPlan command))) ps n → Inv ps changes
-    → KeepsAll (Look (AskPlan command)) n ps changes (look_plan command ps.master)
-unfolding look_plan
-plan_keeps command n ps changes later inv = record { right = tt; inv = nothing_told (Look (AskPlan command)) (Planned (plan_of command ps.master)) n ps changes later inv }
-
-present_keeps : (n : ℕ) (ps : Parts) (changes : List Change) → Later (slots_of (Look AskPresent)) ps n → Inv ps changes → KeepsAll (Look AskPresent) n ps changes (look_present ps.master)
-unfolding look_present
-present_keeps n ps changes later inv = record { right = tt; inv = nothing_told (Look AskPresent) (look_present ps.master).reply n ps changes later inv }
-
-look_keeps : (ask : Ask) (n : ℕ) (ps : Parts) (changes : List Change) → Later (slots_of (Look ask)) ps n → AskCovered ask → Inv ps changes → KeepsAll (Look ask) n ps changes (outcome (Look ask) n ps)
-look_keeps (AskPlan command) n ps changes later covered inv = plan_keeps command n ps changes later inv
-look_keeps AskWork n ps changes later covered inv = record { right = tt; inv = nothing_told (Look AskWork) (outcome (Look AskWork) n ps).reply n ps changes later inv }
-look_keeps AskRemovable n ps changes later covered inv = record { right = tt; inv = nothing_told (Look AskRemovable) (outcome (Look AskRemovable) n ps).reply n ps changes later inv }
-look_keeps AskPresent n ps changes later covered inv = present_keeps n ps changes later inv
-look_keeps _ n ps changes later covered inv = absurd covered
 
 -- each act that is covered keeps what holds
 act_keeps : (act : Act) (slots n : ℕ) (ps : Parts) (changes : List Change) → Later (slots_of act) ps n → ActAsked slots act → ActCovered act → Inv ps changes → KeepsAll act n ps changes (outcome act n ps)
-act_keeps (Look ask) slots n ps changes later asked covered inv = look_keeps ask n ps changes later covered inv
+act_keeps (Look ask) slots n ps changes later asked covered inv = look_keeps ask n ps changes later inv
 act_keeps (Write place version batch) slots n ps changes later asked covered inv = write_keeps ps changes n place version batch later asked.0.0 inv
 act_keeps (Read places version key at columns) slots n ps changes later asked covered inv = read_keeps slots ps changes n places version key at columns later asked.1 inv
 act_keeps (Cutoff slot) slots n ps changes later asked covered inv = cutoff_keeps ps changes n slot later asked.0 inv

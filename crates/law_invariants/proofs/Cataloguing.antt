@@ -8,11 +8,12 @@ use Rattle.model.specs.Journal.{Change, ChangeAct, TableRenamed, TableDropped, C
 use Rattle.model.specs.Entries.{NamesDiffer}
 use Rattle.model.specs.Acts.{CreateNamespace, DropNamespace, CreateTable, AddColumn, DropColumn, RenameTable, DropTable}
 use Rattle.model.specs.Parts.{Master}
-use Rattle.model.specs.Looks.{known, table_of, the_table}
+use Rattle.model.specs.Looks.{known, table_of, the_table, no_table}
 use Rattle.model.specs.Changed.{changed, next_namespace, next_table}
 use Rattle.model.specs.Changes.{named, clone_named, table_id}
 use Rattle.model.specs.History.{with, with_table, with_command, id_of_column}
 use Rattle.law_invariants.specs.Invariant.{NamespacesStand, TablesStand, MasterGood}
+use Rattle.law_invariants.proofs.Finding.{some_is, not_some_is}
 use Rattle.law_invariants.proofs.Names.{names_kept, names_made, names_dropped}
 use Rattle.law_invariants.proofs.Records.{IsCurrent, current_named_is}
 use Rattle.law_invariants.proofs.Tables.{tables_namespace_made, tables_namespace_dropped, tables_made, tables_dropped, tables_column_added, tables_column_dropped, tables_renamed}
@@ -31,17 +32,9 @@ none_left : {A : Type 0} (a b : Option A) → is_some (option_or a b) ≡ false 
 none_left None b e = refl
 none_left (Some x) b e = cc
 
-not_some : {A : Type 0} (a : Option A) → is_some a ≡ false → a ≡ None
-not_some None e = refl
-not_some (Some x) e = cc
-
 not_table : (a : Option TableRecord) → is_some (table_id a) ≡ false → a ≡ None
 not_table None e = refl
 not_table (Some x) e = cc
-
-the_found : (a : Option TableRecord) → is_none a ≡ false → a ≡ Some (the_table a)
-the_found None e = cc
-the_found (Some x) e = refl
 
 some_column : (a : Option Column) → is_none a ≡ false → (c : Column) × (a ≡ Some c)
 some_column None e = cc
@@ -88,7 +81,7 @@ tabled (Some t) act n changes e = refl
 
 table_current : (m : Master) (namespace table : List ℕ) → is_none (table_of m namespace table) ≡ false
     → IsCurrent m.catalog.tables (known (namespace_named m.catalog.namespaces namespace)) table (the_table (table_of m namespace table))
-table_current m namespace table e = current_named_is m.catalog.tables (known (namespace_named m.catalog.namespaces namespace)) table (the_table (table_of m namespace table)) (the_found (table_of m namespace table) e)
+table_current m namespace table e = current_named_is m.catalog.tables (known (namespace_named m.catalog.namespaces namespace)) table (the_table (table_of m namespace table)) (some_is (table_of m namespace table) no_table e)
 
 pub catalog_column_added : (m : Master) (n : ℕ) (namespace table name : List ℕ) (kind : ColumnKind) (slots : List ℕ) (ids : List Id) (changes : List Change) → m.clock ≤ n → is_none (table_of m namespace table) ≡ false
     → is_some (column_named (the_table (table_of m namespace table)).schema.columns name) ≡ false → CatalogStands m changes
@@ -100,7 +93,7 @@ catalog_column_added m n namespace table name kind slots ids changes le known_ f
     let act : TableRecord → ChangeAct = λ t. ColumnAdded t.id (record { id = t.schema.next; name = name; kind = kind }) in
     subst (CatalogStands (changed (AddColumn namespace table name kind) slots n m)) (sym (tabled (table_of m namespace table) act n changes known_)) (record {
       namespaces = names_kept m.catalog.namespaces m.clock m.drawn.namespaces n m.drawn.namespaces _ changes le (le_refl _) tt h.namespaces;
-      tables = tables_column_added m.catalog m.clock m.drawn.tables n t name kind changes le is.listed is.current (not_some (column_named t.schema.columns name) free) h.tables;
+      tables = tables_column_added m.catalog m.clock m.drawn.tables n t name kind changes le is.listed is.current (not_some_is (column_named t.schema.columns name) free) h.tables;
     })
 
 pub catalog_column_dropped : (m : Master) (n : ℕ) (namespace table name : List ℕ) (slots : List ℕ) (ids : List Id) (changes : List Change) → m.clock ≤ n → is_none (table_of m namespace table) ≡ false

@@ -15,7 +15,7 @@ use Rattle.model.specs.Parts.{Master, Check, If, Outcome, judged, answered}
 use Rattle.model.specs.Right.{NamespaceFound, TableFound, LookReplyRight}
 use Rattle.law_store.proofs.Keys.{either_way}
 use Rattle.law_invariants.specs.Invariant.{NamespacesStand, TablesStand, MasterGood, view_of, view_at}
-use Rattle.law_invariants.proofs.Finding.{none_or_some}
+use Rattle.law_invariants.proofs.Finding.{none_or_some, none_is, some_is, not_some_is}
 use Rattle.law_invariants.proofs.Names.{named_by_name, name_by_named}
 use Rattle.law_invariants.proofs.Records.{current_named_at, current_table_at, table_named_is, record_at_is, IsNamedAt}
 
@@ -141,22 +141,6 @@ no_table m n changes namespace table ns at h named kept none f =
 step : (P : Reply → Type 0) (comes : Bool) (why : Refusal) (checks : List Check) (o : Outcome) → (comes ≡ true → P (Refused why)) → (comes ≡ false → P (judged checks o).reply) → P (judged (If comes why ∷ checks) o).reply
 step P true why checks o comes_ goes = comes_ refl
 step P false why checks o comes_ goes = goes refl
-
-none_is : {A : Type 0} (o : Option A) → is_none o ≡ true → o ≡ None
-none_is None e = refl
-none_is (Some x) e = cc
-
-some_is : {A : Type 0} (o : Option A) (d : A) → is_none o ≡ false → o ≡ Some (unwrap_or o d)
-some_is None d e = cc
-some_is (Some x) d e = refl
-
-is_some_is : {A : Type 0} (o : Option A) (d : A) → is_some o ≡ true → o ≡ Some (unwrap_or o d)
-is_some_is None d e = cc
-is_some_is (Some x) d e = refl
-
-not_some_is : {A : Type 0} (o : Option A) → is_some o ≡ false → o ≡ None
-not_some_is None e = refl
-not_some_is (Some x) e = cc
 
 -- a fault of a batch is one of its columns
 

@@ -11,6 +11,7 @@ use Rattle.model.specs.Catalog.{TableRecord, KeptFrom, Owner, table_named, curre
 use Rattle.model.specs.Restored.{record_at}
 use Rattle.law_store.proofs.Keys.{either_way, equal_keys}
 use Rattle.law_invariants.specs.Invariant.{IsPast, view_of, view_at}
+use Rattle.law_invariants.proofs.Names.{end_past}
 use Rattle.law_invariants.proofs.Finding.{both_pass, passes_both, first_fails, second_fails, not_passing, same_equal, same_self, not_same, apart_by_number, in_mapped, find_is, none_found, find_alike, find_mapped, find_through, find_added, find_beside, find_before}
 
 abbrev pub has_title : Id → List ℕ → TableRecord → Bool
@@ -134,18 +135,6 @@ record_beside rs r id x n = record_at_found (rs ++ r ∷ []) id x ∙ find_besid
 
 abbrev pub end_one : Id → ℕ → TableRecord → TableRecord
 end_one id at r = record r { to = cond (same r.id id) (ended at r.to) r.to }
-
-pub ended_past : (from time at : ℕ) (to : Option ℕ) → time ≤ at → IsPast time from to → IsPast at from (ended at to)
-ended_past from time at None le h = record { begun = le_trans h.begun le; ended = (le_trans h.begun le, le_refl at) }
-ended_past from time at (Some to) le h = record { begun = le_trans h.begun le; ended = (h.ended.0, le_trans h.ended.1 le) }
-
-past_stays : (from time at : ℕ) (to : Option ℕ) → time ≤ at → IsPast time from to → IsPast at from to
-past_stays from time at None le h = record { begun = le_trans h.begun le; ended = tt }
-past_stays from time at (Some to) le h = record { begun = le_trans h.begun le; ended = (h.ended.0, le_trans h.ended.1 le) }
-
-end_past : (b : Bool) (from time at : ℕ) (to : Option ℕ) → time ≤ at → IsPast time from to → IsPast at from (cond b (ended at to) to)
-end_past true from time at to le h = ended_past from time at to le h
-end_past false from time at to le h = past_stays from time at to le h
 
 pub table_end_past : (rs : List TableRecord) (id : Id) (time at : ℕ) → time ≤ at → Past rs time → Past (end_table id at rs) at
 table_end_past rs id time at le past = in_mapped (end_one id at) (λ r. IsPast at r.from r.to) rs (λ r isin. end_past (same r.id id) r.from time at r.to le (past r isin))

@@ -1,7 +1,6 @@
 -- The columns of a schema stand apart by name and by id, whatever is made of it.
-use Rattle.std.proofs.Common.{ℕ, ◌≡◌, ◌≢◌, ◌<◌, ◌≤◌, ◌+◌, Bool, true, false, cond, ◌&&◌, not, List, [], ◌∷◌, ◌++◌, length, Option, Some, None, inl, inr, refl, sym, ap, subst, ◌∙◌, arith, le_trans, le_refl, eqb}
-use Rattle.std.specs.List.{find, filter}
-use Rattle.std.proofs.lemmas.Bool.{cond_both, true≢false}
+use Rattle.std.proofs.Common.{ℕ, ◌≡◌, ◌<◌, ◌≤◌, ◌+◌, Bool, false, cond, not, List, [], ◌∷◌, length, Some, None, inl, inr, refl, sym, ap, ◌∙◌, arith, eqb}
+use Rattle.std.specs.List.{filter}
 use Rattle.std.proofs.lemmas.Bool.Decides.{nat_tests}
 use Rattle.std.specs.Str.{bytes_eq}
 use Rattle.model.specs.Ids.{In}
@@ -9,7 +8,7 @@ use Rattle.model.specs.Schema.{Schema, Column, ColumnKind, NewColumn, column_nam
 use Rattle.model.specs.Entries.{NotNamed, NamesDiffer}
 use Rattle.law_store.proofs.Keys.{either_way, equal_keys, key_self, key_sym}
 use Rattle.law_invariants.specs.Invariant.{ColumnsStand}
-use Rattle.law_invariants.proofs.Finding.{not_passing, in_added}
+use Rattle.law_invariants.proofs.Finding.{in_added}
 
 in_chosen : {A : Type 0} (test : A → Bool) (xs : List A) (a : A) → In a (filter test xs) → In a xs
 in_chosen test [] a isin = absurd isin
@@ -74,23 +73,25 @@ pub columns_added : (name : List ℕ) (kind : ColumnKind) (s : Schema) → colum
 columns_added name kind s free h =
     let new : Column = record { id = s.next; name = name; kind = kind } in
     let old_new : (c : Column) → In c s.columns → bytes_eq c.name name ≡ eqb c.id s.next =
-        λ c ic. none_named s.columns name free c ic ∙ (let q = h.drawn c ic in grind (arith, nat_tests)) in
+    λ c ic. none_named s.columns name free c ic ∙ (let q = h.drawn c ic in grind (arith, nat_tests)) in
     let new_old : (c : Column) → In c s.columns → bytes_eq name c.name ≡ eqb s.next c.id =
-        λ c ic. key_sym c.name name (none_named s.columns name free c ic) ∙ (let q = h.drawn c ic in grind (arith, nat_tests)) in
+    λ c ic. key_sym c.name name (none_named s.columns name free c ic) ∙ (let q = h.drawn c ic in grind (arith, nat_tests)) in
     record {
       apart = λ c d ic id_.
           in_added (λ x. bytes_eq x.name d.name ≡ eqb x.id d.id) s.columns new
-            (λ x ix. in_added (λ y. bytes_eq x.name y.name ≡ eqb x.id y.id) s.columns new (λ y iy. h.apart x y ix iy) (old_new x ix) d id_)
-            (in_added (λ y. bytes_eq name y.name ≡ eqb s.next y.id) s.columns new new_old (key_self name ∙ grind (arith, nat_tests)) d id_)
-            c ic;
-      drawn = in_added (λ x. x.id < s.next + 1) s.columns new (λ x ix. let q = h.drawn x ix in omega arith) (omega arith) }
+          (λ x ix. in_added (λ y. bytes_eq x.name y.name ≡ eqb x.id y.id) s.columns new (λ y iy. h.apart x y ix iy) (old_new x ix) d id_)
+          (in_added (λ y. bytes_eq name y.name ≡ eqb s.next y.id) s.columns new new_old (key_self name ∙ grind (arith, nat_tests)) d id_)
+          c ic;
+      drawn = in_added (λ x. x.id < s.next + 1) s.columns new (λ x ix. let q = h.drawn x ix in omega arith) (omega arith);
+    }
 
 -- One column less
 
 pub columns_dropped : (name : List ℕ) (s : Schema) → ColumnsStand s → ColumnsStand (without_column name s)
 columns_dropped name s h = record {
-    apart = λ c d ic id_. h.apart c d (in_chosen _ s.columns c ic) (in_chosen _ s.columns d id_);
-    drawn = λ c ic. h.drawn c (in_chosen _ s.columns c ic) }
+  apart = λ c d ic id_. h.apart c d (in_chosen _ s.columns c ic) (in_chosen _ s.columns d id_);
+  drawn = λ c ic. h.drawn c (in_chosen _ s.columns c ic);
+}
 
 named_column : (cs : List Column) (name : List ℕ) (c : Column) → column_named cs name ≡ Some c → In c cs × (c.name ≡ name)
 named_column [] name c e = cc

@@ -1,8 +1,7 @@
 -- Members of lists, and the first member that passes a test.
-use Rattle.std.proofs.Common.{ℕ, ◌≡◌, ◌≢◌, ◌<◌, ◌≤◌, Bool, true, false, cond, ◌&&◌, List, [], ◌∷◌, ◌++◌, Option, Some, None, ◌⊎◌, inl, inr, map, refl, sym, ap, subst, ◌∙◌, eqb, eqb-true, arith}
-use Rattle.std.specs.List.{find, filter}
-use Rattle.std.specs.Option.{option_or, option_map}
-use Rattle.std.proofs.lemmas.Bool.{cond_both, true≢false}
+use Rattle.std.proofs.Common.{ℕ, ◌≡◌, ◌≢◌, ◌<◌, Bool, true, false, cond, ◌&&◌, List, [], ◌∷◌, ◌++◌, Option, Some, None, ◌⊎◌, inl, inr, map, refl, sym, ap, subst, ◌∙◌, eqb, eqb-true, arith}
+use Rattle.std.specs.List.{find}
+use Rattle.std.specs.Option.{option_map, is_some, is_none, unwrap_or}
 use Rattle.std.proofs.lemmas.Bool.Decides.{nat_tests}
 use Rattle.model.specs.Ids.{Kind, Namespace, Table, Tablet, Schedule, Snapshot, Restoration, Clone, kind_digit, Id, same, In}
 use Rattle.law_store.proofs.Keys.{either_way}
@@ -35,6 +34,20 @@ not_passing false h = refl
 pub none_or_some : {A : Type 0} {P : Type 0} (o : Option A) → (o ≡ None → P) → ((x : A) → o ≡ Some x → P) → P
 none_or_some None none some = none refl
 none_or_some (Some x) none some = some x refl
+
+-- Options
+
+pub none_is : {A : Type 0} (o : Option A) → is_none o ≡ true → o ≡ None
+none_is None e = refl
+none_is (Some x) e = cc
+
+pub not_some_is : {A : Type 0} (o : Option A) → is_some o ≡ false → o ≡ None
+not_some_is None e = refl
+not_some_is (Some x) e = cc
+
+pub some_is : {A : Type 0} (o : Option A) (d : A) → is_none o ≡ false → o ≡ Some (unwrap_or o d)
+some_is None d e = cc
+some_is (Some x) d e = refl
 
 -- Identifiers
 
@@ -88,8 +101,9 @@ in_second (x ∷ xs) ys a isin = inr (in_second xs ys a isin)
 -- a member of a list with one more is an old one, or that
 pub in_added : {A : Type 0} (P : A → Type 0) (xs : List A) (y : A) → ((a : A) → In a xs → P a) → P y → (a : A) → In a (xs ++ y ∷ []) → P a
 in_added P xs y old new a isin = elim (in_append xs (y ∷ []) a isin) [
-    inl h ↦ old a h
-  | inr h ↦ elim h [ inl e ↦ subst P e new | inr none ↦ absurd none ] ]
+  | inl h ↦ old a h
+  | inr h ↦ elim h [ inl e ↦ subst P e new | inr none ↦ absurd none ]
+]
 
 -- what holds of the image of each member holds of each member of the image
 pub in_mapped : {A B : Type 0} (f : A → B) (P : B → Type 0) (xs : List A) → ((a : A) → In a xs → P (f a)) → (b : B) → In b (map f xs) → P b

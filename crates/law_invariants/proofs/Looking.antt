@@ -1,23 +1,23 @@
 -- What the looks for keys and for a table answer is right.
-use Rattle.std.proofs.Common.{ℕ, ◌≡◌, ◌≢◌, ◌<◌, ◌≤◌, Bool, true, false, cond, ◌&&◌, List, [], ◌∷◌, map, Option, Some, None, ◌⊎◌, inl, inr, refl, sym, ap, subst, ◌∙◌, arith, le_trans, le_refl, le_of_lt, ltb}
+use Rattle.std.proofs.Common.{ℕ, ◌≡◌, ◌<◌, ◌≤◌, Bool, true, false, List, [], ◌∷◌, map, Option, Some, None, refl, sym, ap, subst, ◌∙◌, le_trans, le_of_lt}
 use Rattle.std.specs.Option.{option_map, is_some, is_none, unwrap_or, option_or, option_to_list}
-use Rattle.std.proofs.lemmas.Bool.{true≢false, ltb-false, cond_both}
-use Rattle.model.specs.Ids.{Id, same, In, no_id}
-use Rattle.model.specs.Times.{is_open, holds_at, time_of, is_future, is_below}
+use Rattle.std.proofs.lemmas.Bool.{ltb-false, cond_both}
+use Rattle.model.specs.Ids.{Id, In, no_id}
+use Rattle.model.specs.Times.{holds_at, time_of, is_future, is_below}
 use Rattle.model.specs.Schema.{Column, column_named, is_of_kind}
-use Rattle.model.specs.Catalog.{Catalog, NamespaceRecord, TableRecord, namespace_named, name_of, table_named, current_named, current_table, owner_of, kept_from}
+use Rattle.model.specs.Catalog.{TableRecord, namespace_named, name_of, table_named, current_named, current_table, kept_from}
 use Rattle.model.specs.Restored.{record_at}
-use Rattle.model.specs.Journal.{Change, TableView, namespace_at, table_at}
+use Rattle.model.specs.Journal.{Change, namespace_at, table_at}
 use Rattle.model.specs.Looks as looks
 use Rattle.model.specs.Looks.{holding, first_code, other_code, place_of, known, the_table, table_asked, if_current, value_fault, cells_fault, op_fault, batch_fault, look_keys, look_table}
 use Rattle.model.specs.Acts.{NamedCell, NamedOp, NamedUpsert, NamedDelete, NamedItem, Refusal, UnknownNamespace, UnknownTable, UnknownColumn, WrongKind, CrossTablet, Future, TooOld, Reply, Placed, Refused}
-use Rattle.model.specs.Parts.{Master, Check, If, Outcome, judged, refused, answered}
-use Rattle.model.specs.Right.{NamespaceFound, TableFound, LookRight, AnyColumns, LookReplyRight}
+use Rattle.model.specs.Parts.{Master, Check, If, Outcome, judged, answered}
+use Rattle.model.specs.Right.{NamespaceFound, TableFound, LookReplyRight}
 use Rattle.law_store.proofs.Keys.{either_way}
 use Rattle.law_invariants.specs.Invariant.{NamespacesStand, TablesStand, MasterGood, view_of, view_at}
-use Rattle.law_invariants.proofs.Finding.{none_or_some}
+use Rattle.law_invariants.proofs.Finding.{none_or_some, none_is, some_is, not_some_is}
 use Rattle.law_invariants.proofs.Names.{named_by_name, name_by_named}
-use Rattle.law_invariants.proofs.Records.{now_holds, current_named_at, current_table_at, table_named_is, record_at_is, IsNamedAt, IsTableAt}
+use Rattle.law_invariants.proofs.Records.{current_named_at, current_table_at, table_named_is, record_at_is, IsNamedAt}
 
 -- what holds of the master's catalog at a look
 pub record IsAsked (m : Master) (n : ℕ) (changes : List Change) : Type 0 where
@@ -67,8 +67,8 @@ found_then : (m : Master) (n x : ℕ) (ns : Id) (table : List ℕ) (t : TableRec
 found_then m n x ns table t None is e = cc
 found_then m n x ns table t (Some s) is e = either_way (is_some (current_table m.catalog.tables s.id))
     (λ current. let same_record : s ≡ t = (let q : Some s ≡ Some t = rw current at e in cc) in
-      let P : TableRecord → Type 0 = IsFoundAt m n x ns table in
-      subst P same_record (record { is = table_named_is m.catalog.tables ns table x s is; current = current }))
+    let P : TableRecord → Type 0 = IsFoundAt m n x ns table in
+    subst P same_record (record { is = table_named_is m.catalog.tables ns table x s is; current = current }))
     (λ gone. let q : None ≡ Some t = rw gone at e in cc)
 
 table_found : (m : Master) (n : ℕ) (changes : List Change) (ns : Id) (table : List ℕ) (at : Option ℕ) (t : TableRecord) → IsAsked m n changes → table_asked m.catalog.tables ns table at ≡ Some t → IsFoundAt m n (time_of at n) ns table t
@@ -92,18 +92,21 @@ view_found : (m : Master) (n x : ℕ) (changes : List Change) (namespace table :
 view_found m n x changes namespace table ns t h named kept f =
     let kept_then : kept_from m.catalog.kept_from t.namespace ≤ x = subst (λ k. kept_from m.catalog.kept_from k ≤ x) (sym f.is.namespace_is) kept in
     let current : is_some (table_at changes n t.id) ≡ true =
-      ap is_some (h.tables.viewed t.id t.namespace n (h.tables.owned t f.is.listed) (le_trans (h.tables.kept t.namespace) h.later))
-      ∙ some_mapped (record_at m.catalog.tables t.id n)
-      ∙ ap is_some (sym (current_table_at m.catalog.tables m.clock n t.id h.tables.past h.later)) ∙ f.current in
-    (record {
-      owner = ns;
-      owner_named = namespace_found m n changes namespace ns h named;
-      id = t.id;
-      view = view_of t;
-      found = record_viewed m n changes x t h f.is.listed f.is.holds kept_then;
-      inside = f.is.namespace_is;
-      named = f.is.name_is;
-      current = current }, refl)
+    ap is_some (h.tables.viewed t.id t.namespace n (h.tables.owned t f.is.listed) (le_trans (h.tables.kept t.namespace) h.later))
+    ∙ some_mapped (record_at m.catalog.tables t.id n)
+    ∙ ap is_some (sym (current_table_at m.catalog.tables m.clock n t.id h.tables.past h.later)) ∙ f.current in (
+      record {
+        owner = ns;
+        owner_named = namespace_found m n changes namespace ns h named;
+        id = t.id;
+        view = view_of t;
+        found = record_viewed m n changes x t h f.is.listed f.is.holds kept_then;
+        inside = f.is.namespace_is;
+        named = f.is.name_is;
+        current = current;
+      },
+      refl,
+    )
 
 -- and where the records have none, the view has none
 no_table : (m : Master) (n : ℕ) (changes : List Change) (namespace table : List ℕ) (ns : Id) (at : Option ℕ) → IsAsked m n changes → namespace_named m.catalog.namespaces namespace ≡ Some ns
@@ -120,17 +123,17 @@ no_table m n changes namespace table ns at h named kept none f =
     none_or_some (record_at rs f.id x)
     (λ gone. let q : None ≡ Some f.view = sym (ap (option_map view_of) gone) ∙ seen in cc)
     (λ r there.
-      let is = record_at_is rs f.id x r there in
-      let same_view : view_of r ≡ f.view = (let q : Some (view_of r) ≡ Some f.view = sym (ap (option_map view_of) there) ∙ seen in cc) in
-      let namespace_is : r.namespace ≡ ns = ap (λ v. v.namespace) same_view ∙ view_is in
-      let name_is : r.name ≡ table = ap (λ v. v.name) same_view ∙ f.named in
-      let first = h.tables.unique x r is.listed is.holds in
-      let found : table_named rs ns table x ≡ Some r = sym (ap (λ k. table_named rs k r.name x) namespace_is ∙ ap (λ k. table_named rs ns k x) name_is) ∙ first in
-      let owned_now = h.tables.viewed f.id f.view.namespace n owned (le_trans (h.tables.kept f.view.namespace) h.later) in
-      let current : is_some (current_table rs r.id) ≡ true =
-        ap (λ k. is_some (current_table rs k)) is.id_is ∙ ap is_some (current_table_at rs m.clock n f.id h.tables.past h.later)
-        ∙ sym (some_mapped (record_at rs f.id n)) ∙ ap is_some (sym owned_now) ∙ f.current in
-      asked_none m n changes ns table at r h none found current)
+    let is = record_at_is rs f.id x r there in
+    let same_view : view_of r ≡ f.view = (let q : Some (view_of r) ≡ Some f.view = sym (ap (option_map view_of) there) ∙ seen in cc) in
+    let namespace_is : r.namespace ≡ ns = ap (λ v. v.namespace) same_view ∙ view_is in
+    let name_is : r.name ≡ table = ap (λ v. v.name) same_view ∙ f.named in
+    let first = h.tables.unique x r is.listed is.holds in
+    let found : table_named rs ns table x ≡ Some r = sym (ap (λ k. table_named rs k r.name x) namespace_is ∙ ap (λ k. table_named rs ns k x) name_is) ∙ first in
+    let owned_now = h.tables.viewed f.id f.view.namespace n owned (le_trans (h.tables.kept f.view.namespace) h.later) in
+    let current : is_some (current_table rs r.id) ≡ true =
+    ap (λ k. is_some (current_table rs k)) is.id_is ∙ ap is_some (current_table_at rs m.clock n f.id h.tables.past h.later)
+    ∙ sym (some_mapped (record_at rs f.id n)) ∙ ap is_some (sym owned_now) ∙ f.current in
+    asked_none m n changes ns table at r h none found current)
 
 -- Judging
 
@@ -138,22 +141,6 @@ no_table m n changes namespace table ns at h named kept none f =
 step : (P : Reply → Type 0) (comes : Bool) (why : Refusal) (checks : List Check) (o : Outcome) → (comes ≡ true → P (Refused why)) → (comes ≡ false → P (judged checks o).reply) → P (judged (If comes why ∷ checks) o).reply
 step P true why checks o comes_ goes = comes_ refl
 step P false why checks o comes_ goes = goes refl
-
-none_is : {A : Type 0} (o : Option A) → is_none o ≡ true → o ≡ None
-none_is None e = refl
-none_is (Some x) e = cc
-
-some_is : {A : Type 0} (o : Option A) (d : A) → is_none o ≡ false → o ≡ Some (unwrap_or o d)
-some_is None d e = cc
-some_is (Some x) d e = refl
-
-is_some_is : {A : Type 0} (o : Option A) (d : A) → is_some o ≡ true → o ≡ Some (unwrap_or o d)
-is_some_is None d e = cc
-is_some_is (Some x) d e = refl
-
-not_some_is : {A : Type 0} (o : Option A) → is_some o ≡ false → o ≡ None
-not_some_is None e = refl
-not_some_is (Some x) e = cc
 
 -- a fault of a batch is one of its columns
 
@@ -211,7 +198,7 @@ opening m namespace table at n checks =
 
 opening_right : (m : Master) (n : ℕ) (changes : List Change) (namespace table : List ℕ) (at : Option ℕ) (batch : List NamedItem) (checks : List Check) (o : Outcome) → IsAsked m n changes
     → ((f : TableFound changes (time_of at n) n namespace table) → f.view ≡ view_of (the_table (table_asked m.catalog.tables (known (namespace_named m.catalog.namespaces namespace)) table at))
-        → LookReplyRight (judged checks o).reply changes (time_of at n) n namespace table batch)
+    → LookReplyRight (judged checks o).reply changes (time_of at n) n namespace table batch)
     → LookReplyRight (judged (opening m namespace table at n checks) o).reply changes (time_of at n) n namespace table batch
 unfolding opening
 opening_right m n changes namespace table at batch checks o h rest =
@@ -224,18 +211,18 @@ opening_right m n changes namespace table at batch checks o h rest =
     step P (is_none ns) UnknownNamespace (If (is_future at n) (Future n) ∷ third) o
     (λ none. no_namespace m n changes namespace h (none_is ns none))
     (λ some.
-      let named : ns ≡ Some (known ns) = some_is ns no_id some in
-      let here : NamespaceFound changes n namespace = record { id = known ns; named = namespace_found m n changes namespace (known ns) h named } in
-      step P (is_future at n) (Future n) third o (λ _. here)
-      (λ _. step P (is_below at from) (TooOld (time_of at n) from) fourth o (λ _. here)
-      (λ below.
-        let kept = asked_kept m n changes (known ns) at h below in
-        step P (is_none found) UnknownTable checks o
-        (λ none. (here, no_table m n changes namespace table (known ns) at h named kept (none_is found none)))
-        (λ there.
-          let is : found ≡ Some (the_table found) = some_is found looks.no_table there in
-          let seen = view_found m n (time_of at n) changes namespace table (known ns) (the_table found) h named kept (table_found m n changes (known ns) table at (the_table found) h is) in
-          rest seen.0 seen.1))))
+    let named : ns ≡ Some (known ns) = some_is ns no_id some in
+    let here : NamespaceFound changes n namespace = record { id = known ns; named = namespace_found m n changes namespace (known ns) h named } in
+    step P (is_future at n) (Future n) third o (λ _. here)
+    (λ _. step P (is_below at from) (TooOld (time_of at n) from) fourth o (λ _. here)
+    (λ below.
+    let kept = asked_kept m n changes (known ns) at h below in
+    step P (is_none found) UnknownTable checks o
+    (λ none. (here, no_table m n changes namespace table (known ns) at h named kept (none_is found none)))
+    (λ there.
+    let is : found ≡ Some (the_table found) = some_is found looks.no_table there in
+    let seen = view_found m n (time_of at n) changes namespace table (known ns) (the_table found) h named kept (table_found m n changes (known ns) table at (the_table found) h is) in
+    rest seen.0 seen.1))))
 
 -- the look for all tablets of a table
 pub look_table_right : (m : Master) (n : ℕ) (changes : List Change) (namespace table : List ℕ) (at : Option ℕ) → IsAsked m n changes
@@ -258,11 +245,11 @@ look_keys_right m n changes namespace table batch at h =
     let last : List Check = If (is_some other) (CrossTablet (first_code batch) (unwrap_or other 0)) ∷ [] in
     opening_right m n changes namespace table at batch (If (is_some fault) (unwrap_or fault UnknownColumn) ∷ last) o h
     (λ f is.
-      let same_fault : batch_fault f.view.columns batch ≡ fault = ap (λ v. batch_fault v.columns batch) is in
-      step P (is_some fault) (unwrap_or fault UnknownColumn) last o
-      (λ some. fault_right changes (time_of at n) n namespace table batch f fault (batch_faults t.schema.columns batch) same_fault some)
-      (λ none.
-        let fine : batch_fault f.view.columns batch ≡ None = same_fault ∙ not_some_is fault none in
-        step P (is_some other) (CrossTablet (first_code batch) (unwrap_or other 0)) [] o
-        (λ _. record { found = f; columns_are = tt; judged = fine })
-        (λ _. record { found = f; columns_are = ap (λ v. v.columns) (sym is); judged = fine })))
+    let same_fault : batch_fault f.view.columns batch ≡ fault = ap (λ v. batch_fault v.columns batch) is in
+    step P (is_some fault) (unwrap_or fault UnknownColumn) last o
+    (λ some. fault_right changes (time_of at n) n namespace table batch f fault (batch_faults t.schema.columns batch) same_fault some)
+    (λ none.
+    let fine : batch_fault f.view.columns batch ≡ None = same_fault ∙ not_some_is fault none in
+    step P (is_some other) (CrossTablet (first_code batch) (unwrap_or other 0)) [] o
+    (λ _. record { found = f; columns_are = tt; judged = fine })
+    (λ _. record { found = f; columns_are = ap (λ v. v.columns) (sym is); judged = fine })))

@@ -1,17 +1,17 @@
 -- The names of namespaces: by the master's records, and in the view of the journal.
-use Rattle.std.proofs.Common.{ℕ, ◌≡◌, ◌≢◌, ◌<◌, ◌≤◌, ◌+◌, Bool, true, false, cond, ◌&&◌, List, [], ◌∷◌, ◌++◌, Option, Some, None, refl, sym, ap, subst, ◌∙◌, arith, le_trans, le_refl, le-leb, leb}
+use Rattle.std.proofs.Common.{ℕ, ◌≡◌, ◌<◌, ◌≤◌, Bool, true, false, cond, ◌&&◌, List, [], ◌∷◌, ◌++◌, Option, Some, None, refl, sym, ap, subst, ◌∙◌, arith, le_trans, le_refl, le-leb, leb}
 use Rattle.std.specs.List.{find}
 use Rattle.std.specs.Option.{option_map}
 use Rattle.std.proofs.lemmas.Bool.{cond_both, true≢false}
 use Rattle.std.specs.Str.{bytes_eq}
-use Rattle.model.specs.Ids.{Id, same, In, Namespace as NamespaceKind}
+use Rattle.model.specs.Ids.{Id, same, In}
 use Rattle.model.specs.Times.{is_open, ended}
-use Rattle.model.specs.Catalog.{Catalog, NamespaceRecord, namespace_named, name_of, end_namespace}
-use Rattle.model.specs.Journal.{Change, ChangeAct, NamespaceMade, NamespaceDropped, TableMade, TableRenamed, TableDropped, ColumnAdded, ColumnDropped, RowChanged, NamespaceRestored, NamespaceCloned, name_after, namespace_at}
+use Rattle.model.specs.Catalog.{NamespaceRecord, namespace_named, name_of, end_namespace}
+use Rattle.model.specs.Journal.{Change, ChangeAct, NamespaceMade, NamespaceDropped, NamespaceCloned, name_after, namespace_at}
 use Rattle.law_store.proofs.Keys.{either_way, equal_keys, key_self}
-use Rattle.law_invariants.specs.Invariant.{EndsBy, IsPast, NamespacesStand}
-use Rattle.law_invariants.proofs.Finding.{both_pass, passes_both, first_fails, second_fails, not_passing, none_or_some, same_equal, same_self, not_same, apart_by_number, in_added, in_mapped, IsFound, find_is, find_none, none_found, find_alike, find_mapped, find_through, find_added, find_beside, find_before}
-use Rattle.law_invariants.proofs.Ticking.{past_later, ends_later}
+use Rattle.law_invariants.specs.Invariant.{IsPast, NamespacesStand}
+use Rattle.law_invariants.proofs.Finding.{both_pass, first_fails, second_fails, none_or_some, same_equal, same_self, not_same, apart_by_number, in_added, in_mapped, find_is, none_found}
+use Rattle.law_invariants.proofs.Ticking.{past_later}
 
 -- a current record of a name, and one of an identifier
 abbrev pub has_name : List ℕ → NamespaceRecord → Bool
@@ -94,11 +94,12 @@ name_then c changes x id l = let t : leb c.stamp x ≡ true = le-leb c.stamp x l
 -- another change in front of the journal, at a later time, and with further identifiers drawn
 pub names_kept : (rs : List NamespaceRecord) (time drawn m more : ℕ) (c : Change) (changes : List Change) → time ≤ m → drawn ≤ more → LeavesNames c.act → NamespacesStand rs time drawn changes → NamespacesStand rs m more (c ∷ changes)
 names_kept rs time drawn m more c changes le further leaves h = record {
-    past = λ r isin. past_later r.from time m r.to le (h.past r isin);
-    drawn_before = λ r isin. le_trans (h.drawn_before r isin) further;
-    unique = h.unique;
-    found = h.found;
-    viewed = λ id x after. names_stay c changes x id leaves ∙ h.viewed id x (le_trans le after) }
+  past = λ r isin. past_later r.from time m r.to le (h.past r isin);
+  drawn_before = λ r isin. le_trans (h.drawn_before r isin) further;
+  unique = h.unique;
+  found = h.found;
+  viewed = λ id x after. names_stay c changes x id leaves ∙ h.viewed id x (le_trans le after);
+}
 
 -- A new namespace
 
@@ -151,7 +152,8 @@ names_made rs time drawn more n id name changes le fresh drawn_by free h =
           (λ e. let is : id ≡ k = same_equal id k e in
           let P : Id → Type 0 = λ j. name_of (rs ++ r ∷ []) j ≡ Some name in
           rw e (sym (subst P is (name_added rs r id unknown (same_self id)))))
-          (λ e. rw e (h.viewed k x (le_trans le after) ∙ sym (name_beside rs r k e))) }
+          (λ e. rw e (h.viewed k x (le_trans le after) ∙ sym (name_beside rs r k e)));
+    }
 
 -- A namespace that ends
 
@@ -207,8 +209,8 @@ name_ended (r ∷ rs) id at k apart = either_way (same r.id id)
 pub name_gone : (rs : List NamespaceRecord) (id : Id) (at : ℕ) → name_of (end_namespace id at rs) id ≡ None
 name_gone [] id at = refl
 name_gone (r ∷ rs) id at = let gone : (is_open (end_one id at r).to && same r.id id) ≡ false = either_way (same r.id id)
-      (λ t. first_fails (is_open (end_one id at r).to) (same r.id id) (ap (λ b. is_open (cond b (ended at r.to) r.to)) t ∙ ended_closed at r.to))
-      (λ f. second_fails (is_open (end_one id at r).to) (same r.id id) f) in
+    (λ t. first_fails (is_open (end_one id at r).to) (same r.id id) (ap (λ b. is_open (cond b (ended at r.to) r.to)) t ∙ ended_closed at r.to))
+    (λ f. second_fails (is_open (end_one id at r).to) (same r.id id) f) in
     rw gone (name_gone rs id at)
 
 -- a namespace is dropped
@@ -227,4 +229,5 @@ names_dropped rs time drawn n id changes le h =
           (λ e. let is : id ≡ k = same_equal id k e in
           let P : Id → Type 0 = λ j. name_of (end_namespace id n rs) j ≡ None in
           rw e (sym (subst P is (name_gone rs id n))))
-          (λ e. rw e (h.viewed k x (le_trans le after) ∙ sym (name_ended rs id n k e))) }
+          (λ e. rw e (h.viewed k x (le_trans le after) ∙ sym (name_ended rs id n k e)));
+    }

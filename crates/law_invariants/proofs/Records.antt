@@ -1,17 +1,18 @@
 -- The records of tables: what is found at a time and now, after one more record and after one ends.
-use Rattle.std.proofs.Common.{ℕ, ◌≡◌, ◌≢◌, ◌<◌, ◌≤◌, ◌+◌, Bool, true, false, cond, ◌&&◌, List, [], ◌∷◌, ◌++◌, Option, Some, None, map, inl, inr, refl, sym, ap, subst, ◌∙◌, arith, le_trans, le_refl, le-leb, leb, ltb}
+use Rattle.std.proofs.Common.{ℕ, ◌≡◌, ◌<◌, ◌≤◌, Bool, true, false, cond, ◌&&◌, List, [], ◌∷◌, ◌++◌, Option, Some, None, refl, sym, ap, ◌∙◌, arith, le_trans, le_refl, le-leb, leb, ltb}
 use Rattle.std.specs.List.{find}
 use Rattle.std.specs.Option.{option_map}
-use Rattle.std.proofs.lemmas.Bool.{cond_both, true≢false}
+use Rattle.std.proofs.lemmas.Bool.{true≢false}
 use Rattle.std.proofs.lemmas.Bool.Decides.{nat_tests}
 use Rattle.std.specs.Str.{bytes_eq}
 use Rattle.model.specs.Ids.{Id, same, In}
-use Rattle.model.specs.Times.{is_open, ended, holds_at, before_end}
-use Rattle.model.specs.Catalog.{Catalog, TableRecord, KeptFrom, Owner, table_named, current_named, current_table, end_table, owner_of, kept_from, set_kept_from}
+use Rattle.model.specs.Times.{is_open, ended, holds_at}
+use Rattle.model.specs.Catalog.{TableRecord, KeptFrom, Owner, table_named, current_named, current_table, end_table, owner_of, kept_from, set_kept_from}
 use Rattle.model.specs.Restored.{record_at}
-use Rattle.law_store.proofs.Keys.{either_way, equal_keys, key_self}
-use Rattle.law_invariants.specs.Invariant.{EndsBy, IsPast, view_of, view_at}
-use Rattle.law_invariants.proofs.Finding.{both_pass, passes_both, first_fails, second_fails, not_passing, none_or_some, same_equal, same_self, not_same, apart_by_number, in_added, in_mapped, IsFound, find_is, find_none, none_found, find_alike, find_mapped, find_through, find_added, find_beside, find_before}
+use Rattle.law_store.proofs.Keys.{either_way, equal_keys}
+use Rattle.law_invariants.specs.Invariant.{IsPast, view_of, view_at}
+use Rattle.law_invariants.proofs.Names.{end_past}
+use Rattle.law_invariants.proofs.Finding.{both_pass, passes_both, first_fails, second_fails, not_passing, same_equal, same_self, not_same, apart_by_number, in_mapped, find_is, none_found, find_alike, find_mapped, find_through, find_added, find_beside, find_before}
 
 abbrev pub has_title : Id → List ℕ → TableRecord → Bool
 has_title ns name r = same r.namespace ns && bytes_eq r.name name
@@ -135,18 +136,6 @@ record_beside rs r id x n = record_at_found (rs ++ r ∷ []) id x ∙ find_besid
 abbrev pub end_one : Id → ℕ → TableRecord → TableRecord
 end_one id at r = record r { to = cond (same r.id id) (ended at r.to) r.to }
 
-pub ended_past : (from time at : ℕ) (to : Option ℕ) → time ≤ at → IsPast time from to → IsPast at from (ended at to)
-ended_past from time at None le h = record { begun = le_trans h.begun le; ended = (le_trans h.begun le, le_refl at) }
-ended_past from time at (Some to) le h = record { begun = le_trans h.begun le; ended = (h.ended.0, le_trans h.ended.1 le) }
-
-past_stays : (from time at : ℕ) (to : Option ℕ) → time ≤ at → IsPast time from to → IsPast at from to
-past_stays from time at None le h = record { begun = le_trans h.begun le; ended = tt }
-past_stays from time at (Some to) le h = record { begun = le_trans h.begun le; ended = (h.ended.0, le_trans h.ended.1 le) }
-
-end_past : (b : Bool) (from time at : ℕ) (to : Option ℕ) → time ≤ at → IsPast time from to → IsPast at from (cond b (ended at to) to)
-end_past true from time at to le h = ended_past from time at to le h
-end_past false from time at to le h = past_stays from time at to le h
-
 pub table_end_past : (rs : List TableRecord) (id : Id) (time at : ℕ) → time ≤ at → Past rs time → Past (end_table id at rs) at
 table_end_past rs id time at le past = in_mapped (end_one id at) (λ r. IsPast at r.from r.to) rs (λ r isin. end_past (same r.id id) r.from time at r.to le (past r isin))
 
@@ -187,10 +176,10 @@ named_ended rs id at ns name x r e holds =
     let q = sym (table_named_found rs ns name x) ∙ e in
     let f = find_is (is_named_at ns name x) rs r q in
     table_named_found (end_table id at rs) ns name x ∙ find_mapped (is_named_at ns name x) (end_one id at) rs r q
-      (passes_both (holds_at x r.from (end_one id at r).to) (has_title ns name r) holds (both_pass (holds_at x r.from r.to) (has_title ns name r) f.passes).1)
-      (λ s isin n. not_passing (is_named_at ns name x (end_one id at s)) (λ t.
-        let both = both_pass (holds_at x s.from (end_one id at s).to) (has_title ns name s) t in
-        true≢false (sym (passes_both (holds_at x s.from s.to) (has_title ns name s) (end_held (same s.id id) x at s.from s.to both.0) both.1) ∙ n)))
+    (passes_both (holds_at x r.from (end_one id at r).to) (has_title ns name r) holds (both_pass (holds_at x r.from r.to) (has_title ns name r) f.passes).1)
+    (λ s isin n. not_passing (is_named_at ns name x (end_one id at s)) (λ t.
+    let both = both_pass (holds_at x s.from (end_one id at s).to) (has_title ns name s) t in
+    true≢false (sym (passes_both (holds_at x s.from s.to) (has_title ns name s) (end_held (same s.id id) x at s.from s.to both.0) both.1) ∙ n)))
 
 pub record_ended : (rs : List TableRecord) (id : Id) (at : ℕ) (k : Id) (x : ℕ) (r : TableRecord) → record_at rs k x ≡ Some r → holds_at x r.from (end_one id at r).to ≡ true
     → record_at (end_table id at rs) k x ≡ Some (end_one id at r)
@@ -198,17 +187,17 @@ record_ended rs id at k x r e holds =
     let q = sym (record_at_found rs k x) ∙ e in
     let f = find_is (is_table_at k x) rs r q in
     record_at_found (end_table id at rs) k x ∙ find_mapped (is_table_at k x) (end_one id at) rs r q
-      (passes_both (holds_at x r.from (end_one id at r).to) (same r.id k) holds (both_pass (holds_at x r.from r.to) (same r.id k) f.passes).1)
-      (λ s isin n. not_passing (is_table_at k x (end_one id at s)) (λ t.
-        let both = both_pass (holds_at x s.from (end_one id at s).to) (same s.id k) t in
-        true≢false (sym (passes_both (holds_at x s.from s.to) (same s.id k) (end_held (same s.id id) x at s.from s.to both.0) both.1) ∙ n)))
+    (passes_both (holds_at x r.from (end_one id at r).to) (same r.id k) holds (both_pass (holds_at x r.from r.to) (same r.id k) f.passes).1)
+    (λ s isin n. not_passing (is_table_at k x (end_one id at s)) (λ t.
+    let both = both_pass (holds_at x s.from (end_one id at s).to) (same s.id k) t in
+    true≢false (sym (passes_both (holds_at x s.from s.to) (same s.id k) (end_held (same s.id id) x at s.from s.to both.0) both.1) ∙ n)))
 
 -- from the end on the table has no record
 pub record_gone : (rs : List TableRecord) (id : Id) (time at x : ℕ) → Past rs time → time ≤ at → at ≤ x → record_at (end_table id at rs) id x ≡ None
 record_gone rs id time at x past le after = record_at_found (end_table id at rs) id x ∙ none_found (is_table_at id x) (end_table id at rs)
     (in_mapped (end_one id at) (λ r. is_table_at id x r ≡ false) rs (λ r isin. either_way (same r.id id)
-      (λ t. first_fails (holds_at x r.from (end_one id at r).to) (same r.id id) (end_over id time x at r t (past r isin) le after))
-      (λ f. second_fails (holds_at x r.from (end_one id at r).to) (same r.id id) f)))
+    (λ t. first_fails (holds_at x r.from (end_one id at r).to) (same r.id id) (end_over id time x at r t (past r isin) le after))
+    (λ f. second_fails (holds_at x r.from (end_one id at r).to) (same r.id id) f)))
 
 -- the records of another table stay
 pub record_other : (rs : List TableRecord) (id : Id) (at : ℕ) (k : Id) (x : ℕ) → same id k ≡ false → record_at (end_table id at rs) k x ≡ record_at rs k x
@@ -227,8 +216,8 @@ view_ended id at (Some r) = refl
 pub view_before : (rs : List TableRecord) (id : Id) (at : ℕ) (k : Id) (x : ℕ) → x < at → view_at (end_table id at rs) x k ≡ view_at rs x k
 view_before rs id at k x l =
     ap (option_map view_of) (record_at_found (end_table id at rs) k x
-      ∙ find_through (is_table_at k x) (end_one id at) rs (λ r isin. ap (λ b. b && same r.id k) (end_same (same r.id id) x at r.from r.to l))
-      ∙ ap (option_map (end_one id at)) (sym (record_at_found rs k x)))
+    ∙ find_through (is_table_at k x) (end_one id at) rs (λ r isin. ap (λ b. b && same r.id k) (end_same (same r.id id) x at r.from r.to l))
+    ∙ ap (option_map (end_one id at)) (sym (record_at_found rs k x)))
     ∙ view_ended id at (record_at rs k x)
 
 -- Owners and marks

@@ -1,26 +1,26 @@
 -- The records of tables stand for the view through each change of the catalog.
-use Rattle.std.proofs.Common.{ℕ, ◌≡◌, ◌≢◌, ◌<◌, ◌≤◌, ◌+◌, Bool, true, false, cond, ◌&&◌, not, List, [], ◌∷◌, ◌++◌, Option, Some, None, inl, inr, refl, sym, ap, subst, ◌∙◌, arith, le_trans, le_refl, le-leb, leb, leb-true, leb-false, eqb, ltb}
+use Rattle.std.proofs.Common.{ℕ, ◌≡◌, ◌<◌, ◌≤◌, ◌+◌, true, false, cond, ◌&&◌, not, List, [], ◌∷◌, ◌++◌, Option, Some, None, refl, sym, ap, subst, ◌∙◌, arith, le_trans, le_refl, le-leb, leb, leb-true, leb-false, eqb}
 use Rattle.std.specs.List.{filter}
-use Rattle.std.specs.Option.{option_map, is_some, is_none}
+use Rattle.std.specs.Option.{option_map}
 use Rattle.std.proofs.lemmas.Bool.{cond_both, true≢false}
 use Rattle.std.proofs.lemmas.Bool.Decides.{nat_tests}
 use Rattle.std.specs.Str.{bytes_eq}
 use Rattle.row_values.specs.declared.value.Item.{Item}
 use Rattle.model.specs.Ids.{Id, same, In}
-use Rattle.model.specs.Times.{is_open, ended, holds_at}
+use Rattle.model.specs.Times.{is_open, holds_at}
 use Rattle.model.specs.Schema as schema
 use Rattle.model.specs.Schema.{Schema, Column, ColumnKind, NewColumn, column_named, first_schema}
-use Rattle.model.specs.Catalog.{Catalog, NamespaceRecord, TableRecord, KeptFrom, Owner, table_named, current_named, current_table, end_table, change_table, owner_of, kept_from, set_kept_from}
+use Rattle.model.specs.Catalog.{Catalog, NamespaceRecord, TableRecord, KeptFrom, Owner, table_named, current_named, end_table, change_table, owner_of, kept_from, set_kept_from}
 use Rattle.model.specs.Restored.{record_at}
-use Rattle.model.specs.Journal.{Change, ChangeAct, NamespaceMade, NamespaceDropped, TableMade, TableRenamed, TableDropped, ColumnAdded, ColumnDropped, RowChanged, NamespaceRestored, NamespaceCloned, TableView, renamed, with_column, without_column, table_after, table_at}
+use Rattle.model.specs.Journal.{Change, ChangeAct, NamespaceMade, NamespaceDropped, TableMade, TableRenamed, TableDropped, ColumnAdded, ColumnDropped, RowChanged, TableView, renamed, with_column, without_column, table_after, table_at}
 use Rattle.model.specs.Entries.{NamesDiffer}
-use Rattle.model.specs.History.{rows_made, id_of_column}
+use Rattle.model.specs.History.{rows_made}
 use Rattle.law_store.proofs.Keys.{either_way, equal_keys, key_self}
-use Rattle.law_invariants.specs.Invariant.{EndsBy, IsPast, view_of, view_at, ColumnsStand, NamespacesStand, TablesStand}
+use Rattle.law_invariants.specs.Invariant.{IsPast, view_of, view_at, ColumnsStand, NamespacesStand, TablesStand}
 use Rattle.law_invariants.proofs.Finding.{both_pass, passes_both, first_fails, second_fails, not_passing, none_or_some, same_equal, same_self, not_same, in_added, in_mapped, none_found}
-use Rattle.law_invariants.proofs.Names.{LeavesNames, names_kept}
+use Rattle.law_invariants.proofs.Names.{names_kept}
 use Rattle.law_invariants.proofs.Columns.{columns_made, columns_added, columns_dropped, dropped_alike}
-use Rattle.law_invariants.proofs.Records.{Past, has_title, is_named_at, is_table_at, table_named_found, now_holds, current_named_at, table_named_is, IsNamedAt, record_fresh, named_first, named_last, record_first, record_last, record_beside, end_one, table_end_past, end_held, end_over, end_other, named_ended, record_ended, record_gone, record_other, view_before, owner_first, owner_last, owner_beside, kept_rises, kept_by}
+use Rattle.law_invariants.proofs.Records.{has_title, is_named_at, table_named_found, now_holds, current_named_at, record_fresh, named_first, named_last, record_first, record_last, record_beside, end_one, table_end_past, end_held, end_over, named_ended, record_ended, record_gone, record_other, view_before, owner_first, owner_last, owner_beside, kept_rises, kept_by}
 use Rattle.law_invariants.proofs.Ticking.{past_later}
 
 -- The view after a change
@@ -66,17 +66,18 @@ pub tables_kept : (c : Catalog) (namespaces : List NamespaceRecord) (marks : Lis
     → ((ns : Id) → kept_from c.kept_from ns ≤ kept_from marks ns) → ((ns : Id) → kept_from marks ns ≤ m)
     → TablesStand c time drawn changes → TablesStand (record c { namespaces = namespaces; kept_from = marks }) m more (change ∷ changes)
 tables_kept c namespaces marks time drawn m more change changes le further leaves rises by h = record {
-    past = λ r isin. past_later r.from time m r.to le (h.past r isin);
-    drawn_before = λ r isin. le_trans (h.drawn_before r isin) further;
-    owned = h.owned;
-    owners_drawn = λ id new. h.owners_drawn id (let f = further in omega arith);
-    unique = h.unique;
-    found = h.found;
-    columns = h.columns;
-    viewed = λ id ns x owned kept. tables_stay change changes x id leaves ∙ h.viewed id ns x owned (le_trans (rises ns) kept);
-    unmade = λ id x none. tables_stay change changes x id leaves ∙ h.unmade id x none;
-    inside = λ id x v there. h.inside id x v (sym (tables_stay change changes x id leaves) ∙ there);
-    kept = by }
+  past = λ r isin. past_later r.from time m r.to le (h.past r isin);
+  drawn_before = λ r isin. le_trans (h.drawn_before r isin) further;
+  owned = h.owned;
+  owners_drawn = λ id new. h.owners_drawn id (let f = further in omega arith);
+  unique = h.unique;
+  found = h.found;
+  columns = h.columns;
+  viewed = λ id ns x owned kept. tables_stay change changes x id leaves ∙ h.viewed id ns x owned (le_trans (rises ns) kept);
+  unmade = λ id x none. tables_stay change changes x id leaves ∙ h.unmade id x none;
+  inside = λ id x v there. h.inside id x v (sym (tables_stay change changes x id leaves) ∙ there);
+  kept = by;
+}
 
 -- a namespace is made: its mark is set
 pub tables_namespace_made : (c : Catalog) (namespaces : List NamespaceRecord) (time drawn n : ℕ) (id : Id) (name : List ℕ) (changes : List Change) → time ≤ n
@@ -127,7 +128,7 @@ new_table id ns name schema n = record { id = id; namespace = ns; name = name; s
 pub tables_made : (c : Catalog) (time drawn n : ℕ) (id ns : Id) (name : List ℕ) (columns : List NewColumn) (changes : List Change) → time ≤ n → id.number ≡ drawn + 1 → current_named c.tables ns name ≡ None → NamesDiffer columns
     → TablesStand c time drawn changes
     → TablesStand (record c { tables = c.tables ++ new_table id ns name (first_schema columns) n ∷ []; owners = c.owners ++ record { table = id; namespace = ns } ∷ [] }) n (drawn + 1)
-      (record { stamp = n; act = TableMade id ns name (first_schema columns).columns } ∷ changes)
+    (record { stamp = n; act = TableMade id ns name (first_schema columns).columns } ∷ changes)
 tables_made c time drawn n id ns name columns changes le fresh free differ h =
     let r = new_table id ns name (first_schema columns) n in
     let o : Owner = record { table = id; namespace = ns } in
@@ -138,14 +139,14 @@ tables_made c time drawn n id ns name columns changes le fresh free differ h =
     let not_named : (x : ℕ) → n ≤ x → table_named c.tables ns name x ≡ None = λ x l. sym (current_named_at c.tables time x ns name h.past (le_trans le l)) ∙ free in
     let here : (x : ℕ) → n ≤ x → record_at (c.tables ++ r ∷ []) id x ≡ Some r = λ x l. record_last c.tables r id x (unknown x) (passes_both (holds_at x n None) (same id id) (begun_holds x n l) (same_self id)) in
     let inside : (k : Id) (x : ℕ) (v : TableView) → table_at (change ∷ changes) x k ≡ Some v → owner_of (c.owners ++ o ∷ []) k ≡ Some v.namespace =
-        λ k x v there. table_ways x n
-          (λ before. owner_first c.owners o k v.namespace (h.inside k x v (sym (table_before change changes x k before) ∙ there)))
-          (λ since. let seen : table_then change changes x k ≡ Some v = sym (table_since change changes x k since) ∙ there in
-            either_way (same id k)
-            (λ t. let made : Some (view_of r) ≡ Some v = rw t at seen in
-              let in_it : ns ≡ v.namespace = (let q : view_of r ≡ v = cc in ap (λ w. w.namespace) q) in
-              ap (owner_of (c.owners ++ o ∷ [])) (sym (same_equal id k t)) ∙ owner_last c.owners o unowned ∙ ap Some in_it)
-            (λ f. owner_first c.owners o k v.namespace (h.inside k x v (rw f at seen)))) in
+    λ k x v there. table_ways x n
+    (λ before. owner_first c.owners o k v.namespace (h.inside k x v (sym (table_before change changes x k before) ∙ there)))
+    (λ since. let seen : table_then change changes x k ≡ Some v = sym (table_since change changes x k since) ∙ there in
+    either_way (same id k)
+    (λ t. let made : Some (view_of r) ≡ Some v = rw t at seen in
+    let in_it : ns ≡ v.namespace = (let q : view_of r ≡ v = cc in ap (λ w. w.namespace) q) in
+    ap (owner_of (c.owners ++ o ∷ [])) (sym (same_equal id k t)) ∙ owner_last c.owners o unowned ∙ ap Some in_it)
+    (λ f. owner_first c.owners o k v.namespace (h.inside k x v (rw f at seen)))) in
     record {
       past = in_added (λ s. IsPast n s.from s.to) c.tables r (λ s isin. past_later s.from time n s.to le (h.past s isin)) (record { begun = le_refl n; ended = tt });
       drawn_before = in_added (λ s. s.id.number ≤ drawn + 1) c.tables r (λ s isin. let b = h.drawn_before s isin in omega arith) (omega arith);
@@ -160,17 +161,18 @@ tables_made c time drawn n id ns name columns changes le fresh free differ h =
       columns = in_added (λ s. ColumnsStand s.schema) c.tables r h.columns (columns_made columns differ);
       viewed = λ k k_ns x owned kept. either_way (same id k)
           (λ t. let is : id ≡ k = same_equal id k t in
-            let P : Id → Type 0 = λ j. table_at (change ∷ changes) x j ≡ view_at (c.tables ++ r ∷ []) x j in
-            subst P is (table_ways x n
-              (λ before. table_before change changes x id before ∙ h.unmade id x unowned
-                ∙ sym (ap (option_map view_of) (record_beside c.tables r id x (first_fails (holds_at x n None) (same id id) (begun_not x n before)) ∙ unknown x)))
-              (λ since. table_since change changes x id since ∙ (let s = same_self id in rw s refl) ∙ sym (ap (option_map view_of) (here x since)))))
+          let P : Id → Type 0 = λ j. table_at (change ∷ changes) x j ≡ view_at (c.tables ++ r ∷ []) x j in
+          subst P is (table_ways x n
+          (λ before. table_before change changes x id before ∙ h.unmade id x unowned
+          ∙ sym (ap (option_map view_of) (record_beside c.tables r id x (first_fails (holds_at x n None) (same id id) (begun_not x n before)) ∙ unknown x)))
+          (λ since. table_since change changes x id since ∙ (let s = same_self id in rw s refl) ∙ sym (ap (option_map view_of) (here x since)))))
           (λ f. let old : table_at (change ∷ changes) x k ≡ table_at changes x k = table_ways x n (λ before. table_before change changes x k before) (λ since. table_since change changes x k since ∙ rw f refl) in
-            old ∙ h.viewed k k_ns x (sym (owner_beside c.owners o k f) ∙ owned) kept
-            ∙ sym (ap (option_map view_of) (record_beside c.tables r k x (second_fails (holds_at x n None) (same id k) f))));
+          old ∙ h.viewed k k_ns x (sym (owner_beside c.owners o k f) ∙ owned) kept
+          ∙ sym (ap (option_map view_of) (record_beside c.tables r k x (second_fails (holds_at x n None) (same id k) f))));
       unmade = unmade_by (c.owners ++ o ∷ []) (change ∷ changes) inside;
       inside = inside;
-      kept = λ k. le_trans (h.kept k) le }
+      kept = λ k. le_trans (h.kept k) le;
+    }
 
 -- A table that ends
 
@@ -181,10 +183,10 @@ tables_dropped c time drawn n id changes le h =
     let change : Change = record { stamp = n; act = TableDropped id } in
     let rs = end_table id n c.tables in
     let inside : (k : Id) (x : ℕ) (v : TableView) → table_at (change ∷ changes) x k ≡ Some v → owner_of c.owners k ≡ Some v.namespace =
-        λ k x v there. table_ways x n
-          (λ before. h.inside k x v (sym (table_before change changes x k before) ∙ there))
-          (λ since. let seen : table_then change changes x k ≡ Some v = sym (table_since change changes x k since) ∙ there in
-            either_way (same id k) (λ t. let q : None ≡ Some v = rw t at seen in cc) (λ f. h.inside k x v (rw f at seen))) in
+    λ k x v there. table_ways x n
+    (λ before. h.inside k x v (sym (table_before change changes x k before) ∙ there))
+    (λ since. let seen : table_then change changes x k ≡ Some v = sym (table_since change changes x k since) ∙ there in
+    either_way (same id k) (λ t. let q : None ≡ Some v = rw t at seen in cc) (λ f. h.inside k x v (rw f at seen))) in
     record {
       past = table_end_past c.tables id time n le h.past;
       drawn_before = in_mapped (end_one id n) (λ s. s.id.number ≤ drawn) c.tables h.drawn_before;
@@ -198,13 +200,14 @@ tables_dropped c time drawn n id changes le h =
       viewed = λ k ns x owned kept. table_ways x n
           (λ before. table_before change changes x k before ∙ h.viewed k ns x owned kept ∙ sym (view_before c.tables id n k x before))
           (λ since. table_since change changes x k since ∙ either_way (same id k)
-            (λ t. let is : id ≡ k = same_equal id k t in
-              let P : Id → Type 0 = λ j. record_at rs j x ≡ None in
-              rw t (sym (ap (option_map view_of) (subst P is (record_gone c.tables id time n x h.past le since)))))
-            (λ f. rw f (h.viewed k ns x owned kept ∙ sym (ap (option_map view_of) (record_other c.tables id n k x f)))));
+          (λ t. let is : id ≡ k = same_equal id k t in
+          let P : Id → Type 0 = λ j. record_at rs j x ≡ None in
+          rw t (sym (ap (option_map view_of) (subst P is (record_gone c.tables id time n x h.past le since)))))
+          (λ f. rw f (h.viewed k ns x owned kept ∙ sym (ap (option_map view_of) (record_other c.tables id n k x f)))));
       unmade = unmade_by c.owners (change ∷ changes) inside;
       inside = inside;
-      kept = λ k. le_trans (h.kept k) le }
+      kept = λ k. le_trans (h.kept k) le;
+    }
 
 -- A table that changes
 
@@ -233,24 +236,24 @@ tables_changed c time drawn n t name s act changes le isin current alone stand d
     let holds_now : (x : ℕ) → n ≤ x → holds_at x t.from t.to ≡ true = λ x l. now_holds time x t.from t.to (h.past t isin) (le_trans le l) ∙ current in
     let gone : (x : ℕ) → n ≤ x → record_at ended id x ≡ None = λ x l. record_gone c.tables id time n x h.past le l in
     let not_named : (x : ℕ) → n ≤ x → table_named ended t.namespace name x ≡ None = λ x l. table_named_found ended t.namespace name x
-        ∙ none_found (is_named_at t.namespace name x) ended (in_mapped (end_one id n) (λ r. is_named_at t.namespace name x r ≡ false) c.tables
-          (λ r r_in. not_passing (is_named_at t.namespace name x (end_one id n r)) (λ p.
-            let outer = both_pass (holds_at x r.from (end_one id n r).to) (has_title t.namespace name r) p in
-            let inner = both_pass (same r.namespace t.namespace) (bytes_eq r.name name) outer.1 in
-            let first = h.unique x r r_in (end_held (same r.id id) x n r.from r.to outer.0) in
-            let found : table_named c.tables t.namespace name x ≡ Some r =
-              sym (ap (λ k. table_named c.tables k r.name x) (same_equal r.namespace t.namespace inner.0) ∙ ap (λ k. table_named c.tables t.namespace k x) (equal_keys r.name name inner.1)) ∙ first in
-            let is : r.id ≡ id = alone r (current_named_at c.tables time x t.namespace name h.past (le_trans le l) ∙ found) in
-            let same_id : same r.id id ≡ true = ap (λ k. same k id) is ∙ same_self id in
-            true≢false (sym outer.0 ∙ end_over id time x n r same_id (h.past r r_in) le l)))) in
+    ∙ none_found (is_named_at t.namespace name x) ended (in_mapped (end_one id n) (λ r. is_named_at t.namespace name x r ≡ false) c.tables
+    (λ r r_in. not_passing (is_named_at t.namespace name x (end_one id n r)) (λ p.
+    let outer = both_pass (holds_at x r.from (end_one id n r).to) (has_title t.namespace name r) p in
+    let inner = both_pass (same r.namespace t.namespace) (bytes_eq r.name name) outer.1 in
+    let first = h.unique x r r_in (end_held (same r.id id) x n r.from r.to outer.0) in
+    let found : table_named c.tables t.namespace name x ≡ Some r =
+    sym (ap (λ k. table_named c.tables k r.name x) (same_equal r.namespace t.namespace inner.0) ∙ ap (λ k. table_named c.tables t.namespace k x) (equal_keys r.name name inner.1)) ∙ first in
+    let is : r.id ≡ id = alone r (current_named_at c.tables time x t.namespace name h.past (le_trans le l) ∙ found) in
+    let same_id : same r.id id ≡ true = ap (λ k. same k id) is ∙ same_self id in
+    true≢false (sym outer.0 ∙ end_over id time x n r same_id (h.past r r_in) le l)))) in
     let here : (x : ℕ) → n ≤ x → record_at (ended ++ new ∷ []) id x ≡ Some new = λ x l. record_last ended new id x (gone x l) (passes_both (holds_at x n None) (same id id) (begun_holds x n l) (same_self id)) in
     let inside : (k : Id) (x : ℕ) (v : TableView) → table_at (change ∷ changes) x k ≡ Some v → owner_of c.owners k ≡ Some v.namespace =
-        λ k x v there. table_ways x n
-          (λ before. h.inside k x v (sym (table_before change changes x k before) ∙ there))
-          (λ since. let seen : cond (same id k) (d.turn (table_at changes x k)) (table_at changes x k) ≡ Some v = sym (d.after k (table_at changes x) (table_at changes)) ∙ sym (table_since change changes x k since) ∙ there in
-            either_way (same id k)
-            (λ e. let q = turn_inside d (table_at changes x k) v (rw e at seen) in h.inside k x q.0 q.1.0 ∙ ap Some (sym q.1.1))
-            (λ f. h.inside k x v (rw f at seen))) in
+    λ k x v there. table_ways x n
+    (λ before. h.inside k x v (sym (table_before change changes x k before) ∙ there))
+    (λ since. let seen : cond (same id k) (d.turn (table_at changes x k)) (table_at changes x k) ≡ Some v = sym (d.after k (table_at changes x) (table_at changes)) ∙ sym (table_since change changes x k since) ∙ there in
+    either_way (same id k)
+    (λ e. let q = turn_inside d (table_at changes x k) v (rw e at seen) in h.inside k x q.0 q.1.0 ∙ ap Some (sym q.1.1))
+    (λ f. h.inside k x v (rw f at seen))) in
     record {
       past = in_added (λ r. IsPast n r.from r.to) ended new (table_end_past c.tables id time n le h.past) (record { begun = le_refl n; ended = tt });
       drawn_before = in_added (λ r. r.id.number ≤ drawn) ended new (in_mapped (end_one id n) (λ r. r.id.number ≤ drawn) c.tables h.drawn_before) (h.drawn_before t isin);
@@ -258,29 +261,30 @@ tables_changed c time drawn n t name s act changes le isin current alone stand d
       owners_drawn = h.owners_drawn;
       unique = λ x. in_added (λ r. holds_at x r.from r.to ≡ true → table_named (ended ++ new ∷ []) r.namespace r.name x ≡ Some r) ended new
           (in_mapped (end_one id n) (λ r. holds_at x r.from r.to ≡ true → table_named (ended ++ new ∷ []) r.namespace r.name x ≡ Some r) c.tables
-            (λ r r_in holds. named_first ended (new ∷ []) r.namespace r.name x (end_one id n r)
-              (named_ended c.tables id n r.namespace r.name x r (h.unique x r r_in (end_held (same r.id id) x n r.from r.to holds)) holds)))
+          (λ r r_in holds. named_first ended (new ∷ []) r.namespace r.name x (end_one id n r)
+          (named_ended c.tables id n r.namespace r.name x r (h.unique x r r_in (end_held (same r.id id) x n r.from r.to holds)) holds)))
           (λ holds. named_last ended new t.namespace name x (not_named x (held_from x n holds)) (passes_both (holds_at x n None) (has_title t.namespace name new) holds (titled t.namespace name new refl refl)));
       found = λ x. in_added (λ r. holds_at x r.from r.to ≡ true → record_at (ended ++ new ∷ []) r.id x ≡ Some r) ended new
           (in_mapped (end_one id n) (λ r. holds_at x r.from r.to ≡ true → record_at (ended ++ new ∷ []) r.id x ≡ Some r) c.tables
-            (λ r r_in holds. record_first ended (new ∷ []) r.id x (end_one id n r)
-              (record_ended c.tables id n r.id x r (h.found x r r_in (end_held (same r.id id) x n r.from r.to holds)) holds)))
+          (λ r r_in holds. record_first ended (new ∷ []) r.id x (end_one id n r)
+          (record_ended c.tables id n r.id x r (h.found x r r_in (end_held (same r.id id) x n r.from r.to holds)) holds)))
           (λ holds. here x (held_from x n holds));
       columns = in_added (λ r. ColumnsStand r.schema) ended new (in_mapped (end_one id n) (λ r. ColumnsStand r.schema) c.tables h.columns) stand;
       viewed = λ k ns x owned kept. table_ways x n
           (λ before. table_before change changes x k before ∙ h.viewed k ns x owned kept
-            ∙ sym (ap (option_map view_of) (record_beside ended new k x (first_fails (holds_at x n None) (same id k) (begun_not x n before))) ∙ view_before c.tables id n k x before))
+          ∙ sym (ap (option_map view_of) (record_beside ended new k x (first_fails (holds_at x n None) (same id k) (begun_not x n before))) ∙ view_before c.tables id n k x before))
           (λ since. table_since change changes x k since ∙ d.after k (table_at changes x) (table_at changes) ∙ either_way (same id k)
-            (λ e. let is : id ≡ k = same_equal id k e in
-              let P : Id → Type 0 = λ j. d.turn (table_at changes x j) ≡ view_at (ended ++ new ∷ []) x j in
-              let was : table_at changes x id ≡ Some (view_of t) =
-                h.viewed id t.namespace x (h.owned t isin) (le_trans (h.kept t.namespace) (le_trans le since)) ∙ ap (option_map view_of) (h.found x t isin (holds_now x since)) in
-              rw e (subst P is (ap d.turn was ∙ d.turned ∙ sym (ap (option_map view_of) (here x since)))))
-            (λ f. rw f (h.viewed k ns x owned kept
-              ∙ sym (ap (option_map view_of) (record_beside ended new k x (second_fails (holds_at x n None) (same id k) f) ∙ record_other c.tables id n k x f)))));
+          (λ e. let is : id ≡ k = same_equal id k e in
+          let P : Id → Type 0 = λ j. d.turn (table_at changes x j) ≡ view_at (ended ++ new ∷ []) x j in
+          let was : table_at changes x id ≡ Some (view_of t) =
+          h.viewed id t.namespace x (h.owned t isin) (le_trans (h.kept t.namespace) (le_trans le since)) ∙ ap (option_map view_of) (h.found x t isin (holds_now x since)) in
+          rw e (subst P is (ap d.turn was ∙ d.turned ∙ sym (ap (option_map view_of) (here x since)))))
+          (λ f. rw f (h.viewed k ns x owned kept
+          ∙ sym (ap (option_map view_of) (record_beside ended new k x (second_fails (holds_at x n None) (same id k) f) ∙ record_other c.tables id n k x f)))));
       unmade = unmade_by c.owners (change ∷ changes) inside;
       inside = inside;
-      kept = λ k. le_trans (h.kept k) le }
+      kept = λ k. le_trans (h.kept k) le;
+    }
 
 -- the three changes of a table
 
@@ -295,7 +299,7 @@ alone_named c time drawn t changes isin current h r e =
 pub tables_column_added : (c : Catalog) (time drawn n : ℕ) (t : TableRecord) (name : List ℕ) (kind : ColumnKind) (changes : List Change) → time ≤ n → In t c.tables → is_open t.to ≡ true
     → column_named t.schema.columns name ≡ None → TablesStand c time drawn changes
     → TablesStand (record c { tables = change_table t t.name (schema.with_column name kind t.schema) n c.tables }) n drawn
-      (record { stamp = n; act = ColumnAdded t.id (record { id = t.schema.next; name = name; kind = kind }) } ∷ changes)
+    (record { stamp = n; act = ColumnAdded t.id (record { id = t.schema.next; name = name; kind = kind }) } ∷ changes)
 tables_column_added c time drawn n t name kind changes le isin current free h =
     let column : Column = record { id = t.schema.next; name = name; kind = kind } in
     tables_changed c time drawn n t t.name (schema.with_column name kind t.schema) (ColumnAdded t.id column) changes le isin current
@@ -309,8 +313,13 @@ tables_column_dropped c time drawn n t name column changes le isin current found
     let view : List Column → Option TableView = λ columns. Some (record (view_of t) { columns = columns }) in
     tables_changed c time drawn n t t.name (schema.without_column name t.schema) (ColumnDropped t.id column.id) changes le isin current
     (alone_named c time drawn t changes isin current h) (columns_dropped name t.schema (h.columns t isin))
-    (record { turn = without_column column.id; after = λ k before then_. refl; turned = ap view (dropped_alike name t.schema column found (h.columns t isin)); none = refl;
-      inside = λ v w e. let q : record v { columns = filter (λ d. not (eqb d.id column.id)) v.columns } ≡ w = cc in sym (ap (λ u. u.namespace) q) }) h
+    (record {
+      turn = without_column column.id;
+      after = λ k before then_. refl;
+      turned = ap view (dropped_alike name t.schema column found (h.columns t isin));
+      none = refl;
+      inside = λ v w e. let q : record v { columns = filter (λ d. not (eqb d.id column.id)) v.columns } ≡ w = cc in sym (ap (λ u. u.namespace) q);
+    }) h
 
 pub tables_renamed : (c : Catalog) (time drawn n : ℕ) (t : TableRecord) (name : List ℕ) (changes : List Change) → time ≤ n → In t c.tables → is_open t.to ≡ true
     → current_named c.tables t.namespace name ≡ None → TablesStand c time drawn changes

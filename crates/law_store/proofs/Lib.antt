@@ -1,0 +1,5 @@
+pub mod Keys
+pub mod Cells
+pub mod Writing
+pub mod Choosing
+pub mod Compaction

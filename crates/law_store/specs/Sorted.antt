@@ -1,0 +1,45 @@
+-- In what order a tablet's versions stand, and what a fold of operations leaves of a row.
+use Rattle.std.specs.Prelude.{◌≡◌, ℕ, ◌≤◌, ◌+◌, Bool, true, false, List, [], ◌∷◌, if◌then◌else◌}
+use Rattle.std.specs.Str.{bytes_eq}
+use Rattle.row_values.specs.Rows.{applied}
+use Rattle.row_values.specs.declared.value.Item.{Item}
+use Rattle.row_values.specs.declared.rows.Row.{Row}
+use Rattle.row_values.specs.declared.value.Cell.{Cell}
+use Rattle.model.specs.Store.{Version, precedes, has_old}
+
+-- a version of the key and the stamp may stand ahead of the list: no key there precedes its own, and no stamp of its
+-- own key there is earlier
+abbrev pub Leads : List ℕ → ℕ → List Version → Type 0
+Leads key stamp [] = Unit {0}
+Leads key stamp (v ∷ vs) = (precedes v.key key ≡ false) × (v.key ≡ key → stamp ≤ v.stamp) × Leads key stamp vs
+
+-- the versions are in order of key, and within a key the stamps don't fall
+abbrev pub Sorted : List Version → Type 0
+Sorted [] = Unit {0}
+Sorted (v ∷ vs) = Leads v.key v.stamp vs × Sorted vs
+
+-- the columns rise, from one on
+abbrev pub RiseFrom : ℕ → List Cell → Type 0
+RiseFrom column [] = Unit {0}
+RiseFrom column (c ∷ cs) = (column ≤ c.column) × RiseFrom (c.column + 1) cs
+
+-- the cells are strictly in order of column
+abbrev pub SortedCells : List Cell → Type 0
+SortedCells cells = RiseFrom 0 cells
+
+abbrev pub RowOf : Bool → List Cell → Type 0
+RowOf true cells = SortedCells cells
+RowOf false cells = cells ≡ []
+
+-- a row as a fold of operations leaves it: present with sorted cells, or absent with none
+abbrev pub IsRow : Row → Type 0
+IsRow row = RowOf row.present row.cells
+
+-- the row after an item of a batch, where the item is of the key
+abbrev pub item_step : List ℕ → Row → Item → Row
+item_step key row item = if bytes_eq item.key key then applied row item.op else row
+
+-- no two versions stamped at or before c have the same key
+abbrev pub OnceOld : ℕ → List Version → Type 0
+OnceOld c [] = Unit {0}
+OnceOld c (v ∷ vs) = (v.stamp ≤ c → has_old vs v.key c ≡ false) × OnceOld c vs

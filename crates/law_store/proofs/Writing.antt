@@ -7,13 +7,8 @@ use Rattle.row_values.specs.Rows.{absent_row}
 use Rattle.row_values.specs.declared.value.Item.{Item}
 use Rattle.row_values.specs.declared.rows.Row.{Row}
 use Rattle.model.specs.Store.{Version, precedes, put_version, written, read_step, read_of, Below}
-use Rattle.law_store.specs.Sorted.{Leads, Sorted, item_step}
+use Rattle.law_store.specs.Sorted.{Leads, Sorted, Behind, item_step}
 use Rattle.law_store.proofs.Keys.{either_way, equal_keys, key_self, key_sym, precedes_back, precedes_apart, precedes_up}
-
--- each key comes strictly behind
-abbrev Behind : List ℕ → List Version → Type 0
-Behind key [] = Unit {0}
-Behind key (v ∷ vs) = (precedes key v.key ≡ true) × Behind key vs
 
 behind_led : (vs : List Version) (key first : List ℕ) (stamp : ℕ) → precedes key first ≡ true → Leads first stamp vs → Behind key vs
 behind_led [] key first stamp e h = tt

@@ -4,6 +4,7 @@ use Rattle.std.specs.Str.{bytes_eq}
 use Rattle.row_values.specs.Rows.{applied}
 use Rattle.row_values.specs.declared.value.Item.{Item}
 use Rattle.row_values.specs.declared.rows.Row.{Row}
+use Rattle.row_values.specs.declared.rows.KeyedRow.{KeyedRow}
 use Rattle.row_values.specs.declared.value.Cell.{Cell}
 use Rattle.model.specs.Store.{Version, precedes, has_old}
 
@@ -43,3 +44,23 @@ item_step key row item = if bytes_eq item.key key then applied row item.op else 
 abbrev pub OnceOld : ℕ → List Version → Type 0
 OnceOld c [] = Unit {0}
 OnceOld c (v ∷ vs) = (v.stamp ≤ c → has_old vs v.key c ≡ false) × OnceOld c vs
+
+-- each key of the versions comes strictly behind this one
+abbrev pub Behind : List ℕ → List Version → Type 0
+Behind key [] = Unit {0}
+Behind key (v ∷ vs) = (precedes key v.key ≡ true) × Behind key vs
+
+-- each key of the rows comes strictly behind this one
+abbrev pub RowsBehind : List ℕ → List KeyedRow → Type 0
+RowsBehind key [] = Unit {0}
+RowsBehind key (r ∷ rs) = (precedes key r.key ≡ true) × RowsBehind key rs
+
+-- the keys of the rows rise, so each stands once
+abbrev pub Rising : List KeyedRow → Type 0
+Rising [] = Unit {0}
+Rising (r ∷ rs) = RowsBehind r.key rs × Rising rs
+
+-- each version is stamped n
+abbrev pub StampedAt : ℕ → List Version → Type 0
+StampedAt n [] = Unit {0}
+StampedAt n (v ∷ vs) = (v.stamp ≡ n) × StampedAt n vs

@@ -12,11 +12,11 @@ use Rattle.law_store.proofs.Keys.{either_way, equal_keys}
 use Rattle.law_store.proofs.Cells.{row_read, absent_is, upsert_row}
 
 -- one upsert of the row at c, at the stamp of the version
-abbrev folded_at : List Version → Version → ℕ → Version
+abbrev pub folded_at : List Version → Version → ℕ → Version
 folded_at all v c = record { key = v.key; stamp = v.stamp; op = Upsert (read_of all v.key c).cells }
 
 -- what compaction makes of a version: itself, nothing, or the row at the cutoff
-by_kept : (P : List Version → Type 0) (all : List Version) (v : Version) (later : List Version) (c : ℕ) →
+pub by_kept : (P : List Version → Type 0) (all : List Version) (v : Version) (later : List Version) (c : ℕ) →
     (c < v.stamp → P (v ∷ [])) →
     (v.stamp ≤ c → has_old later v.key c ≡ true → P []) →
     (v.stamp ≤ c → has_old later v.key c ≡ false → read_of all v.key c ≡ absent_row → P []) →
@@ -31,10 +31,10 @@ by_kept P all v later c new older gone row = cond_both (ltb c v.stamp) _ _ P
             (λ p. row (ltb-false _ _ e) q p)
             (λ p. gone (ltb-false _ _ e) q (absent_is (read_of all v.key c) (row_read all v.key c) p))))
 
-kept_new : (all : List Version) (v : Version) (later : List Version) (c : ℕ) → c < v.stamp → kept_of all v later c ≡ v ∷ []
+pub kept_new : (all : List Version) (v : Version) (later : List Version) (c : ℕ) → c < v.stamp → kept_of all v later c ≡ v ∷ []
 kept_new all v later c l = by_kept (λ ws. ws ≡ v ∷ []) all v later c (λ _. refl) (λ e q. absurd (omega arith)) (λ e q p. absurd (omega arith)) (λ e q p. absurd (omega arith))
 
-kept_row : (all : List Version) (v : Version) (later : List Version) (c : ℕ) → v.stamp ≤ c → has_old later v.key c ≡ false → (read_of all v.key c).present ≡ true →
+pub kept_row : (all : List Version) (v : Version) (later : List Version) (c : ℕ) → v.stamp ≤ c → has_old later v.key c ≡ false → (read_of all v.key c).present ≡ true →
     kept_of all v later c ≡ folded_at all v c ∷ []
 kept_row all v later c l none present = by_kept (λ ws. ws ≡ folded_at all v c ∷ []) all v later c
     (λ e. absurd (omega arith))

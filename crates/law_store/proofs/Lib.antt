@@ -5,3 +5,6 @@ pub mod Choosing
 pub mod Compaction
 pub mod Merging
 pub mod Listing
+pub mod Restoring
+pub mod Members
+pub mod Reading

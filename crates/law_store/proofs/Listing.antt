@@ -63,10 +63,10 @@ rising_from (v ∷ vs) all x h = let rest = rising_from vs all x h.1 in
 pub rising_rows_at : (vs : List Version) (x : ℕ) → Sorted vs → Rising (rows_at vs x)
 rising_rows_at vs x h = rising_from vs vs x h
 
-abbrev upsert_step : Row → KeyedRow → Row
+abbrev pub upsert_step : Row → KeyedRow → Row
 upsert_step row r = applied row (Upsert r.row.cells)
 
-of_rows_reads : (rs : List KeyedRow) (n : ℕ) (key : List ℕ) (y : ℕ) (row : Row) → n ≤ y → fold (read_step key y) row (of_rows rs n) ≡ fold upsert_step row (of_key key rs)
+pub of_rows_reads : (rs : List KeyedRow) (n : ℕ) (key : List ℕ) (y : ℕ) (row : Row) → n ≤ y → fold (read_step key y) row (of_rows rs n) ≡ fold upsert_step row (of_key key rs)
 of_rows_reads [] n key y row l = refl
 of_rows_reads (r ∷ rs) n key y row l = let soon : leb n y ≡ true = grind (arith, nat_tests) in
     let w : Version = record { key = r.key; stamp = n; op = Upsert r.row.cells } in either_way (bytes_eq r.key key)
@@ -77,7 +77,7 @@ of_rows_reads (r ∷ rs) n key y row l = let soon : leb n y ≡ true = grind (ar
         ap (λ q. fold (read_step key y) q (of_rows rs n)) now ∙ of_rows_reads rs n key y row l
         ∙ ap (λ b. fold upsert_step row (cond b (r ∷ of_key key rs) (of_key key rs))) (sym other))
 
-of_rows_early : (rs : List KeyedRow) (n : ℕ) (key : List ℕ) (y : ℕ) (row : Row) → y < n → fold (read_step key y) row (of_rows rs n) ≡ row
+pub of_rows_early : (rs : List KeyedRow) (n : ℕ) (key : List ℕ) (y : ℕ) (row : Row) → y < n → fold (read_step key y) row (of_rows rs n) ≡ row
 of_rows_early [] n key y row l = refl
 of_rows_early (r ∷ rs) n key y row l = let late : leb n y ≡ false = grind (arith, nat_tests) in
     let w : Version = record { key = r.key; stamp = n; op = Upsert r.row.cells } in

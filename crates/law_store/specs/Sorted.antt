@@ -6,7 +6,12 @@ use Rattle.row_values.specs.declared.value.Item.{Item}
 use Rattle.row_values.specs.declared.rows.Row.{Row}
 use Rattle.row_values.specs.declared.rows.KeyedRow.{KeyedRow}
 use Rattle.row_values.specs.declared.value.Cell.{Cell}
-use Rattle.model.specs.Store.{Version, precedes, has_old}
+use Rattle.row_values.specs.Codes.{code_of}
+use Rattle.model.specs.Ids.{In}
+use Rattle.model.specs.Store.{Version, precedes, has_old, read_of, in_range}
+use Rattle.model.specs.Acts.{At}
+use Rattle.model.specs.Journal.{Change, row_at}
+use Rattle.model.specs.Tablets.{Tablet}
 
 -- a version of the key and the stamp may stand ahead of the list: no key there precedes its own, and no stamp of its
 -- own key there is earlier
@@ -64,3 +69,27 @@ Rising (r ∷ rs) = RowsBehind r.key rs × Rising rs
 abbrev pub StampedAt : ℕ → List Version → Type 0
 StampedAt n [] = Unit {0}
 StampedAt n (v ∷ vs) = (v.stamp ≡ n) × StampedAt n vs
+
+-- each row is present, with its cells in order
+abbrev pub ArePresent : List KeyedRow → Type 0
+ArePresent [] = Unit {0}
+ArePresent (r ∷ rs) = (r.row.present ≡ true) × IsRow r.row × ArePresent rs
+
+-- what holds of each key of the versions, of the rows, of the items
+abbrev pub EachKey : (List ℕ → Type 0) → List Version → Type 0
+EachKey P [] = Unit {0}
+EachKey P (v ∷ vs) = P v.key × EachKey P vs
+
+abbrev pub EachRowKey : (List ℕ → Type 0) → List KeyedRow → Type 0
+EachRowKey P [] = Unit {0}
+EachRowKey P (r ∷ rs) = P r.key × EachRowKey P rs
+
+abbrev pub EachItemKey : (List ℕ → Type 0) → List Item → Type 0
+EachItemKey P [] = Unit {0}
+EachItemKey P (item ∷ items) = P item.key × EachItemKey P items
+
+-- the places' tablets read at x as the view does, of the keys in their ranges
+abbrev pub ReadsView : List Change → ℕ → (ℕ → Tablet) → List At → Type 0
+ReadsView changes x tablets places = (place : At) (key : List ℕ) → In place places
+    → in_range (tablets place.slot).low (tablets place.slot).high (code_of key) ≡ true
+    → read_of (tablets place.slot).versions key x ≡ row_at changes x (tablets place.slot).table key

@@ -16,8 +16,8 @@ rise_put n c [] h l = (l, tt)
 rise_put n c (d ∷ ds) h l = cond_both (ltb d.column c.column) _ _ (RiseFrom n)
     (λ e. (h.0, rise_put (d.column + 1) c ds h.1 (omega (arith, ltb-true _ _ e))))
     (λ e. cond_both (eqb d.column c.column) _ _ (RiseFrom n)
-        (λ q. (l, let P : ℕ → Type 0 = λ x. RiseFrom (x + 1) ds in subst P (eqb-true _ _ q) h.1))
-        (λ q. (l, (grind (arith, nat_tests), h.1))))
+    (λ q. (l, let P : ℕ → Type 0 = λ x. RiseFrom (x + 1) ds in subst P (eqb-true _ _ q) h.1))
+    (λ q. (l, (grind (arith, nat_tests), h.1))))
 
 -- sorted cells stay sorted
 pub sorted_put_cells : (cs kept : List Cell) → SortedCells kept → SortedCells (put_cells kept cs)

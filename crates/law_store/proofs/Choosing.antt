@@ -1,5 +1,5 @@
 -- What is read of a part of the versions: those of a range of codes, and those up to a stamp.
-use Rattle.std.proofs.Common.{◌≡◌, ℕ, ◌≤◌, ◌<◌, ◌+◌, Bool, true, false, List, [], ◌∷◌, refl, sym, ap, subst, ◌∙◌, fold, arith, leb, ◌&&◌}
+use Rattle.std.proofs.Common.{◌≡◌, ℕ, ◌≤◌, ◌+◌, Bool, true, false, List, [], ◌∷◌, refl, sym, ap, ◌∙◌, fold, arith, leb, ◌&&◌}
 use Rattle.std.specs.List.{filter}
 use Rattle.std.proofs.lemmas.Bool.{cond_both, true≢false}
 use Rattle.std.proofs.lemmas.Bool.Decides.{nat_tests}
@@ -21,16 +21,16 @@ chosen_reads [] test key x row h = refl
 chosen_reads (v ∷ vs) test key x row h = either_way (test v)
     (λ e. rw e (chosen_reads vs test key x _ h))
     (λ e. either_way (is_read key x v)
-        (λ read. absurd (true≢false (sym (h v read) ∙ e)))
-        (λ not_read. rw (e, not_read) (chosen_reads vs test key x row h)))
+    (λ read. absurd (true≢false (sym (h v read) ∙ e)))
+    (λ not_read. rw (e, not_read) (chosen_reads vs test key x row h)))
 
 none_reads : (vs : List Version) (test : Version → Bool) (key : List ℕ) (x : ℕ) (row : Row) → ((v : Version) → is_read key x v ≡ true → test v ≡ false) →
     fold (read_step key x) row (filter test vs) ≡ row
 none_reads [] test key x row h = refl
 none_reads (v ∷ vs) test key x row h = either_way (test v)
     (λ e. either_way (is_read key x v)
-        (λ read. absurd (true≢false (sym e ∙ h v read)))
-        (λ not_read. rw e (ap (λ r. fold (read_step key x) r (filter test vs)) (let n = not_read in cc) ∙ none_reads vs test key x row h)))
+    (λ read. absurd (true≢false (sym e ∙ h v read)))
+    (λ not_read. rw e (ap (λ r. fold (read_step key x) r (filter test vs)) (let n = not_read in cc) ∙ none_reads vs test key x row h)))
     (λ e. rw e (none_reads vs test key x row h))
 
 read_key : (v : Version) (key : List ℕ) (x : ℕ) → is_read key x v ≡ true → v.key ≡ key

@@ -1,5 +1,5 @@
 -- Keys are totally ordered by what precedes, and the test of equal keys is their equality.
-use Rattle.std.proofs.Common.{◌≡◌, ◌≢◌, ℕ, Bool, true, false, List, refl, sym, ap, subst, ◌∙◌}
+use Rattle.std.proofs.Common.{◌≡◌, ℕ, Bool, true, false, List, refl, sym, ap, subst, ◌∙◌}
 use Rattle.std.specs.Ordering.{nat_cmp, ordering_reverse, is_lt, is_eq}
 use Rattle.std.specs.Cmp.Lexicographic.{slice_cmp}
 use Rattle.std.specs.Str.{bytes_eq}
@@ -63,7 +63,7 @@ precedes_self a = either_way (precedes a a) (λ e. precedes_back a a e) (λ e. e
 pub precedes_apart : (a b : List ℕ) → precedes a b ≡ true → bytes_eq a b ≡ false
 precedes_apart a b e = either_way (bytes_eq a b)
     (λ same. let P : List ℕ → Type 0 = λ k. precedes a k ≡ true in
-        absurd (true≢false (sym (subst P (sym (equal_keys a b same)) e) ∙ precedes_self a)))
+    absurd (true≢false (sym (subst P (sym (equal_keys a b same)) e) ∙ precedes_self a)))
     (λ apart. apart)
 
 -- what precedes a key precedes those that do not stand before it

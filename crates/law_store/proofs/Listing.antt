@@ -1,5 +1,5 @@
 -- The rows at a time: each key once, in order; and versions made of rows read as the rows.
-use Rattle.std.proofs.Common.{◌≡◌, ℕ, ◌≤◌, ◌<◌, Bool, true, false, cond, List, [], ◌∷◌, ◌++◌, refl, sym, ap, subst, ◌∙◌, fold, arith, leb, ◌&&◌, ◌||◌, le_refl, append-nil}
+use Rattle.std.proofs.Common.{◌≡◌, ℕ, ◌≤◌, ◌<◌, true, false, cond, List, [], ◌∷◌, ◌++◌, refl, sym, ap, ◌∙◌, fold, arith, leb, le_refl, append-nil}
 use Rattle.std.proofs.lemmas.Bool.{cond_both}
 use Rattle.std.proofs.lemmas.Bool.Decides.{nat_tests}
 use Rattle.std.specs.Str.{bytes_eq}
@@ -7,10 +7,10 @@ use Rattle.row_values.specs.Rows.{absent_row, applied}
 use Rattle.row_values.specs.declared.rows.Row.{Row}
 use Rattle.row_values.specs.declared.rows.KeyedRow.{KeyedRow}
 use Rattle.row_values.specs.declared.value.RowOp.TheVariants.{Upsert}
-use Rattle.model.specs.Store.{Version, precedes, read_step, read_of, has_key, present, rows_from, rows_at, of_rows, Below}
+use Rattle.model.specs.Store.{Version, read_step, read_of, has_key, present, rows_from, rows_at, of_rows, Below}
 use Rattle.model.specs.Right.{of_key}
 use Rattle.law_store.specs.Sorted.{Leads, Sorted, Behind, RowsBehind, Rising, StampedAt}
-use Rattle.law_store.proofs.Keys.{either_way, equal_keys, key_sym, precedes_back, precedes_other}
+use Rattle.law_store.proofs.Keys.{either_way, equal_keys, precedes_back, precedes_other}
 use Rattle.law_store.proofs.Cells.{row_read, absent_is, upsert_row}
 use Rattle.law_store.proofs.Merging.{of_key_append, of_key_present}
 
@@ -24,15 +24,15 @@ of_key_from (v ∷ vs) all x key =
     let rest = of_key_from vs all x key in
     let row = read_of all v.key x in
     either_way (has_key vs v.key)
-        (λ more. rw more (rest ∙ either_way (bytes_eq v.key key)
-            (λ mine. let some : has_key vs key ≡ true = ap (has_key vs) (sym (equal_keys v.key key mine)) ∙ more in rw (mine, some) refl)
-            (λ other. rw other refl)))
-        (λ last. rw last (of_key_append (present v.key row) (rows_from all vs x) key
-            ∙ ap (λ rs. rs ++ of_key key (rows_from all vs x)) (of_key_present row v.key key) ∙ either_way (bytes_eq v.key key)
-            (λ mine. let none : has_key vs key ≡ false = ap (has_key vs) (sym (equal_keys v.key key mine)) ∙ last in
-                rw mine (ap (λ rs. present key row ++ rs) (rest ∙ ap (λ b. cond b (present key (read_of all key x)) []) none)
-                    ∙ append-nil (present key row) ∙ ap (λ k. present key (read_of all k x)) (equal_keys v.key key mine)))
-            (λ other. rw other rest)))
+    (λ more. rw more (rest ∙ either_way (bytes_eq v.key key)
+    (λ mine. let some : has_key vs key ≡ true = ap (has_key vs) (sym (equal_keys v.key key mine)) ∙ more in rw (mine, some) refl)
+    (λ other. rw other refl)))
+    (λ last. rw last (of_key_append (present v.key row) (rows_from all vs x) key
+    ∙ ap (λ rs. rs ++ of_key key (rows_from all vs x)) (of_key_present row v.key key) ∙ either_way (bytes_eq v.key key)
+    (λ mine. let none : has_key vs key ≡ false = ap (has_key vs) (sym (equal_keys v.key key mine)) ∙ last in
+    rw mine (ap (λ rs. present key row ++ rs) (rest ∙ ap (λ b. cond b (present key (read_of all key x)) []) none)
+    ∙ append-nil (present key row) ∙ ap (λ k. present key (read_of all k x)) (equal_keys v.key key mine)))
+    (λ other. rw other rest)))
 
 -- of each key the rows at x have its row, where it is present
 pub of_key_rows_at : (vs : List Version) (x : ℕ) (key : List ℕ) → of_key key (rows_at vs x) ≡ present key (read_of vs key x)
@@ -44,8 +44,8 @@ rows_behind : (vs all : List Version) (x : ℕ) (key : List ℕ) → Behind key 
 rows_behind [] all x key h = tt
 rows_behind (v ∷ vs) all x key h = let rest = rows_behind vs all x key h.1 in
     cond_both (has_key vs v.key) _ _ (λ rs. RowsBehind key (rs ++ rows_from all vs x))
-        (λ more. rest)
-        (λ last. cond_both (read_of all v.key x).present _ _ (λ rs. RowsBehind key (rs ++ rows_from all vs x)) (λ here. (h.0, rest)) (λ none. rest))
+    (λ more. rest)
+    (λ last. cond_both (read_of all v.key x).present _ _ (λ rs. RowsBehind key (rs ++ rows_from all vs x)) (λ here. (h.0, rest)) (λ none. rest))
 
 last_behind : (vs : List Version) (key : List ℕ) (stamp : ℕ) → Leads key stamp vs → has_key vs key ≡ false → Behind key vs
 last_behind [] key stamp h last = tt
@@ -55,9 +55,9 @@ rising_from : (vs all : List Version) (x : ℕ) → Sorted vs → Rising (rows_f
 rising_from [] all x h = tt
 rising_from (v ∷ vs) all x h = let rest = rising_from vs all x h.1 in
     cond_both (has_key vs v.key) _ _ (λ rs. Rising (rs ++ rows_from all vs x))
-        (λ more. rest)
-        (λ last. cond_both (read_of all v.key x).present _ _ (λ rs. Rising (rs ++ rows_from all vs x))
-            (λ here. (rows_behind vs all x v.key (last_behind vs v.key v.stamp h.0 last), rest)) (λ none. rest))
+    (λ more. rest)
+    (λ last. cond_both (read_of all v.key x).present _ _ (λ rs. Rising (rs ++ rows_from all vs x))
+    (λ here. (rows_behind vs all x v.key (last_behind vs v.key v.stamp h.0 last), rest)) (λ none. rest))
 
 -- the keys of the rows at x rise
 pub rising_rows_at : (vs : List Version) (x : ℕ) → Sorted vs → Rising (rows_at vs x)
@@ -71,11 +71,11 @@ of_rows_reads [] n key y row l = refl
 of_rows_reads (r ∷ rs) n key y row l = let soon : leb n y ≡ true = grind (arith, nat_tests) in
     let w : Version = record { key = r.key; stamp = n; op = Upsert r.row.cells } in either_way (bytes_eq r.key key)
     (λ mine. let now : read_step key y row w ≡ upsert_step row r = cc in
-        ap (λ q. fold (read_step key y) q (of_rows rs n)) now ∙ of_rows_reads rs n key y (upsert_step row r) l
-        ∙ ap (λ b. fold upsert_step row (cond b (r ∷ of_key key rs) (of_key key rs))) (sym mine))
+    ap (λ q. fold (read_step key y) q (of_rows rs n)) now ∙ of_rows_reads rs n key y (upsert_step row r) l
+    ∙ ap (λ b. fold upsert_step row (cond b (r ∷ of_key key rs) (of_key key rs))) (sym mine))
     (λ other. let now : read_step key y row w ≡ row = rw other refl in
-        ap (λ q. fold (read_step key y) q (of_rows rs n)) now ∙ of_rows_reads rs n key y row l
-        ∙ ap (λ b. fold upsert_step row (cond b (r ∷ of_key key rs) (of_key key rs))) (sym other))
+    ap (λ q. fold (read_step key y) q (of_rows rs n)) now ∙ of_rows_reads rs n key y row l
+    ∙ ap (λ b. fold upsert_step row (cond b (r ∷ of_key key rs) (of_key key rs))) (sym other))
 
 pub of_rows_early : (rs : List KeyedRow) (n : ℕ) (key : List ℕ) (y : ℕ) (row : Row) → y < n → fold (read_step key y) row (of_rows rs n) ≡ row
 of_rows_early [] n key y row l = refl
@@ -88,8 +88,8 @@ of_rows_early (r ∷ rs) n key y row l = let late : leb n y ≡ false = grind (a
 pub restored_reads : (vs : List Version) (x n : ℕ) (key : List ℕ) (y : ℕ) → n ≤ y → read_of (of_rows (rows_at vs x) n) key y ≡ read_of vs key x
 restored_reads vs x n key y l = let row = read_of vs key x in
     of_rows_reads (rows_at vs x) n key y absent_row l ∙ ap (fold upsert_step absent_row) (of_key_rows_at vs x key) ∙ either_way row.present
-        (λ here. rw here (upsert_row row (row_read vs key x) here))
-        (λ none. rw none (sym (absent_is row (row_read vs key x) none)))
+    (λ here. rw here (upsert_row row (row_read vs key x) here))
+    (λ none. rw none (sym (absent_is row (row_read vs key x) none)))
 
 -- and before it nothing
 pub restored_before : (vs : List Version) (x n : ℕ) (key : List ℕ) (y : ℕ) → y < n → read_of (of_rows (rows_at vs x) n) key y ≡ absent_row

@@ -1,19 +1,17 @@
 -- A read over several places gives, of each key, the rows of its places in their order.
-use Rattle.std.proofs.Common.{◌≡◌, ℕ, Bool, true, false, cond, List, [], ◌∷◌, ◌++◌, Option, Some, None, inl, inr, map, refl, sym, ap, ◌∙◌, ◌&&◌}
-use Rattle.std.specs.List.{filter}
+use Rattle.std.proofs.Common.{◌≡◌, ℕ, Bool, true, cond, List, [], ◌∷◌, ◌++◌, Option, Some, None, inl, inr, refl, ap, ◌∙◌}
 use Rattle.std.proofs.lemmas.List.{map-append}
 use Rattle.std.specs.Str.{bytes_eq}
 use Rattle.row_values.specs.Rows.{cut_to}
 use Rattle.row_values.specs.Codes.{code_of}
 use Rattle.row_values.specs.declared.rows.KeyedRow.{KeyedRow}
-use Rattle.model.specs.Ids.{In}
-use Rattle.model.specs.Store.{Version, read_of, in_range, present, rows_at}
+use Rattle.model.specs.Store.{Version, read_of, in_range, present}
 use Rattle.model.specs.Acts.{At}
 use Rattle.model.specs.Journal.{Change, row_at}
 use Rattle.model.specs.Lists.{in_order}
 use Rattle.model.specs.Tablets.{Tablet}
 use Rattle.model.specs.RowActs.{rows_asked, rows_in, rows_of_places as rows_of_tablets, cut_rows}
-use Rattle.model.specs.Right.{InOrder, RowsRight, of_key, is_asked, row_of_place, rows_of_places}
+use Rattle.model.specs.Right.{RowsRight, of_key, is_asked, row_of_place, rows_of_places}
 use Rattle.law_store.specs.Sorted.{ReadsView}
 use Rattle.law_store.proofs.Keys.{either_way, equal_keys}
 use Rattle.law_store.proofs.Merging.{by_key, ordered, of_key_ordered, of_key_append, of_key_chosen, in_order_mapped, of_key_mapped, of_key_present, cut_present}
@@ -32,12 +30,12 @@ of_key_place : (t : Tablet) (changes : List Change) (asked : Option (List ℕ)) 
 of_key_place t changes asked x columns key reads =
     let inside : List ℕ → Bool = λ k. in_range t.low t.high (code_of k) in
     let rows : of_key key (rows_in t asked x) ≡ cond (inside key) (cond (is_asked asked key) (present key (read_of t.versions key x)) []) []
-        = of_key_chosen (rows_asked asked t.versions x) inside key ∙ ap (λ rs. cond (inside key) rs []) (of_key_asked asked t.versions x key) in
+    = of_key_chosen (rows_asked asked t.versions x) inside key ∙ ap (λ rs. cond (inside key) rs []) (of_key_asked asked t.versions x key) in
     ap (cut_rows columns) rows ∙ either_way (is_asked asked key)
-        (λ yes_. either_way (inside key)
-            (λ here. rw (yes_, here) (cut_present columns key (read_of t.versions key x) ∙ ap (λ row. present key (cut_to row columns)) (reads here)))
-            (λ away. rw (yes_, away) refl))
-        (λ no_. either_way (inside key) (λ here. rw (no_, here) refl) (λ away. rw (no_, away) refl))
+    (λ yes_. either_way (inside key)
+    (λ here. rw (yes_, here) (cut_present columns key (read_of t.versions key x) ∙ ap (λ row. present key (cut_to row columns)) (reads here)))
+    (λ away. rw (yes_, away) refl))
+    (λ no_. either_way (inside key) (λ here. rw (no_, here) refl) (λ away. rw (no_, away) refl))
 
 of_key_places : (places : List At) (tablets : ℕ → Tablet) (changes : List Change) (asked : Option (List ℕ)) (x : ℕ) (columns key : List ℕ) → ReadsView changes x tablets places →
     cut_rows columns (of_key key (rows_of_tablets places asked x tablets)) ≡ rows_of_places changes x asked columns tablets places key
@@ -54,6 +52,7 @@ of_key_places (p ∷ places) tablets changes asked x columns key reads =
 pub read_right : (places : List At) (tablets : ℕ → Tablet) (changes : List Change) (asked : Option (List ℕ)) (x : ℕ) (columns : List ℕ) → ReadsView changes x tablets places →
     RowsRight changes x asked columns tablets places (cut_rows columns (in_order by_key (rows_of_tablets places asked x tablets)))
 read_right places tablets changes asked x columns reads = record {
-    in_order = in_order_mapped _ (λ r. record r { row = cut_to r.row columns }) (λ r. refl) (ordered (rows_of_tablets places asked x tablets));
-    each = λ key. of_key_mapped _ (λ r. record r { row = cut_to r.row columns }) key (λ r. refl) ∙ ap (cut_rows columns) (of_key_ordered (rows_of_tablets places asked x tablets) key)
-        ∙ of_key_places places tablets changes asked x columns key reads }
+  in_order = in_order_mapped _ (λ r. record r { row = cut_to r.row columns }) (λ r. refl) (ordered (rows_of_tablets places asked x tablets));
+  each = λ key. of_key_mapped _ (λ r. record r { row = cut_to r.row columns }) key (λ r. refl) ∙ ap (cut_rows columns) (of_key_ordered (rows_of_tablets places asked x tablets) key)
+      ∙ of_key_places places tablets changes asked x columns key reads;
+}

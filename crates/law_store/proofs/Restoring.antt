@@ -1,7 +1,6 @@
 -- Versions made of rows give the rows again, and are what compaction leaves of them.
-use Rattle.std.proofs.Common.{◌≡◌, ℕ, ◌≤◌, ◌<◌, Bool, true, false, cond, List, [], ◌∷◌, ◌++◌, ◌⊎◌, inl, inr, refl, sym, ap, subst, ◌∙◌, fold, arith, leb, ltb, ltb-true, ltb-false, ◌&&◌, ◌||◌, le_refl}
+use Rattle.std.proofs.Common.{◌≡◌, ℕ, ◌≤◌, true, false, cond, List, [], ◌∷◌, ◌++◌, inl, inr, refl, sym, ap, subst, ◌∙◌, fold, ltb, ltb-true, ltb-false}
 use Rattle.std.proofs.lemmas.Bool.{cond_both}
-use Rattle.std.specs.Str.{bytes_eq}
 use Rattle.row_values.specs.Rows.{absent_row}
 use Rattle.row_values.specs.declared.rows.Row.{Row}
 use Rattle.row_values.specs.declared.rows.KeyedRow.{KeyedRow}
@@ -12,7 +11,7 @@ use Rattle.model.specs.Right.{of_key}
 use Rattle.law_store.specs.Sorted.{Sorted, IsRow, RowsBehind, Rising, ArePresent}
 use Rattle.law_store.proofs.Keys.{either_way, key_self, key_sym, precedes_apart}
 use Rattle.law_store.proofs.Cells.{row_read, upsert_row}
-use Rattle.law_store.proofs.Compaction.{folded_at, kept_new, kept_row}
+use Rattle.law_store.proofs.Compaction.{kept_new, kept_row}
 use Rattle.law_store.proofs.Listing.{upsert_step, of_rows_reads, rising_rows_at}
 
 of_key_behind : (rs : List KeyedRow) (key : List ℕ) → RowsBehind key rs → of_key key rs ≡ []
@@ -66,8 +65,8 @@ present_from : (vs all : List Version) (x : ℕ) → ArePresent (rows_from all v
 present_from [] all x = tt
 present_from (v ∷ vs) all x = let rest = present_from vs all x in
     cond_both (has_key vs v.key) _ _ (λ rs. ArePresent (rs ++ rows_from all vs x))
-        (λ more. rest)
-        (λ last. cond_both (read_of all v.key x).present _ _ (λ rs. ArePresent (rs ++ rows_from all vs x)) (λ here. (here, row_read all v.key x, rest)) (λ none. rest))
+    (λ more. rest)
+    (λ last. cond_both (read_of all v.key x).present _ _ (λ rs. ArePresent (rs ++ rows_from all vs x)) (λ here. (here, row_read all v.key x, rest)) (λ none. rest))
 
 pub present_rows_at : (vs : List Version) (x : ℕ) → ArePresent (rows_at vs x)
 present_rows_at vs x = present_from vs vs x
@@ -82,10 +81,10 @@ kept_back (r ∷ rs) all n c rising reads =
     let v : Version = record { key = r.key; stamp = n; op = Upsert r.row.cells } in
     let rest = kept_back rs all n c rising.1 (λ l s isin. reads l s (inr isin)) in
     either_way (ltb c n)
-        (λ new. rw (kept_new all v (of_rows rs n) c (ltb-true _ _ new)) (ap (λ ws. v ∷ ws) rest))
-        (λ old. let l : n ≤ c = ltb-false _ _ old in let p = reads l r (inl refl) in
-            rw (kept_row all v (of_rows rs n) c l (no_old rs n r.key c rising.0) (ap (λ q. q.present) p.0 ∙ p.1))
-                (ap (λ (q : Row). record { key = r.key; stamp = n; op = Upsert q.cells } ∷ kept_from all (of_rows rs n) c) p.0 ∙ ap (λ ws. v ∷ ws) rest))
+    (λ new. rw (kept_new all v (of_rows rs n) c (ltb-true _ _ new)) (ap (λ ws. v ∷ ws) rest))
+    (λ old. let l : n ≤ c = ltb-false _ _ old in let p = reads l r (inl refl) in
+    rw (kept_row all v (of_rows rs n) c l (no_old rs n r.key c rising.0) (ap (λ q. q.present) p.0 ∙ p.1))
+    (ap (λ (q : Row). record { key = r.key; stamp = n; op = Upsert q.cells } ∷ kept_from all (of_rows rs n) c) p.0 ∙ ap (λ ws. v ∷ ws) rest))
 
 -- compaction changes no versions that are made of rows
 pub kept_of_rows : (rs : List KeyedRow) (n c : ℕ) → Rising rs → ArePresent rs → kept (of_rows rs n) c ≡ of_rows rs n

@@ -1,5 +1,5 @@
 -- A write changes what is read of its keys from its stamp on, and nothing else.
-use Rattle.std.proofs.Common.{◌≡◌, ℕ, ◌≤◌, ◌<◌, ◌+◌, Bool, true, false, List, [], ◌∷◌, refl, sym, ap, subst, ◌∙◌, fold, arith, leb, ◌&&◌}
+use Rattle.std.proofs.Common.{◌≡◌, ℕ, ◌≤◌, ◌<◌, ◌+◌, true, false, List, [], ◌∷◌, refl, sym, ap, subst, ◌∙◌, fold, arith, leb}
 use Rattle.std.proofs.lemmas.Bool.{cond_both, true≢false}
 use Rattle.std.proofs.lemmas.Bool.Decides.{nat_tests}
 use Rattle.std.specs.Str.{bytes_eq}
@@ -21,20 +21,22 @@ read_behind (v ∷ vs) key x row h = let apart : bytes_eq v.key key ≡ false = 
 
 leads_behind : (vs : List Version) (key : List ℕ) (stamp : ℕ) → Behind key vs → Leads key stamp vs
 leads_behind [] key stamp h = tt
-leads_behind (v ∷ vs) key stamp h = (precedes_back key v.key h.0,
-    (λ same. let P : List ℕ → Type 0 = λ k. bytes_eq k v.key ≡ false in
-        absurd (true≢false (sym (key_self v.key) ∙ subst P (sym same) (precedes_apart key v.key h.0)))),
-    leads_behind vs key stamp h.1)
+leads_behind (v ∷ vs) key stamp h = (
+  precedes_back key v.key h.0,
+  (λ same. let P : List ℕ → Type 0 = λ k. bytes_eq k v.key ≡ false in
+      absurd (true≢false (sym (key_self v.key) ∙ subst P (sym same) (precedes_apart key v.key h.0)))),
+  leads_behind vs key stamp h.1,
+)
 
 read_put_from : (vs : List Version) (v : Version) (key : List ℕ) (x : ℕ) (row : Row) → Sorted vs →
     fold (read_step key x) row (put_version v vs) ≡ read_step key x (fold (read_step key x) row vs) v
 read_put_from [] v key x row h = refl
 read_put_from (w ∷ ws) v key x row h = either_way (precedes v.key w.key)
     (λ e. rw e (either_way (bytes_eq v.key key)
-        (λ mine. let P : List ℕ → Type 0 = λ k. Behind k (w ∷ ws) in
-            let behind : Behind key (w ∷ ws) = subst P (equal_keys v.key key mine) (e, behind_led ws v.key w.key w.stamp e h.0) in
-            read_behind (w ∷ ws) key x (read_step key x row v) behind ∙ ap (λ r. read_step key x r v) (sym (read_behind (w ∷ ws) key x row behind)))
-        (λ other. rw other refl)))
+    (λ mine. let P : List ℕ → Type 0 = λ k. Behind k (w ∷ ws) in
+    let behind : Behind key (w ∷ ws) = subst P (equal_keys v.key key mine) (e, behind_led ws v.key w.key w.stamp e h.0) in
+    read_behind (w ∷ ws) key x (read_step key x row v) behind ∙ ap (λ r. read_step key x r v) (sym (read_behind (w ∷ ws) key x row behind)))
+    (λ other. rw other refl)))
     (λ e. rw e (read_put_from ws v key x (read_step key x row w) h.1))
 
 -- one version more is one step more of the fold

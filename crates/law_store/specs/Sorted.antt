@@ -75,18 +75,18 @@ abbrev pub ArePresent : List KeyedRow → Type 0
 ArePresent [] = Unit {0}
 ArePresent (r ∷ rs) = (r.row.present ≡ true) × IsRow r.row × ArePresent rs
 
--- what holds of each key of the versions, of the rows, of the items
-abbrev pub EachKey : (List ℕ → Type 0) → List Version → Type 0
-EachKey P [] = Unit {0}
-EachKey P (v ∷ vs) = P v.key × EachKey P vs
+-- each key of the versions, of the rows, of the items passes the test
+abbrev pub EachKey : (List ℕ → Bool) → List Version → Type 0
+EachKey test [] = Unit {0}
+EachKey test (v ∷ vs) = (test v.key ≡ true) × EachKey test vs
 
-abbrev pub EachRowKey : (List ℕ → Type 0) → List KeyedRow → Type 0
-EachRowKey P [] = Unit {0}
-EachRowKey P (r ∷ rs) = P r.key × EachRowKey P rs
+abbrev pub EachRowKey : (List ℕ → Bool) → List KeyedRow → Type 0
+EachRowKey test [] = Unit {0}
+EachRowKey test (r ∷ rs) = (test r.key ≡ true) × EachRowKey test rs
 
-abbrev pub EachItemKey : (List ℕ → Type 0) → List Item → Type 0
-EachItemKey P [] = Unit {0}
-EachItemKey P (item ∷ items) = P item.key × EachItemKey P items
+abbrev pub EachItemKey : (List ℕ → Bool) → List Item → Type 0
+EachItemKey test [] = Unit {0}
+EachItemKey test (item ∷ items) = (test item.key ≡ true) × EachItemKey test items
 
 -- the places' tablets read at x as the view does, of the keys in their ranges
 abbrev pub ReadsView : List Change → ℕ → (ℕ → Tablet) → List At → Type 0

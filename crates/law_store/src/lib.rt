@@ -3,7 +3,7 @@
 //! and the lemmas behind them, in `proofs/`, are cited by the crates above.
 #![tactic(auto)]
 
-ghost use Rattle.std.specs.Prelude.{◌≡◌, ◌≤◌, ◌<◌, ◌+◌, ℕ, true, false, List, Option, fold};
+ghost use Rattle.std.specs.Prelude.{◌≡◌, ◌≤◌, ◌<◌, ◌+◌, ℕ, Bool, true, false, List, Option, fold};
 ghost use Rattle.row_values.specs.Codes.{code_of};
 ghost use Rattle.row_values.specs.Rows.{absent_row};
 ghost use Rattle.row_values.specs.declared.rows.KeyedRow.{KeyedRow};
@@ -25,8 +25,7 @@ pub fn writes_are_read()
     ensures after { (versions : List Version) (stamp : ℕ) (items : List Item) (key : List ℕ) (x : ℕ) → Sorted versions → Below (stamp + 1) versions → stamp ≤ x → read_of (written versions stamp items) key x ≡ fold (item_step key) (read_of versions key x) items }
     ensures sorted { (versions : List Version) (stamp : ℕ) (items : List Item) → Sorted versions → Below (stamp + 1) versions → Sorted (written versions stamp items) }
     ensures below { (versions : List Version) (stamp n : ℕ) (items : List Item) → stamp < n → Below n versions → Below n (written versions stamp items) }
-{
-}
+{}
 
 /// Compaction changes no read at or after its cutoff. It leaves one version of a key at most at or
 /// before the cutoff, so a second one changes nothing.
@@ -36,8 +35,7 @@ pub fn compaction_keeps_reads()
     ensures again { (versions : List Version) (cutoff : ℕ) → Sorted versions → kept (kept versions cutoff) cutoff ≡ kept versions cutoff }
     ensures sorted { (versions : List Version) (cutoff : ℕ) → Sorted versions → Sorted (kept versions cutoff) }
     ensures below { (versions : List Version) (cutoff n : ℕ) → Below n versions → Below n (kept versions cutoff) }
-{
-}
+{}
 
 /// The versions of a range of codes read as all do within the range, and as nothing outside it. The
 /// versions that are frozen at a stamp read as all do up to it.
@@ -47,25 +45,22 @@ pub fn parts_keep_reads()
     ensures frozen { (versions : List Version) (stamp : ℕ) (key : List ℕ) (x : ℕ) → x ≤ stamp → read_of (frozen stamp versions) key x ≡ read_of versions key x }
     ensures sorted_part { (versions : List Version) (low high : ℕ) → Sorted versions → Sorted (part_of low high versions) }
     ensures sorted_frozen { (versions : List Version) (stamp : ℕ) → Sorted versions → Sorted (frozen stamp versions) }
-{
-}
+{}
 
-/// What holds of each key of a store goes on to hold, and a part by range has its keys in the range.
+/// What each key of a store passes is passed by its keys after, and a part by range has its keys in the range.
 pub fn keys_stay()
-    ensures written { (versions : List Version) (stamp : ℕ) (items : List Item) (P : List ℕ → Type 0) → EachItemKey P items → EachKey P versions → EachKey P (written versions stamp items) }
-    ensures kept { (versions : List Version) (cutoff : ℕ) (P : List ℕ → Type 0) → EachKey P versions → EachKey P (kept versions cutoff) }
-    ensures frozen { (versions : List Version) (stamp : ℕ) (P : List ℕ → Type 0) → EachKey P versions → EachKey P (frozen stamp versions) }
-    ensures part { (versions : List Version) (low high : ℕ) → EachKey (λ key. in_range low high (code_of key) ≡ true) (part_of low high versions) }
-    ensures restored { (versions : List Version) (to stamp : ℕ) (P : List ℕ → Type 0) → EachKey P versions → EachKey P (of_rows (rows_at versions to) stamp) }
-{
-}
+    ensures written { (versions : List Version) (stamp : ℕ) (items : List Item) (test : List ℕ → Bool) → EachItemKey test items → EachKey test versions → EachKey test (written versions stamp items) }
+    ensures kept { (versions : List Version) (cutoff : ℕ) (test : List ℕ → Bool) → EachKey test versions → EachKey test (kept versions cutoff) }
+    ensures frozen { (versions : List Version) (stamp : ℕ) (test : List ℕ → Bool) → EachKey test versions → EachKey test (frozen stamp versions) }
+    ensures part { (versions : List Version) (low high : ℕ) → EachKey (λ key. in_range low high (code_of key)) (part_of low high versions) }
+    ensures restored { (versions : List Version) (to stamp : ℕ) (test : List ℕ → Bool) → EachKey test versions → EachKey test (of_rows (rows_at versions to) stamp) }
+{}
 
 /// The rows at a time are listed by rising key, each key that has a row once, with its row.
 pub fn rows_are_listed()
     ensures each { (versions : List Version) (x : ℕ) (key : List ℕ) → of_key key (rows_at versions x) ≡ present key (read_of versions key x) }
     ensures rising { (versions : List Version) (x : ℕ) → Sorted versions → Rising (rows_at versions x) }
-{
-}
+{}
 
 /// Versions made of the rows at a time read from their stamp on as the store did at that time, and
 /// before it as nothing. They give those rows again, and compaction leaves them as they are.
@@ -76,8 +71,7 @@ pub fn restored_rows_are_read()
     ensures kept { (versions : List Version) (to stamp cutoff : ℕ) → Sorted versions → kept (of_rows (rows_at versions to) stamp) cutoff ≡ of_rows (rows_at versions to) stamp }
     ensures sorted { (versions : List Version) (to stamp : ℕ) → Sorted versions → Sorted (of_rows (rows_at versions to) stamp) }
     ensures stamped { (rows : List KeyedRow) (stamp : ℕ) → StampedAt stamp (of_rows rows stamp) }
-{
-}
+{}
 
 /// Rows of several places that are put in order by key are in order, and those of one key stay in the
 /// order of the places. So a read of tablets whose stores read as the view does is right.
@@ -85,5 +79,4 @@ pub fn reads_are_right()
     ensures ordered { (rows : List KeyedRow) → InOrder (in_order (λ r s. precedes r.key s.key) rows) }
     ensures stable { (rows : List KeyedRow) (key : List ℕ) → of_key key (in_order (λ r s. precedes r.key s.key) rows) ≡ of_key key rows }
     ensures right { (places : List At) (tablets : ℕ → Tablet) (changes : List Change) (asked : Option (List ℕ)) (x : ℕ) (columns : List ℕ) → ReadsView changes x tablets places → RowsRight changes x asked columns tablets places (cut_rows columns (in_order (λ r s. precedes r.key s.key) (rows_of_places places asked x tablets))) }
-{
-}
+{}

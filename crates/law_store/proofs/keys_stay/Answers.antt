@@ -9,5 +9,5 @@ returns c = record {
   kept = keys_kept;
   frozen = keys_frozen;
   part = keys_part;
-  restored = λ versions to stamp P h. keys_of_rows (rows_at versions to) stamp P (keys_rows_at versions to P h);
+  restored = λ versions to stamp test h. keys_of_rows (rows_at versions to) stamp test (keys_rows_at versions to test h);
 }

@@ -1,0 +1,10 @@
+mod Windows
+mod FirstReads
+mod Cutoffs
+mod Returns
+mod Splits
+mod Restarts
+mod Clones
+mod Cleanups
+mod Refusals
+mod Hour

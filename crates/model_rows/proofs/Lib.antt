@@ -8,3 +8,4 @@ mod Clones
 mod Cleanups
 mod Refusals
 mod Hour
+pub mod Histories

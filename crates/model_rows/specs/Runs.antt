@@ -1,10 +1,10 @@
 -- Runs of a script over the definitions: what its lines show, and the history that they make.
-use Rattle.std.specs.Prelude.{ℕ, zero, suc, List, [], ◌∷◌, ◌++◌, ◌+◌, ◌-◌, length}
+use Rattle.std.specs.Prelude.{◌≡◌, ℕ, zero, suc, List, [], ◌∷◌, ◌++◌, ◌+◌, ◌-◌, length}
 use Rattle.std.specs.Option.{option_map_or}
 use Rattle.model.specs.Acts.{Act, Event, Reply}
 use Rattle.model.specs.Parts.{Parts, start}
 use Rattle.model.specs.Entries.{Entry, stamp_of}
-use Rattle.model.specs.History.{outcome, next}
+use Rattle.model.specs.History.{outcome, next, replay, entry_of}
 use Rattle.model.specs.Work.{next_act}
 
 -- a line sets the reading, is one event, or has a coordinator perform so many, fewer where no record is unfinished
@@ -31,13 +31,13 @@ begun slots = record { reading = 0; entries = []; parts = start slots }
 abbrev pub event_of : Act → Run → Event
 event_of act run = record { caller = 0; reading = run.reading; act = act }
 
--- the entry that an act makes
-abbrev pub entry_on : Act → Run → Entry
-entry_on act run = let n = stamp_of (event_of act run) run.parts in record {
-  number = length run.entries + 1;
-  event = event_of act run;
+-- the entry that an event makes on these parts
+abbrev pub entry_on : Event → List Entry → Parts → Entry
+entry_on event earlier ps = let n = stamp_of event ps in record {
+  number = length earlier + 1;
+  event = event;
   stamp = n;
-  reply = (outcome act n run.parts).reply;
+  reply = (outcome event.act n ps).reply;
 }
 
 abbrev pub with_entry : Entry → Run → Run
@@ -45,7 +45,7 @@ with_entry e run = record run { entries = e ∷ run.entries; parts = next e run.
 
 -- the run after an act
 abbrev pub done : Act → Run → Run
-done act run = with_entry (entry_on act run) run
+done act run = with_entry (entry_on (event_of act run) run.entries run.parts) run
 
 -- the run after so many events of a coordinator
 abbrev pub coordinated : ℕ → Run → Run
@@ -75,3 +75,13 @@ shown_line (Coordinate count) before run = Did (length run.entries - length befo
 abbrev pub shown : List Line → Run → List Shown
 shown [] run = []
 shown (line ∷ lines) run = shown_line line run (after_line line run) ++ shown lines (after_line line run)
+
+-- each entry is the one that its event makes after the earlier ones
+abbrev pub Given : ℕ → List Entry → Type 0
+Given slots [] = Unit {0}
+Given slots (e ∷ earlier) = (e ≡ entry_of slots e.event earlier) × Given slots earlier
+
+-- a run is the history of its entries, and its parts are those that they leave
+pub record IsHistory (slots : ℕ) (run : Run) : Type 0 where
+  pub parts : run.parts ≡ replay slots run.entries
+  pub given : Given slots run.entries

@@ -9,3 +9,6 @@ mod Cleanups
 mod Refusals
 mod Hour
 pub mod Histories
+mod RightReads
+mod LegalReads
+mod StandingReads

@@ -1,3 +1,4 @@
 pub mod Computed
+pub mod FirstRead
 pub mod Runs
 pub mod Scripts

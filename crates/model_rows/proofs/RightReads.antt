@@ -1,9 +1,8 @@
 -- The history of a first write and read is right. It isn't where the read answers another value.
-use Rattle.std.proofs.Common.{◌≡◌, ℕ, pos, arith, Bool, true, false, List, [], ◌∷◌, ◌++◌, Option, Some, None, refl, sym, ap, subst, cond, ◌∙◌, is_some, ◌&&◌, ◌⊎◌, inl, inr, if◌then◌else◌}
+use Rattle.std.proofs.Common.{◌≡◌, ℕ, pos, arith, Bool, true, false, List, [], ◌∷◌, ◌++◌, Some, None, refl, sym, ap, subst, ◌∙◌, is_some, ◌&&◌, ◌⊎◌, inl, inr, if◌then◌else◌}
 use Rattle.std.specs.Str.{bytes_eq}
 use Rattle.std.proofs.lemmas.Bool.{cases_Bool, true≢false}
 use Rattle.std.proofs.lemmas.Slice.Eq.{bytes_eq-Decides}
-use Rattle.row_values.specs.declared.value.RowOp.TheVariants.{Upsert}
 use Rattle.row_values.specs.declared.rows.KeyedRow.{KeyedRow}
 use Rattle.row_values.specs.declared.value.Value.{Value}
 use Rattle.row_values.specs.declared.value.Value.TheVariants.{Int}
@@ -11,16 +10,16 @@ use Rattle.row_values.specs.declared.value.Cell.{Cell}
 use Rattle.row_values.specs.Codes.{code_of}
 use Rattle.row_values.specs.Rows.{cut_to}
 use Rattle.model.specs.Store.{in_range, present}
-use Rattle.model.specs.Acts.{CreateTable, At, Rows, Reply, Refused, UnknownTable}
-use Rattle.model.specs.Journal.{Change, ChangeAct, NamespaceRestored, NamespaceCloned, NamespaceMade, TableMade, RowChanged, namespace_at, table_at, row_at}
+use Rattle.model.specs.Acts.{At, Rows, Reply, Refused, UnknownTable}
+use Rattle.model.specs.Journal.{Change, ChangeAct, NamespaceRestored, NamespaceCloned, namespace_at, table_at, row_at}
 use Rattle.model.specs.Right.{NothingLate, is_fixed, TableFound, of_key, rows_of_places}
 use Rattle.model.specs.Entries.{Entry}
-use Rattle.model.specs.History.{Right, ReplyRight, replay, journal_of}
+use Rattle.model.specs.History.{Right, journal_of}
 use Rattle.model.specs.Ids.{Id}
 use Rattle.model_rows.specs.Computed.{the_book}
-use Rattle.model_rows.specs.FirstRead.{made, written, been_read, namespace_made, table_made, row_written, changes}
-use Rattle.model_rows.specs.Runs.{Line, Run, after, begun}
-use Rattle.model_rows.specs.Scripts.{N, T, B, a, t, x, v, early, int_column, kept_v, row, create_namespace, get, look_for, home, new_int, planned_change, put, tick, v_is}
+use Rattle.model_rows.specs.FirstRead.{made, written, been_read, namespace_made, table_made, changes}
+use Rattle.model_rows.specs.Runs.{after}
+use Rattle.model_rows.specs.Scripts.{N, T, B, a, t, x, v, early, int_column, kept_v, row, look_for}
 
 -- a change that fixes no time of a namespace
 abbrev is_plain : ChangeAct → Bool

@@ -37,9 +37,10 @@ table_asked = (one_to 32 refl, one_to 32 refl, one_to 64 refl, one_to 16 refl, (
 
 made_legal : Legal 64 made.entries
 unfolding the_book
-made_legal =
-    (((tt, step_of 64 _ _ (one_to 32 refl, tt) refl refl refl), step_of 64 _ _ table_asked refl refl refl),
-    step_of 64 _ _ (table_asked, (at_most 1 64 refl, tt)) refl refl refl)
+made_legal = (
+  ((tt, step_of 64 _ _ (one_to 32 refl, tt) refl refl refl), step_of 64 _ _ table_asked refl refl refl),
+  step_of 64 _ _ (table_asked, (at_most 1 64 refl, tt)) refl refl refl,
+)
 
 key_asked : (cells : List NamedCell) → AllOf (λ s. IsName s.column × IsValue s.value) cells → ltb (length cells) 17 ≡ true
     → AskAsked (AskKeys a t (record { key = x; op = NamedUpsert cells } ∷ []) None)
@@ -47,8 +48,13 @@ key_asked cells each few = (one_to 32 refl, one_to 32 refl, (at_most 1 1 refl, a
 
 been_read_legal : Legal 64 been_read.entries
 unfolding the_book
-been_read_legal =
-    ((((made_legal, step_of 64 _ _ (key_asked (v_is 1) ((one_to 32 refl, tt), tt) refl) refl refl refl),
-    step_of 64 _ _ (one_to 64 refl, (at_most 1 1 refl, at_most 1 64 refl, ((one_to 64 refl, (at_most 1 16 refl, (tt, tt))), tt))) refl refl refl),
-    step_of 64 _ _ (key_asked [] tt refl) refl refl refl),
-    step_of 64 _ _ (at_most 1 1 refl, (one_to 64 refl, tt), one_to 64 refl, tt) refl refl refl)
+been_read_legal = (
+  (
+    (
+      (made_legal, step_of 64 _ _ (key_asked (v_is 1) ((one_to 32 refl, tt), tt) refl) refl refl refl),
+      step_of 64 _ _ (one_to 64 refl, (at_most 1 1 refl, at_most 1 64 refl, ((one_to 64 refl, (at_most 1 16 refl, (tt, tt))), tt))) refl refl refl,
+    ),
+    step_of 64 _ _ (key_asked [] tt refl) refl refl refl,
+  ),
+  step_of 64 _ _ (at_most 1 1 refl, (one_to 64 refl, tt), one_to 64 refl, tt) refl refl refl,
+)

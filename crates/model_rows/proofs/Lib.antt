@@ -12,3 +12,4 @@ pub mod Histories
 mod RightReads
 mod LegalReads
 mod StandingReads
+mod RetainedReads

@@ -78,9 +78,10 @@ table_found cs n named found = record {
 written_right : Right 64 written.entries
 unfolding the_book
 written_right =
-    let before = table_made ∷ namespace_made ∷ [] in
-    ((made_right, (record { found = table_found before (early 3) refl refl; columns_are = refl; judged = refl }, none_late before (refl, (refl, tt)))),
-    (tt, none_late changes (refl, (refl, (refl, tt)))))
+    let before = table_made ∷ namespace_made ∷ [] in (
+      (made_right, (record { found = table_found before (early 3) refl refl; columns_are = refl; judged = refl }, none_late before (refl, (refl, tt)))),
+      (tt, none_late changes (refl, (refl, (refl, tt)))),
+    )
 
 abbrev place_one : List At
 place_one = record { slot = 1; tablet = B 1 } ∷ []
@@ -92,6 +93,7 @@ each_key key = by (cases_Bool (bytes_eq x key))
     other : Bool → List KeyedRow
     other test =
         (if test && in_range 0 65536 (code_of key) then present key (cut_to (row_at changes (early 4) (T 1) key) (1 ∷ [])) else []) ++ []
+
     by : (bytes_eq x key ≡ true) ⊎ (bytes_eq x key ≡ false)
         → of_key key (row x (kept_v 1) ∷ []) ≡ rows_of_places changes (early 4) (Some x) (1 ∷ []) written.parts.tablet place_one key
     by (inl e) =
@@ -101,9 +103,10 @@ each_key key = by (cases_Bool (bytes_eq x key))
 
 read_right : Right 64 been_read.entries
 unfolding the_book
-read_right =
-    ((written_right, (record { found = table_found changes (early 4) refl refl; columns_are = refl; judged = refl }, none_late changes (refl, (refl, (refl, tt))))),
-    (record { in_order = tt; each = each_key }, none_late changes (refl, (refl, (refl, tt)))))
+read_right = (
+  (written_right, (record { found = table_found changes (early 4) refl refl; columns_are = refl; judged = refl }, none_late changes (refl, (refl, (refl, tt))))),
+  (record { in_order = tt; each = each_key }, none_late changes (refl, (refl, (refl, tt)))),
+)
 
 -- the same history with another value, or with no row
 

@@ -13,3 +13,4 @@ mod RightReads
 mod LegalReads
 mod StandingReads
 mod RetainedReads
+pub mod CoordinatedRuns

@@ -14,3 +14,6 @@ mod LegalReads
 mod StandingReads
 mod RetainedReads
 pub mod CoordinatedRuns
+mod RightEntries
+mod RightRestores
+mod StandingRestores

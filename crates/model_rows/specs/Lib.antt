@@ -2,3 +2,4 @@ pub mod Computed
 pub mod FirstRead
 pub mod Runs
 pub mod Scripts
+pub mod UndoneRestore

@@ -23,7 +23,7 @@ use Rattle.model.specs.Cleanup.{remove, prune, removable, removed, pruned}
 use Rattle.model.specs.Journal as made
 use Rattle.model.specs.Journal.{TableMade}
 use Rattle.model.specs.Entries.{Entry, slots_of, log_of, stamp_of, Asked}
-use Rattle.model.specs.Right.{RowsRight, LookReplyRight, NothingLate}
+use Rattle.model.specs.Right.{RowsRight, LookReplyRight, LookPlacesRight, NothingLate}
 
 -- What a history leaves
 
@@ -212,8 +212,10 @@ WindowRightOf (Some s) reply m n to = user m s.namespace ≡ None → WindowRigh
 
 -- the reply of an entry is right, against the journal of the entries before it
 abbrev pub ReplyRight : Act → Reply → ℕ → Parts → List made.Change → Type 0
-ReplyRight (Look (AskKeys namespace table batch at)) reply n ps changes = LookReplyRight reply changes (time_of at n) n namespace table batch
-ReplyRight (Look (AskTable namespace table at)) reply n ps changes = LookReplyRight reply changes (time_of at n) n namespace table []
+ReplyRight (Look (AskKeys namespace table batch at)) reply n ps changes =
+    LookReplyRight reply changes (time_of at n) n namespace table batch × LookPlacesRight reply changes (time_of at n) n namespace table batch ps.master.activity
+ReplyRight (Look (AskTable namespace table at)) reply n ps changes =
+    LookReplyRight reply changes (time_of at n) n namespace table [] × LookPlacesRight reply changes (time_of at n) n namespace table [] ps.master.activity
 ReplyRight (Read places version key at columns) (Rows rows) n ps changes = RowsRight changes (time_of at n) key columns ps.tablet places rows
 ReplyRight (Change (Restore schedule to) slots) reply n ps changes = WindowRightOf (schedule_with ps.master.schedules schedule) reply ps.master n to
 ReplyRight (Change (CloneNamespace source target to) slots) reply n ps changes =

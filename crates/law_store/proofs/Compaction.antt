@@ -1,13 +1,13 @@
 -- Compaction changes no read at or after the cutoff, and a second one changes nothing.
-use Rattle.std.proofs.Common.{◌≡◌, ℕ, ◌≤◌, ◌<◌, ◌+◌, Bool, true, false, List, [], ◌∷◌, ◌++◌, refl, sym, ap, subst, ◌∙◌, fold, arith, leb, ltb, ltb-true, ltb-false, ◌&&◌, ◌||◌}
+use Rattle.std.proofs.Common.{◌≡◌, ℕ, ◌≤◌, ◌<◌, true, false, List, [], ◌∷◌, ◌++◌, refl, sym, ap, subst, ◌∙◌, fold, arith, leb, ltb, ltb-true, ltb-false, ◌&&◌}
 use Rattle.std.proofs.lemmas.Bool.{cond_both, true≢false}
 use Rattle.std.proofs.lemmas.Bool.Decides.{nat_tests}
 use Rattle.std.specs.Str.{bytes_eq}
-use Rattle.row_values.specs.Rows.{absent_row, applied}
+use Rattle.row_values.specs.Rows.{absent_row}
 use Rattle.row_values.specs.declared.rows.Row.{Row}
 use Rattle.row_values.specs.declared.value.RowOp.TheVariants.{Upsert}
-use Rattle.model.specs.Store.{Version, read_step, read_of, has_old, as_version, kept_of, kept_from, kept, Below}
-use Rattle.law_store.specs.Sorted.{Leads, Sorted, IsRow, OnceOld}
+use Rattle.model.specs.Store.{Version, read_step, read_of, has_old, kept_of, kept_from, kept, Below}
+use Rattle.law_store.specs.Sorted.{Leads, Sorted, OnceOld}
 use Rattle.law_store.proofs.Keys.{either_way, equal_keys}
 use Rattle.law_store.proofs.Cells.{row_read, absent_is, upsert_row}
 

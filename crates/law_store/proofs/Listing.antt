@@ -1,5 +1,5 @@
 -- The rows at a time: each key once, in order; and versions made of rows read as the rows.
-use Rattle.std.proofs.Common.{◌≡◌, ℕ, ◌≤◌, ◌<◌, Bool, true, false, cond, List, [], ◌∷◌, ◌++◌, refl, sym, ap, subst, ◌∙◌, fold, arith, leb, ◌&&◌, ◌||◌, le_refl, append-nil}
+use Rattle.std.proofs.Common.{◌≡◌, ℕ, ◌≤◌, ◌<◌, true, false, cond, List, [], ◌∷◌, ◌++◌, refl, sym, ap, ◌∙◌, fold, arith, leb, le_refl, append-nil}
 use Rattle.std.proofs.lemmas.Bool.{cond_both}
 use Rattle.std.proofs.lemmas.Bool.Decides.{nat_tests}
 use Rattle.std.specs.Str.{bytes_eq}
@@ -7,10 +7,10 @@ use Rattle.row_values.specs.Rows.{absent_row, applied}
 use Rattle.row_values.specs.declared.rows.Row.{Row}
 use Rattle.row_values.specs.declared.rows.KeyedRow.{KeyedRow}
 use Rattle.row_values.specs.declared.value.RowOp.TheVariants.{Upsert}
-use Rattle.model.specs.Store.{Version, precedes, read_step, read_of, has_key, present, rows_from, rows_at, of_rows, Below}
+use Rattle.model.specs.Store.{Version, read_step, read_of, has_key, present, rows_from, rows_at, of_rows, Below}
 use Rattle.model.specs.Right.{of_key}
 use Rattle.law_store.specs.Sorted.{Leads, Sorted, Behind, RowsBehind, Rising, StampedAt}
-use Rattle.law_store.proofs.Keys.{either_way, equal_keys, key_sym, precedes_back, precedes_other}
+use Rattle.law_store.proofs.Keys.{either_way, equal_keys, precedes_back, precedes_other}
 use Rattle.law_store.proofs.Cells.{row_read, absent_is, upsert_row}
 use Rattle.law_store.proofs.Merging.{of_key_append, of_key_present}
 

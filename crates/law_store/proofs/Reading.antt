@@ -1,19 +1,17 @@
 -- A read over several places gives, of each key, the rows of its places in their order.
-use Rattle.std.proofs.Common.{◌≡◌, ℕ, Bool, true, false, cond, List, [], ◌∷◌, ◌++◌, Option, Some, None, inl, inr, map, refl, sym, ap, ◌∙◌, ◌&&◌}
-use Rattle.std.specs.List.{filter}
+use Rattle.std.proofs.Common.{◌≡◌, ℕ, Bool, true, cond, List, [], ◌∷◌, ◌++◌, Option, Some, None, inl, inr, refl, ap, ◌∙◌}
 use Rattle.std.proofs.lemmas.List.{map-append}
 use Rattle.std.specs.Str.{bytes_eq}
 use Rattle.row_values.specs.Rows.{cut_to}
 use Rattle.row_values.specs.Codes.{code_of}
 use Rattle.row_values.specs.declared.rows.KeyedRow.{KeyedRow}
-use Rattle.model.specs.Ids.{In}
-use Rattle.model.specs.Store.{Version, read_of, in_range, present, rows_at}
+use Rattle.model.specs.Store.{Version, read_of, in_range, present}
 use Rattle.model.specs.Acts.{At}
 use Rattle.model.specs.Journal.{Change, row_at}
 use Rattle.model.specs.Lists.{in_order}
 use Rattle.model.specs.Tablets.{Tablet}
 use Rattle.model.specs.RowActs.{rows_asked, rows_in, rows_of_places as rows_of_tablets, cut_rows}
-use Rattle.model.specs.Right.{InOrder, RowsRight, of_key, is_asked, row_of_place, rows_of_places}
+use Rattle.model.specs.Right.{RowsRight, of_key, is_asked, row_of_place, rows_of_places}
 use Rattle.law_store.specs.Sorted.{ReadsView}
 use Rattle.law_store.proofs.Keys.{either_way, equal_keys}
 use Rattle.law_store.proofs.Merging.{by_key, ordered, of_key_ordered, of_key_append, of_key_chosen, in_order_mapped, of_key_mapped, of_key_present, cut_present}

@@ -1,19 +1,22 @@
 -- Versions made of rows give the rows again, and are what compaction leaves of them.
-use Rattle.std.proofs.Common.{◌≡◌, ℕ, ◌≤◌, ◌<◌, Bool, true, false, cond, List, [], ◌∷◌, ◌++◌, ◌⊎◌, inl, inr, refl, sym, ap, subst, ◌∙◌, fold, arith, leb, ltb, ltb-true, ltb-false, ◌&&◌, ◌||◌, le_refl}
+use Rattle.std.proofs.Common.{◌≡◌, ℕ, ◌≤◌, true, false, cond, List, [], ◌∷◌, ◌++◌, inl, inr, refl, sym, ap, subst, ◌∙◌, fold, ltb, ltb-true, ltb-false, le_refl}
 use Rattle.std.proofs.lemmas.Bool.{cond_both}
-use Rattle.std.specs.Str.{bytes_eq}
 use Rattle.row_values.specs.Rows.{absent_row}
 use Rattle.row_values.specs.declared.rows.Row.{Row}
 use Rattle.row_values.specs.declared.rows.KeyedRow.{KeyedRow}
 use Rattle.row_values.specs.declared.value.RowOp.TheVariants.{Upsert}
-use Rattle.model.specs.Ids.{In}
-use Rattle.model.specs.Store.{Version, precedes, read_of, has_key, has_old, present, rows_from, rows_at, of_rows, kept_from, kept}
+use Rattle.row_values.specs.Codes.{code_of}
+use Rattle.model.specs.Ids.{Id, In}
+use Rattle.model.specs.Journal.{Change, row_at}
+use Rattle.model.specs.Stands.{AreRowsAt}
+use Rattle.model.specs.Store.{in_range, Version, precedes, read_of, has_key, has_old, present, rows_from, rows_at, of_rows, kept_from, kept}
 use Rattle.model.specs.Right.{of_key}
-use Rattle.law_store.specs.Sorted.{Sorted, IsRow, RowsBehind, Rising, ArePresent}
+use Rattle.law_store.specs.Sorted.{EachKey, Sorted, IsRow, RowsBehind, Rising, ArePresent}
 use Rattle.law_store.proofs.Keys.{either_way, key_self, key_sym, precedes_apart}
 use Rattle.law_store.proofs.Cells.{row_read, upsert_row}
-use Rattle.law_store.proofs.Compaction.{folded_at, kept_new, kept_row}
-use Rattle.law_store.proofs.Listing.{upsert_step, of_rows_reads, rising_rows_at}
+use Rattle.law_store.proofs.Compaction.{kept_new, kept_row}
+use Rattle.law_store.proofs.Members.{each_key_in, keys_rows_at, keys_of_rows}
+use Rattle.law_store.proofs.Listing.{restored_reads, upsert_step, of_rows_reads, rising_rows_at}
 
 of_key_behind : (rs : List KeyedRow) (key : List ℕ) → RowsBehind key rs → of_key key rs ≡ []
 of_key_behind [] key h = refl
@@ -93,3 +96,25 @@ kept_of_rows rs n c rising are = kept_back rs (of_rows rs n) n c rising (λ l. r
 
 pub kept_restored : (vs : List Version) (x n c : ℕ) → Sorted vs → kept (of_rows (rows_at vs x) n) c ≡ of_rows (rows_at vs x) n
 kept_restored vs x n c h = kept_of_rows (rows_at vs x) n c (rising_rows_at vs x h) (present_rows_at vs x)
+
+-- so it changes none that are the rows at their stamp
+pub kept_same : (vs : List Version) (n c : ℕ) → Sorted vs → vs ≡ of_rows (rows_at vs n) n → kept vs c ≡ vs
+kept_same vs n c h are = ap (λ ws. kept ws c) are ∙ kept_restored vs n n c h ∙ sym are
+
+stamp_in : (rs : List KeyedRow) (n : ℕ) (v : Version) → In v (of_rows rs n) → v.stamp ≡ n
+stamp_in [] n v isin = absurd isin
+stamp_in (r ∷ rs) n v (inl e) = ap (λ u. u.stamp) (sym e)
+stamp_in (r ∷ rs) n v (inr isin) = stamp_in rs n v isin
+
+-- the rows at a time of a store that reads there as the view does
+pub are_rows_restored : (vs : List Version) (low high stamp : ℕ) (changes : List Change) (to : ℕ) (table : Id) → Sorted vs
+    → EachKey (λ key. in_range low high (code_of key)) vs
+    → ((key : List ℕ) → in_range low high (code_of key) ≡ true → read_of vs key to ≡ row_at changes to table key)
+    → AreRowsAt (of_rows (rows_at vs to) stamp) low high stamp changes to table
+are_rows_restored vs low high stamp changes to table sorted inside reads = record {
+  stamps = stamp_in (rows_at vs to) stamp;
+  upserts = ap (λ rs. of_rows rs stamp) (sym (restored_rows_at vs to stamp stamp sorted (le_refl stamp)));
+  rows = λ key within. restored_reads vs to stamp key stamp (le_refl stamp) ∙ reads key within;
+  inside = λ v isin. each_key_in (of_rows (rows_at vs to) stamp) (λ key. in_range low high (code_of key)) v
+      (keys_of_rows (rows_at vs to) stamp _ (keys_rows_at vs to _ inside)) isin;
+}

@@ -9,11 +9,13 @@ ghost use Rattle.row_values.specs.Rows.{absent_row};
 ghost use Rattle.row_values.specs.declared.rows.KeyedRow.{KeyedRow};
 ghost use Rattle.row_values.specs.declared.value.Item.{Item};
 ghost use Rattle.model.specs.Acts.{At};
-ghost use Rattle.model.specs.Journal.{Change};
+ghost use Rattle.model.specs.Ids.{Id};
+ghost use Rattle.model.specs.Journal.{Change, row_at};
 ghost use Rattle.model.specs.Lists.{in_order};
 ghost use Rattle.model.specs.Right.{InOrder, RowsRight, of_key};
 ghost use Rattle.model.specs.RowActs.{cut_rows, rows_of_places};
 ghost use Rattle.model.specs.Store.{Below, Version, frozen, in_range, kept, of_rows, part_of, precedes, present, put_version, read_of, read_step, rows_at, written};
+ghost use Rattle.model.specs.Stands.{AreRowsAt};
 ghost use Rattle.model.specs.Tablets.{Tablet};
 ghost use Rattle.law_store.specs.Sorted.{EachItemKey, EachKey, OnceOld, ReadsView, Rising, Sorted, StampedAt, item_step};
 
@@ -70,6 +72,7 @@ pub fn restored_rows_are_read()
     ensures rows { (versions : List Version) (to stamp x : ℕ) → Sorted versions → stamp ≤ x → rows_at (of_rows (rows_at versions to) stamp) x ≡ rows_at versions to }
     ensures kept { (versions : List Version) (to stamp cutoff : ℕ) → Sorted versions → kept (of_rows (rows_at versions to) stamp) cutoff ≡ of_rows (rows_at versions to) stamp }
     ensures sorted { (versions : List Version) (to stamp : ℕ) → Sorted versions → Sorted (of_rows (rows_at versions to) stamp) }
+    ensures are_rows { (versions : List Version) (low high stamp : ℕ) (changes : List Change) (to : ℕ) (table : Id) → Sorted versions → EachKey (λ key. in_range low high (code_of key)) versions → ((key : List ℕ) → in_range low high (code_of key) ≡ true → read_of versions key to ≡ row_at changes to table key) → AreRowsAt (of_rows (rows_at versions to) stamp) low high stamp changes to table }
     ensures stamped { (rows : List KeyedRow) (stamp : ℕ) → StampedAt stamp (of_rows rows stamp) }
 {}
 

@@ -8,7 +8,7 @@ use Rattle.model.specs.Catalog.{TableRecord, namespace_named}
 use Rattle.model.specs.Activity.{Interval}
 use Rattle.model.specs.Tablets.{act_for, effect}
 use Rattle.model.specs.Records.{Schedule, RestorationRecord, RestorationState, Switching, CloneRecord, CloneState, Copying, schedule_with, schedule_of}
-use Rattle.model.specs.Acts.{Command, CreateNamespace, DropNamespace, CreateTable, AddColumn, DropColumn, RenameTable, DropTable, Restore, CloneNamespace, Ask, AskPlan, AskKeys, AskTable, AskWork, AskRemovable, AskPresent, Act, Look, Change, Write, Read, Cutoff, Compact, Send, Process, Ack, Advance, Remove, Prune, Restart, Stats, Event, TooEarly, Future, SlotsFull, Reply, Ok, Work, Removable, Rows, Advanced, Refused}
+use Rattle.model.specs.Acts.{Command, CreateNamespace, DropNamespace, CreateTable, AddColumn, DropColumn, RenameTable, DropTable, Restore, CloneNamespace, Ask, AskPlan, AskKeys, AskTable, AskWork, AskRemovable, AskPresent, Act, Look, Change, Write, Read, Cutoff, Compact, Send, Process, Ack, Advance, Remove, Prune, Restart, Stats, Event, NameTaken, TooMany, TooEarly, Future, SlotsFull, StalePlan, Reply, Ok, Work, Removable, Rows, Advanced, Refused}
 use Rattle.model.specs.Parts.{Master, Parts, start, MasterAct, Ticks, Changes, Sends, Acks, Unsends, Moves, Removes, Prunes, Restarts, Outcome, answered}
 use Rattle.model.specs.Schedules.{low, InWindow}
 use Rattle.model.specs.Operations.{user}
@@ -23,7 +23,7 @@ use Rattle.model.specs.Cleanup.{remove, prune, removable, removed, pruned}
 use Rattle.model.specs.Journal as made
 use Rattle.model.specs.Journal.{TableMade}
 use Rattle.model.specs.Entries.{Entry, slots_of, log_of, stamp_of, Asked}
-use Rattle.model.specs.Right.{RowsRight, LookReplyRight, NothingLate}
+use Rattle.model.specs.Right.{RowsRight, LookReplyRight, LookPlacesRight, NothingLate}
 
 -- What a history leaves
 
@@ -198,26 +198,36 @@ activity_of slots (e ∷ earlier) =
 
 -- Right histories
 
--- a restore or a clone of a namespace that no operation uses is refused exactly outside the window
+-- a restore by a schedule whose namespace no operation uses is refused exactly outside the window, once its plan is right
 abbrev pub WindowRight : Reply → Schedule → ℕ → ℕ → Type 0
+WindowRight (Refused (StalePlan kept)) s n to = Unit {0}
 WindowRight (Refused (TooEarly from)) s n to = (from ≡ low s n) × (to < from)
 WindowRight (Refused (Future now)) s n to = (now ≡ n) × ((low s n ≤ to) × (n ≤ to))
-WindowRight (Refused (SlotsFull free needed)) s n to = InWindow s n to
 WindowRight (Ok ids) s n to = InWindow s n to
-WindowRight _ s n to = Unit {0}
+WindowRight _ s n to = ⊥
 
-abbrev pub WindowRightOf : Option Schedule → Reply → Master → ℕ → ℕ → Type 0
-WindowRightOf None reply m n to = Unit {0}
-WindowRightOf (Some s) reply m n to = user m s.namespace ≡ None → WindowRight reply s n to
+-- so is a clone, once its target's name is free and there may be one more namespace; in the window it may lack slots
+abbrev pub CloneWindowRight : Reply → Schedule → ℕ → ℕ → Type 0
+CloneWindowRight (Refused (NameTaken by)) s n to = Unit {0}
+CloneWindowRight (Refused (TooMany limit)) s n to = Unit {0}
+CloneWindowRight (Refused (SlotsFull free needed)) s n to = InWindow s n to
+CloneWindowRight reply s n to = WindowRight reply s n to
+
+-- where the schedule is known and no operation uses its namespace, the reply is right by the window
+abbrev pub WindowRightOf : (Reply → Schedule → ℕ → ℕ → Type 0) → Option Schedule → Reply → Master → ℕ → ℕ → Type 0
+WindowRightOf Judged None reply m n to = Unit {0}
+WindowRightOf Judged (Some s) reply m n to = user m s.namespace ≡ None → Judged reply s n to
 
 -- the reply of an entry is right, against the journal of the entries before it
 abbrev pub ReplyRight : Act → Reply → ℕ → Parts → List made.Change → Type 0
-ReplyRight (Look (AskKeys namespace table batch at)) reply n ps changes = LookReplyRight reply changes (time_of at n) n namespace table batch
-ReplyRight (Look (AskTable namespace table at)) reply n ps changes = LookReplyRight reply changes (time_of at n) n namespace table []
+ReplyRight (Look (AskKeys namespace table batch at)) reply n ps changes =
+    LookReplyRight reply changes (time_of at n) n namespace table batch × LookPlacesRight reply changes (time_of at n) n namespace table batch ps.master.activity
+ReplyRight (Look (AskTable namespace table at)) reply n ps changes =
+    LookReplyRight reply changes (time_of at n) n namespace table [] × LookPlacesRight reply changes (time_of at n) n namespace table [] ps.master.activity
 ReplyRight (Read places version key at columns) (Rows rows) n ps changes = RowsRight changes (time_of at n) key columns ps.tablet places rows
-ReplyRight (Change (Restore schedule to) slots) reply n ps changes = WindowRightOf (schedule_with ps.master.schedules schedule) reply ps.master n to
+ReplyRight (Change (Restore schedule to) slots) reply n ps changes = WindowRightOf WindowRight (schedule_with ps.master.schedules schedule) reply ps.master n to
 ReplyRight (Change (CloneNamespace source target to) slots) reply n ps changes =
-    WindowRightOf (schedule_of ps.master.schedules (known (namespace_named ps.master.catalog.namespaces source))) reply ps.master n (unwrap_or to (n - 1))
+    WindowRightOf CloneWindowRight (schedule_of ps.master.schedules (known (namespace_named ps.master.catalog.namespaces source))) reply ps.master n (unwrap_or to (n - 1))
 ReplyRight _ reply n ps changes = Unit {0}
 
 -- each reply is that of one list of stamped changes, and no change comes too late for a restore or a clone

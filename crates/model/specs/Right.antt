@@ -1,6 +1,6 @@
 -- When an entry is right: its reply is that of one list of stamped changes, the journal of the entries before it.
 use Rattle.std.specs.Prelude.{◌≡◌, ℕ, ◌<◌, Bool, true, false, List, [], ◌∷◌, ◌++◌, Option, Some, None, ◌==◌, ◌&&◌, if◌then◌else◌}
-use Rattle.std.specs.List.{filter}
+use Rattle.std.specs.List.{filter, list_all}
 use Rattle.std.specs.Option.{is_some}
 use Rattle.std.specs.Str.{bytes_eq}
 use Rattle.row_values.specs.Rows.{cut_to}
@@ -12,7 +12,7 @@ use Rattle.model.specs.Schema.{Column}
 use Rattle.model.specs.Activity.{Interval, active_at}
 use Rattle.model.specs.Journal.{Change, ChangeAct, NamespaceMade, NamespaceDropped, TableMade, TableRenamed, TableDropped, ColumnAdded, ColumnDropped, RowChanged, NamespaceRestored, NamespaceCloned, TableView, is_in, namespace_at, table_at, row_at}
 use Rattle.model.specs.Tablets.{Tablet}
-use Rattle.model.specs.Looks.{batch_fault}
+use Rattle.model.specs.Looks.{batch_fault, place_of}
 use Rattle.model.specs.Acts.{NamedItem, Place, At, Refusal, UnknownNamespace, UnknownTable, UnknownColumn, WrongKind, CrossTablet, Future, TooOld, Reply, Placed, Refused}
 
 -- Rows in order over several places
@@ -67,18 +67,24 @@ pub record TableFound (changes : List Change) (x now : ℕ) (namespace table : L
   pub named : view.name ≡ table
   pub current : is_some (table_at changes now id) ≡ true
 
--- a place is a tablet of the table that is active at the stamp
-abbrev pub IsActivePlace : List Interval → ℕ → Id → Place → Type 0
-IsActivePlace activity now table place = record {
-  interval : Interval;
-  listed : In interval activity;
-  table_is : interval.table ≡ table;
-  active : active_at now interval ≡ true;
-  slot_is : place.slot ≡ interval.slot;
-  tablet_is : place.tablet ≡ interval.tablet;
-  low_is : place.low ≡ interval.low;
-  high_is : place.high ≡ interval.high;
-}
+-- whether an interval's range holds all keys of a batch
+abbrev pub holds_keys : Interval → List NamedItem → Bool
+holds_keys i batch = list_all (λ item. in_range i.low i.high (code_of item.key)) batch
+
+-- a place is a tablet of the table that is active at the stamp, and its range holds the keys
+pub record IsActivePlace (activity : List Interval) (now : ℕ) (table : Id) (batch : List NamedItem) (place : Place) : Type 0 where
+  pub interval : Interval
+  pub listed : In interval activity
+  pub table_is : interval.table ≡ table
+  pub active : active_at now interval ≡ true
+  pub holds : holds_keys interval batch ≡ true
+  pub placed : place ≡ place_of interval
+
+-- the places of a look are the table's tablets that are active at the stamp, also where a time is asked: those that hold the keys
+pub record PlacesRight (changes : List Change) (x now : ℕ) (namespace table : List ℕ) (batch : List NamedItem) (activity : List Interval) (places : List Place) : Type 0 where
+  pub found : TableFound changes x now namespace table
+  pub each : (place : Place) → In place places → IsActivePlace activity now found.id batch place
+  pub all : (i : Interval) → In i activity → i.table ≡ found.id → active_at now i ≡ true → holds_keys i batch ≡ true → In (place_of i) places
 
 -- the table of a look was found, with these columns, and its batch has no fault
 pub record LookRight (changes : List Change) (x now : ℕ) (namespace table : List ℕ) (batch : List NamedItem) (fault : Option Refusal) (columns : List Column → Type 0) : Type 0 where
@@ -100,6 +106,11 @@ LookReplyRight (Refused WrongKind) changes x now namespace table batch = LookRig
 LookReplyRight (Refused (CrossTablet first other)) changes x now namespace table batch = LookRight changes x now namespace table batch None AnyColumns
 LookReplyRight (Placed places version columns) changes x now namespace table batch = LookRight changes x now namespace table batch None (λ kept. columns ≡ kept)
 LookReplyRight _ changes x now namespace table batch = ⊥
+
+-- where a look places its table, the places are right
+abbrev pub LookPlacesRight : Reply → List Change → ℕ → ℕ → List ℕ → List ℕ → List NamedItem → List Interval → Type 0
+LookPlacesRight (Placed places version columns) changes x now namespace table batch activity = PlacesRight changes x now namespace table batch activity places
+LookPlacesRight _ changes x now namespace table batch activity = Unit {0}
 
 -- Nothing late
 

@@ -1,0 +1,5 @@
+pub mod Computed
+pub mod FirstRead
+pub mod Runs
+pub mod Scripts
+pub mod UndoneRestore

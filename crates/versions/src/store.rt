@@ -1,0 +1,64 @@
+ghost use Rattle.std.specs.Prelude.{ℕ, List, [], length, ◌≡◌, ◌≤◌, ◌<◌, IfOk, OnOk, MatchResult};
+ghost use Rattle.model.specs.Store.{Version, read_of, written, Below};
+ghost use Rattle.versions.specs.Batches.{FitsBatch};
+ghost use Rattle.versions.specs.Causes.{RefusedFor};
+
+use hybrid_time::HybridTime;
+use row_values::{Batch, Key, NoMemory, Row};
+use std::alloc::Global;
+
+/// Why a read gives no row.
+#[derive(Debug, Drop)]
+pub enum ReadRefused {
+    /// The asked time is below the cutoff, from which reads are right.
+    TooOld {
+        asked: HybridTime,
+        cutoff: HybridTime,
+    },
+    NoMemory,
+}
+
+/// A store of versions. Contracts see the list of its versions, by key and then in the order of
+/// writing, the cutoff from which its reads are right, and the number of versions for which room
+/// is kept.
+pub trait VersionStore: Drop {
+    ghost versions: { Self → List Version };
+
+    ghost cutoff: { Self → ℕ };
+
+    ghost room: { Self → ℕ };
+
+    /// The empty store, whose reads are right from a time on.
+    fn empty(alloc: Global, from: HybridTime) -> Result<Self, NoMemory>
+        ensures versions { IfOk result (λ s. versions s ≡ []) }
+        ensures cutoff { IfOk result (λ s. cutoff s ≡ from) };
+
+    /// The number of versions.
+    fn len(&self) -> u64
+        ensures count { result ≡ length (versions self.now) };
+
+    /// The time from which reads are right.
+    fn cutoff(&self) -> HybridTime
+        ensures cutoff { result ≡ cutoff self.now };
+
+    /// Makes room for the versions of a batch.
+    fn prepare_add(&mut self, batch: &Batch) -> Result<(), NoMemory>
+        requires batch { FitsBatch batch.now }
+        ensures versions { versions self.new ≡ versions self.old }
+        ensures cutoff { cutoff self.new ≡ cutoff self.old }
+        ensures room { OnOk result (length batch.now ≤ room self.new) };
+
+    /// Adds the versions of a batch, in the room that was made, under a stamp above those held.
+    fn add(&mut self, batch: Batch, stamp: HybridTime)
+        requires batch { FitsBatch batch }
+        requires room { length batch ≤ room self.old }
+        requires above { Below stamp (versions self.old) }
+        ensures versions { versions self.new ≡ written (versions self.old) stamp batch }
+        ensures cutoff { cutoff self.new ≡ cutoff self.old };
+
+    /// The row of a key at a time.
+    fn read_at(&self, key: &Key, x: HybridTime) -> Result<Row, ReadRefused>
+        ensures row { IfOk result (λ row. row ≡ read_of (versions self.now) key.now x) }
+        ensures right { IfOk result (λ _. cutoff self.now ≤ x) }
+        ensures cause { MatchResult result (λ _. Unit {0}) (RefusedFor x (cutoff self.now)) };
+}

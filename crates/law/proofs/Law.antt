@@ -20,7 +20,7 @@ use Rattle.law.proofs.Starting.{start_holds}
 
 -- each act that is covered keeps what holds
 act_keeps : (act : Act) (slots n : ℕ) (ps : Parts) (changes : List Change) → Later (slots_of act) ps n → ActAsked slots act → ActCovered act → Inv ps changes → KeepsAll act n ps changes (outcome act n ps)
-act_keeps (Look ask) slots n ps changes later asked covered inv = look_keeps ask n ps changes later inv
+act_keeps (Look ask) slots n ps changes later asked covered inv = look_keeps ask n ps changes later asked inv
 act_keeps (Write place version batch) slots n ps changes later asked covered inv = write_keeps ps changes n place version batch later asked.0.0 inv
 act_keeps (Read places version key at columns) slots n ps changes later asked covered inv = read_keeps slots ps changes n places version key at columns later asked.1 inv
 act_keeps (Cutoff slot) slots n ps changes later asked covered inv = cutoff_keeps ps changes n slot later asked.0 inv

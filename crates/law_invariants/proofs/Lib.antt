@@ -12,3 +12,4 @@ pub mod Records
 pub mod Looking
 pub mod Tables
 pub mod Cataloguing
+pub mod Placing

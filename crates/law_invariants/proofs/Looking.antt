@@ -43,7 +43,7 @@ namespace_found m n changes namespace id h named =
 -- Tables
 
 -- the time that is asked is kept
-asked_kept : (m : Master) (n : ℕ) (changes : List Change) (ns : Id) (at : Option ℕ) → IsAsked m n changes → is_below at (kept_from m.catalog.kept_from ns) ≡ false → kept_from m.catalog.kept_from ns ≤ time_of at n
+pub asked_kept : (m : Master) (n : ℕ) (changes : List Change) (ns : Id) (at : Option ℕ) → IsAsked m n changes → is_below at (kept_from m.catalog.kept_from ns) ≡ false → kept_from m.catalog.kept_from ns ≤ time_of at n
 asked_kept m n changes ns None h below = le_trans (h.tables.kept ns) h.later
 asked_kept m n changes ns (Some x) h below = ltb-false x (kept_from m.catalog.kept_from ns) below
 
@@ -54,9 +54,9 @@ record_viewed m n changes x t h isin holds kept =
     h.tables.viewed t.id t.namespace x (h.tables.owned t isin) kept ∙ ap (option_map view_of) (h.tables.found x t isin holds)
 
 -- what the records say of the table that is asked
-record IsFoundAt (m : Master) (n x : ℕ) (ns : Id) (table : List ℕ) (t : TableRecord) : Type 0 where
-  is : IsNamedAt m.catalog.tables ns table x t
-  current : is_some (current_table m.catalog.tables t.id) ≡ true
+pub record IsFoundAt (m : Master) (n x : ℕ) (ns : Id) (table : List ℕ) (t : TableRecord) : Type 0 where
+  pub is : IsNamedAt m.catalog.tables ns table x t
+  pub current : is_some (current_table m.catalog.tables t.id) ≡ true
 
 found_now : (m : Master) (n : ℕ) (changes : List Change) (ns : Id) (table : List ℕ) (t : TableRecord) → IsAsked m n changes → current_named m.catalog.tables ns table ≡ Some t → IsFoundAt m n n ns table t
 found_now m n changes ns table t h e =
@@ -71,7 +71,7 @@ found_then m n x ns table t (Some s) is e = either_way (is_some (current_table m
     subst P same_record (record { is = table_named_is m.catalog.tables ns table x s is; current = current }))
     (λ gone. let q : None ≡ Some t = rw gone at e in cc)
 
-table_found : (m : Master) (n : ℕ) (changes : List Change) (ns : Id) (table : List ℕ) (at : Option ℕ) (t : TableRecord) → IsAsked m n changes → table_asked m.catalog.tables ns table at ≡ Some t → IsFoundAt m n (time_of at n) ns table t
+pub table_found : (m : Master) (n : ℕ) (changes : List Change) (ns : Id) (table : List ℕ) (at : Option ℕ) (t : TableRecord) → IsAsked m n changes → table_asked m.catalog.tables ns table at ≡ Some t → IsFoundAt m n (time_of at n) ns table t
 table_found m n changes ns table None t h e = found_now m n changes ns table t h e
 table_found m n changes ns table (Some x) t h e = found_then m n x ns table t (table_named m.catalog.tables ns table x) refl e
 
@@ -87,8 +87,8 @@ asked_none m n changes ns table (Some x) r h none found current =
     let p : Some r ≡ None = rw current at q in cc
 
 -- the table that the records have is that of the view
-view_found : (m : Master) (n x : ℕ) (changes : List Change) (namespace table : List ℕ) (ns : Id) (t : TableRecord) → IsAsked m n changes → namespace_named m.catalog.namespaces namespace ≡ Some ns → kept_from m.catalog.kept_from ns ≤ x
-    → IsFoundAt m n x ns table t → (f : TableFound changes x n namespace table) × (f.view ≡ view_of t)
+pub view_found : (m : Master) (n x : ℕ) (changes : List Change) (namespace table : List ℕ) (ns : Id) (t : TableRecord) → IsAsked m n changes → namespace_named m.catalog.namespaces namespace ≡ Some ns → kept_from m.catalog.kept_from ns ≤ x
+    → IsFoundAt m n x ns table t → (f : TableFound changes x n namespace table) × ((f.view ≡ view_of t) × (f.id ≡ t.id))
 view_found m n x changes namespace table ns t h named kept f =
     let kept_then : kept_from m.catalog.kept_from t.namespace ≤ x = subst (λ k. kept_from m.catalog.kept_from k ≤ x) (sym f.is.namespace_is) kept in
     let current : is_some (table_at changes n t.id) ≡ true =
@@ -105,7 +105,7 @@ view_found m n x changes namespace table ns t h named kept f =
         named = f.is.name_is;
         current = current;
       },
-      refl,
+      (refl, refl),
     )
 
 -- and where the records have none, the view has none
@@ -138,7 +138,7 @@ no_table m n changes namespace table ns at h named kept none f =
 -- Judging
 
 -- a refusal that comes, or what follows where it does not
-step : (P : Reply → Type 0) (comes : Bool) (why : Refusal) (checks : List Check) (o : Outcome) → (comes ≡ true → P (Refused why)) → (comes ≡ false → P (judged checks o).reply) → P (judged (If comes why ∷ checks) o).reply
+pub step : (P : Reply → Type 0) (comes : Bool) (why : Refusal) (checks : List Check) (o : Outcome) → (comes ≡ true → P (Refused why)) → (comes ≡ false → P (judged checks o).reply) → P (judged (If comes why ∷ checks) o).reply
 step P true why checks o comes_ goes = comes_ refl
 step P false why checks o comes_ goes = goes refl
 
@@ -222,7 +222,7 @@ opening_right m n changes namespace table at batch checks o h rest =
     (λ there.
     let is : found ≡ Some (the_table found) = some_is found looks.no_table there in
     let seen = view_found m n (time_of at n) changes namespace table (known ns) (the_table found) h named kept (table_found m n changes (known ns) table at (the_table found) h is) in
-    rest seen.0 seen.1))))
+    rest seen.0 seen.1.0))))
 
 -- the look for all tablets of a table
 pub look_table_right : (m : Master) (n : ℕ) (changes : List Change) (namespace table : List ℕ) (at : Option ℕ) → IsAsked m n changes

@@ -1,22 +1,24 @@
 -- The catalog stands for the view through each accepted command that changes it.
-use Rattle.std.proofs.Common.{ℕ, ◌≡◌, ◌≤◌, ◌+◌, false, List, [], ◌∷◌, Option, Some, None, refl, sym, ap, subst, ◌∙◌, arith, le_refl}
+use Rattle.std.proofs.Common.{inl, inr, length, ℕ, ◌≡◌, ◌≤◌, ◌+◌, false, List, [], ◌∷◌, Option, Some, None, refl, sym, ap, subst, ◌∙◌, arith, le_refl}
 use Rattle.std.specs.Option.{is_some, is_none, option_or}
-use Rattle.model.specs.Ids.{Id}
+use Rattle.model.specs.Ids.{Id, In}
 use Rattle.model.specs.Schema.{Column, ColumnKind, NewColumn, column_named}
-use Rattle.model.specs.Catalog.{TableRecord, namespace_named, current_named}
+use Rattle.model.specs.Records.{IdPair}
+use Rattle.model.specs.Catalog.{tables_at, TableRecord, namespace_named, current_named}
 use Rattle.model.specs.Journal.{Change, ChangeAct, TableRenamed, TableDropped, ColumnAdded, ColumnDropped}
 use Rattle.model.specs.Entries.{NamesDiffer}
-use Rattle.model.specs.Acts.{CreateNamespace, DropNamespace, CreateTable, AddColumn, DropColumn, RenameTable, DropTable}
+use Rattle.model.specs.Acts.{Command, CreateNamespace, DropNamespace, CreateTable, AddColumn, DropColumn, RenameTable, DropTable, CloneNamespace}
 use Rattle.model.specs.Parts.{Master}
 use Rattle.model.specs.Looks.{known, table_of, the_table, no_table}
-use Rattle.model.specs.Changed.{changed, next_namespace, next_table}
+use Rattle.model.specs.Changed.{changed, next_namespace, next_table, pair_tables, new_clone, owners_of, clone_time}
 use Rattle.model.specs.Changes.{named, clone_named, table_id}
 use Rattle.model.specs.History.{with, with_table, with_command, id_of_column}
 use Rattle.law_invariants.specs.Invariant.{NamespacesStand, TablesStand, MasterGood}
-use Rattle.law_invariants.proofs.Finding.{some_is, not_some_is}
-use Rattle.law_invariants.proofs.Names.{names_kept, names_made, names_dropped}
+use Rattle.law_invariants.proofs.Finding.{some_is, not_some_is, in_mapped}
+use Rattle.law_invariants.proofs.Ticking.{namespaces_later, tables_later}
+use Rattle.law_invariants.proofs.Names.{names_kept, names_further, names_made, names_dropped}
 use Rattle.law_invariants.proofs.Records.{IsCurrent, current_named_is}
-use Rattle.law_invariants.proofs.Tables.{tables_namespace_made, tables_namespace_dropped, tables_made, tables_dropped, tables_column_added, tables_column_dropped, tables_renamed}
+use Rattle.law_invariants.proofs.Tables.{tables_namespace_made, tables_namespace_dropped, tables_made, tables_dropped, tables_reserved, tables_column_added, tables_column_dropped, tables_renamed}
 
 -- the master's catalog stands for the view
 pub record CatalogStands (m : Master) (changes : List Change) : Type 0 where
@@ -136,3 +138,53 @@ catalog_table_dropped m n namespace table slots ids changes le known_ h =
       namespaces = names_kept m.catalog.namespaces m.clock m.drawn.namespaces n m.drawn.namespaces _ changes le (le_refl _) tt h.namespaces;
       tables = tables_dropped m.catalog m.clock m.drawn.tables n t.id changes le h.tables;
     })
+
+-- Commands that leave the catalog's records
+
+-- commands that change no name and no table
+abbrev pub LeavesCatalog : Command → Type 0
+LeavesCatalog (CreateNamespace name) = ⊥
+LeavesCatalog (DropNamespace name) = ⊥
+LeavesCatalog (CreateTable namespace table tablets columns) = ⊥
+LeavesCatalog (AddColumn namespace table name kind) = ⊥
+LeavesCatalog (DropColumn namespace table name) = ⊥
+LeavesCatalog (RenameTable namespace table name) = ⊥
+LeavesCatalog (DropTable namespace table) = ⊥
+LeavesCatalog (CloneNamespace source target to) = ⊥
+LeavesCatalog _ = Unit {0}
+
+pub catalog_left : (command : Command) (m : Master) (n : ℕ) (slots : List ℕ) (ids : List Id) (changes : List Change) → m.clock ≤ n → LeavesCatalog command → CatalogStands m changes
+    → CatalogStands (changed command slots n m) (with_command command ids n m changes)
+unfolding changed
+catalog_left (CreateNamespace name) m n slots ids changes le leaves h = absurd leaves
+catalog_left (DropNamespace name) m n slots ids changes le leaves h = absurd leaves
+catalog_left (CreateTable namespace table tablets columns) m n slots ids changes le leaves h = absurd leaves
+catalog_left (AddColumn namespace table name kind) m n slots ids changes le leaves h = absurd leaves
+catalog_left (DropColumn namespace table name) m n slots ids changes le leaves h = absurd leaves
+catalog_left (RenameTable namespace table name) m n slots ids changes le leaves h = absurd leaves
+catalog_left (DropTable namespace table) m n slots ids changes le leaves h = absurd leaves
+catalog_left (CloneNamespace source target to) m n slots ids changes le leaves h = absurd leaves
+catalog_left _ m n slots ids changes le leaves h = record {
+  namespaces = namespaces_later m.catalog.namespaces m.clock n m.drawn.namespaces changes le h.namespaces;
+  tables = tables_later m.catalog m.clock n m.drawn.tables changes le h.tables;
+}
+
+-- the tables of pairs have the next identifiers
+pairs_drawn : (ts : List TableRecord) (drawn : ℕ) (p : IdPair) → In p (pair_tables ts drawn) → p.target.number ≤ drawn + length (pair_tables ts drawn)
+pairs_drawn [] drawn p isin = absurd isin
+pairs_drawn (t ∷ ts) drawn p (inl e) = let q : drawn + 1 ≡ p.target.number = ap (λ k. k.target.number) e in omega arith
+pairs_drawn (t ∷ ts) drawn p (inr isin) = let rest = pairs_drawn ts (drawn + 1) p isin in omega arith
+
+-- a clone begins: its tables are yet to be made
+pub catalog_clone_begun : (m : Master) (n : ℕ) (source target : List ℕ) (to : Option ℕ) (slots : List ℕ) (ids : List Id) (changes : List Change) → m.clock ≤ n → CatalogStands m changes
+    → CatalogStands (changed (CloneNamespace source target to) slots n m) (with_command (CloneNamespace source target to) ids n m changes)
+unfolding changed
+catalog_clone_begun m n source target to slots ids changes le h =
+    let clone = new_clone (known (namespace_named m.catalog.namespaces source)) source target (clone_time to n) m in
+    record {
+      namespaces = names_further m.catalog.namespaces m.clock m.drawn.namespaces n (m.drawn.namespaces + 1) changes le (omega arith) h.namespaces;
+      tables = tables_reserved m.catalog (owners_of clone) m.clock m.drawn.tables n (m.drawn.tables + length clone.tables) changes le (omega arith)
+          (in_mapped (λ p. record { table = p.target; namespace = clone.target_id }) (λ o. o.table.number ≤ m.drawn.tables + length clone.tables) clone.tables
+          (pairs_drawn (tables_at m.catalog.tables (known (namespace_named m.catalog.namespaces source)) (clone_time to n)) m.drawn.tables))
+          h.tables;
+    }

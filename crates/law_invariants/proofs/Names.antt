@@ -91,6 +91,16 @@ names_stay c changes x id h = cond_both (leb c.stamp x) _ _ (λ o. o ≡ namespa
 pub name_then : (c : Change) (changes : List Change) (x : ℕ) (id : Id) → c.stamp ≤ x → namespace_at (c ∷ changes) x id ≡ name_after c.act id (namespace_at changes x id)
 name_then c changes x id l = let t : leb c.stamp x ≡ true = le-leb c.stamp x l in rw t refl
 
+-- at a later time, with further identifiers drawn
+pub names_further : (rs : List NamespaceRecord) (time drawn m more : ℕ) (changes : List Change) → time ≤ m → drawn ≤ more → NamespacesStand rs time drawn changes → NamespacesStand rs m more changes
+names_further rs time drawn m more changes le further h = record {
+  past = λ r isin. past_later r.from time m r.to le (h.past r isin);
+  drawn_before = λ r isin. le_trans (h.drawn_before r isin) further;
+  unique = h.unique;
+  found = h.found;
+  viewed = λ id x after. h.viewed id x (le_trans le after);
+}
+
 -- another change in front of the journal, at a later time, and with further identifiers drawn
 pub names_kept : (rs : List NamespaceRecord) (time drawn m more : ℕ) (c : Change) (changes : List Change) → time ≤ m → drawn ≤ more → LeavesNames c.act → NamespacesStand rs time drawn changes → NamespacesStand rs m more (c ∷ changes)
 names_kept rs time drawn m more c changes le further leaves h = record {

@@ -1,5 +1,5 @@
 -- The records of tables: what is found at a time and now, after one more record and after one ends.
-use Rattle.std.proofs.Common.{ℕ, ◌≡◌, ◌<◌, ◌≤◌, Bool, true, false, cond, ◌&&◌, List, [], ◌∷◌, ◌++◌, Option, Some, None, refl, sym, ap, ◌∙◌, arith, le_trans, le_refl, le-leb, leb, ltb}
+use Rattle.std.proofs.Common.{inl, inr, ℕ, ◌≡◌, ◌<◌, ◌≤◌, Bool, true, false, cond, ◌&&◌, List, [], ◌∷◌, ◌++◌, Option, Some, None, refl, sym, ap, ◌∙◌, arith, le_trans, le_refl, le-leb, leb, ltb}
 use Rattle.std.specs.List.{find}
 use Rattle.std.specs.Option.{option_map}
 use Rattle.std.proofs.lemmas.Bool.{true≢false}
@@ -222,9 +222,16 @@ view_before rs id at k x l =
 
 -- Owners and marks
 
-pub owner_first : (os : List Owner) (o : Owner) (table owner : Id) → owner_of os table ≡ Some owner → owner_of (os ++ o ∷ []) table ≡ Some owner
-owner_first [] o table owner e = cc
-owner_first (p ∷ ps) o table owner e = either_way (same p.table table) (λ t. rw t (rw t at e)) (λ n. rw n (owner_first ps o table owner (rw n at e)))
+-- an owner stays under further ones
+pub owners_first : (os qs : List Owner) (table owner : Id) → owner_of os table ≡ Some owner → owner_of (os ++ qs) table ≡ Some owner
+owners_first [] qs table owner e = cc
+owners_first (p ∷ ps) qs table owner e = either_way (same p.table table) (λ t. rw t (rw t at e)) (λ n. rw n (owners_first ps qs table owner (rw n at e)))
+
+-- further owners are those of other tables
+pub owners_beside : (os qs : List Owner) (table : Id) → ((o : Owner) → In o qs → same o.table table ≡ false) → owner_of os table ≡ None → owner_of (os ++ qs) table ≡ None
+owners_beside [] [] table others e = refl
+owners_beside [] (q ∷ qs) table others e = rw (others q (inl refl)) (owners_beside [] qs table (λ o h. others o (inr h)) e)
+owners_beside (p ∷ ps) qs table others e = either_way (same p.table table) (λ t. cc) (λ n. rw n (owners_beside ps qs table others (rw n at e)))
 
 pub owner_last : (os : List Owner) (o : Owner) → owner_of os o.table ≡ None → owner_of (os ++ o ∷ []) o.table ≡ Some o.namespace
 owner_last [] o e = rw (same_self o.table) refl

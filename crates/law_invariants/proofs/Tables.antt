@@ -20,7 +20,7 @@ use Rattle.law_invariants.specs.Invariant.{IsPast, view_of, view_at, ColumnsStan
 use Rattle.law_invariants.proofs.Finding.{both_pass, passes_both, first_fails, second_fails, not_passing, none_or_some, same_equal, same_self, not_same, in_added, in_mapped, none_found}
 use Rattle.law_invariants.proofs.Names.{names_kept}
 use Rattle.law_invariants.proofs.Columns.{columns_made, columns_added, columns_dropped, dropped_alike}
-use Rattle.law_invariants.proofs.Records.{has_title, is_named_at, table_named_found, now_holds, current_named_at, record_fresh, named_first, named_last, record_first, record_last, record_beside, end_one, table_end_past, end_held, end_over, named_ended, record_ended, record_gone, record_other, view_before, owner_first, owner_last, owner_beside, kept_rises, kept_by}
+use Rattle.law_invariants.proofs.Records.{has_title, is_named_at, table_named_found, now_holds, current_named_at, record_fresh, named_first, named_last, record_first, record_last, record_beside, end_one, table_end_past, end_held, end_over, named_ended, record_ended, record_gone, record_other, view_before, record_at_is, owners_first, owners_beside, owner_last, owner_beside, kept_rises, kept_by}
 use Rattle.law_invariants.proofs.Ticking.{past_later}
 
 -- The view after a change
@@ -92,6 +92,36 @@ tables_namespace_dropped c namespaces time drawn n id changes le h =
     tables_kept c namespaces c.kept_from time drawn n drawn (record { stamp = n; act = NamespaceDropped id }) changes le (le_refl drawn) tt
     (λ k. le_refl (kept_from c.kept_from k)) (λ k. le_trans (h.kept k) le) h
 
+-- tables that are yet to be made get their owners
+pub tables_reserved : (c : Catalog) (os : List Owner) (time drawn m more : ℕ) (changes : List Change) → time ≤ m → drawn ≤ more → ((o : Owner) → In o os → o.table.number ≤ more)
+    → TablesStand c time drawn changes → TablesStand (record c { owners = c.owners ++ os }) m more changes
+tables_reserved c os time drawn m more changes le further by h =
+    let was_none : (id : Id) → owner_of (c.owners ++ os) id ≡ None → owner_of c.owners id ≡ None = λ id none. none_or_some (owner_of c.owners id)
+    (λ gone. gone)
+    (λ k there. let q : None ≡ Some k = sym none ∙ owners_first c.owners os id k there in cc) in
+    record {
+      past = λ r isin. past_later r.from time m r.to le (h.past r isin);
+      drawn_before = λ r isin. le_trans (h.drawn_before r isin) further;
+      owned = λ r isin. owners_first c.owners os r.id r.namespace (h.owned r isin);
+      owners_drawn = λ id new. owners_beside c.owners os id
+          (λ o isin. not_same o.table id (λ e. let b = by o isin in let q : o.table.number ≡ id.number = ap (λ i. i.number) e in omega arith))
+          (h.owners_drawn id (let f = further in omega arith));
+      unique = h.unique;
+      found = h.found;
+      columns = h.columns;
+      viewed = λ id ns x owned kept. none_or_some (owner_of c.owners id)
+          (λ none. h.unmade id x none ∙ none_or_some (record_at c.tables id x)
+          (λ gone. sym (ap (option_map view_of) gone))
+          (λ r there. let is = record_at_is c.tables id x r there in
+          let q : None ≡ Some r.namespace = sym none ∙ ap (owner_of c.owners) (sym is.id_is) ∙ h.owned r is.listed in cc))
+          (λ k there. let q : Some k ≡ Some ns = sym (owners_first c.owners os id k there) ∙ owned in
+          let is : k ≡ ns = cc in
+          h.viewed id ns x (there ∙ ap Some is) kept);
+      unmade = λ id x none. h.unmade id x (was_none id none);
+      inside = λ id x v there. owners_first c.owners os id v.namespace (h.inside id x v there);
+      kept = λ ns. le_trans (h.kept ns) le;
+    }
+
 -- rows change
 pub tables_rows_made : (c : Catalog) (time drawn n : ℕ) (table : Id) (items : List Item) (changes : List Change) → TablesStand c time drawn changes → TablesStand c time drawn (rows_made n table items changes)
 tables_rows_made c time drawn n table [] changes h = h
@@ -140,17 +170,17 @@ tables_made c time drawn n id ns name columns changes le fresh free differ h =
     let here : (x : ℕ) → n ≤ x → record_at (c.tables ++ r ∷ []) id x ≡ Some r = λ x l. record_last c.tables r id x (unknown x) (passes_both (holds_at x n None) (same id id) (begun_holds x n l) (same_self id)) in
     let inside : (k : Id) (x : ℕ) (v : TableView) → table_at (change ∷ changes) x k ≡ Some v → owner_of (c.owners ++ o ∷ []) k ≡ Some v.namespace =
     λ k x v there. table_ways x n
-    (λ before. owner_first c.owners o k v.namespace (h.inside k x v (sym (table_before change changes x k before) ∙ there)))
+    (λ before. owners_first c.owners (o ∷ []) k v.namespace (h.inside k x v (sym (table_before change changes x k before) ∙ there)))
     (λ since. let seen : table_then change changes x k ≡ Some v = sym (table_since change changes x k since) ∙ there in
     either_way (same id k)
     (λ t. let made : Some (view_of r) ≡ Some v = rw t at seen in
     let in_it : ns ≡ v.namespace = (let q : view_of r ≡ v = cc in ap (λ w. w.namespace) q) in
     ap (owner_of (c.owners ++ o ∷ [])) (sym (same_equal id k t)) ∙ owner_last c.owners o unowned ∙ ap Some in_it)
-    (λ f. owner_first c.owners o k v.namespace (h.inside k x v (rw f at seen)))) in
+    (λ f. owners_first c.owners (o ∷ []) k v.namespace (h.inside k x v (rw f at seen)))) in
     record {
       past = in_added (λ s. IsPast n s.from s.to) c.tables r (λ s isin. past_later s.from time n s.to le (h.past s isin)) (record { begun = le_refl n; ended = tt });
       drawn_before = in_added (λ s. s.id.number ≤ drawn + 1) c.tables r (λ s isin. let b = h.drawn_before s isin in omega arith) (omega arith);
-      owned = in_added (λ s. owner_of (c.owners ++ o ∷ []) s.id ≡ Some s.namespace) c.tables r (λ s isin. owner_first c.owners o s.id s.namespace (h.owned s isin)) (owner_last c.owners o unowned);
+      owned = in_added (λ s. owner_of (c.owners ++ o ∷ []) s.id ≡ Some s.namespace) c.tables r (λ s isin. owners_first c.owners (o ∷ []) s.id s.namespace (h.owned s isin)) (owner_last c.owners o unowned);
       owners_drawn = λ k new. owner_beside c.owners o k (not_same id k (λ e. let q : id.number ≡ k.number = ap (λ i. i.number) e in omega arith)) ∙ h.owners_drawn k (omega arith);
       unique = λ x. in_added (λ s. holds_at x s.from s.to ≡ true → table_named (c.tables ++ r ∷ []) s.namespace s.name x ≡ Some s) c.tables r
           (λ s isin holds. named_first c.tables (r ∷ []) s.namespace s.name x s (h.unique x s isin holds))

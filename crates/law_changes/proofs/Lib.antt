@@ -1,2 +1,4 @@
 pub mod Told
 pub mod Quiet
+pub mod Namespaces
+pub mod Schemas

@@ -2,3 +2,5 @@ pub mod Told
 pub mod Quiet
 pub mod Namespaces
 pub mod Schemas
+pub mod Plans
+pub mod Dropping

@@ -18,7 +18,8 @@ use Rattle.law_invariants.specs.Invariant.{Covered, StandsIn, IsGood, IsOpen, Sl
 use Rattle.law_invariants.proofs.Ticking.{past_later, tablet_ticked}
 use Rattle.law_invariants.proofs.Journaling.{IsQuiet}
 use Rattle.law_invariants.proofs.Covering.{quiet_covers}
-use Rattle.law_changes.proofs.Told.{CatalogStands, slots_told, master_early, tablet_early}
+use Rattle.law_invariants.proofs.Cataloguing.{CatalogStands}
+use Rattle.law_changes.proofs.Told.{slots_told, master_early, tablet_early}
 
 -- the master goes on with its tablets, under a journal with the same tables and rows
 pub record Follows (m k : Master) (changes new : List Made) : Type 0 where

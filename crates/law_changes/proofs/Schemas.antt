@@ -15,11 +15,12 @@ use Rattle.model.specs.History.{with, with_table, id_of_column, told}
 use Rattle.law_invariants.specs.Invariant.{Inv, Later, Passes}
 use Rattle.law_invariants.proofs.Ticking.{by_checks, refused_keeps, KeepsAll}
 use Rattle.law_invariants.proofs.Journaling.{IsQuiet, column_added_quiet, column_dropped_quiet, table_renamed_quiet, nothing_late}
-use Rattle.law_changes.proofs.Told.{CatalogStands, master_early, told_either}
+use Rattle.law_invariants.proofs.Cataloguing.{CatalogStands, catalog_of, catalog_column_added, catalog_column_dropped, catalog_table_renamed}
+use Rattle.law_changes.proofs.Told.{master_early, told_either}
 use Rattle.law_changes.proofs.Quiet.{IsMild, Follows, quiet_keeps}
 
 -- a change of the table that is found, if one is
-with_found : (found : Option TableRecord) (act : TableRecord → ChangeAct) (n : ℕ) (changes : List Made) → is_none found ≡ false → with_table found act n changes ≡ with n (act (the_table found)) changes
+pub with_found : (found : Option TableRecord) (act : TableRecord → ChangeAct) (n : ℕ) (changes : List Made) → is_none found ≡ false → with_table found act n changes ≡ with n (act (the_table found)) changes
 with_found None act n changes e = cc
 with_found (Some t) act n changes e = refl
 
@@ -43,12 +44,10 @@ add_column_checks namespace table name m =
 abbrev pub column_added : List ℕ → ColumnKind → TableRecord → ChangeAct
 column_added name kind t = ColumnAdded t.id (record { id = t.schema.next; name = name; kind = kind })
 
-pub add_column_by : (ps : Parts) (changes : List Made) (n : ℕ) (namespace table name : List ℕ) (kind : ColumnKind) (slots : List ℕ) → Later (0 ∷ slots) ps n → Inv ps changes
-    → (Passes (add_column_checks namespace table name ps.master) → let t = the_table (table_of ps.master namespace table) in
-        CatalogStands (table_changed t t.name (with_column name kind t.schema) n ps.master) (with n (column_added name kind t) changes))
+pub add_column_keeps : (ps : Parts) (changes : List Made) (n : ℕ) (namespace table name : List ℕ) (kind : ColumnKind) (slots : List ℕ) → Later (0 ∷ slots) ps n → Inv ps changes
     → KeepsAll (Change (AddColumn namespace table name kind) slots) n ps changes (add_column namespace table name kind slots n ps)
 unfolding add_column changed
-add_column_by ps changes n namespace table name kind slots later inv stands =
+add_column_keeps ps changes n namespace table name kind slots later inv =
     let m = ps.master in
     let command = AddColumn namespace table name kind in
     let found = table_of m namespace table in
@@ -61,7 +60,9 @@ add_column_by ps changes n namespace table name kind slots later inv stands =
           subst (Inv (told (Change command slots) (accepts command slots tablets []) n ps)) (sym (with_found found (column_added name kind) n changes passes.1.0))
             (quiet_keeps command slots tablets [] n ps changes (with n (column_added name kind t) changes) later inv
               (follows_changed m t t.name (with_column name kind t.schema) n changes _ before (column_added_quiet n t.id _ changes))
-              (stands passes) (nothing_late n (column_added name kind t) changes m.clock before inv.master.past inv.late)
+              (subst (CatalogStands (changed command slots n m)) (with_found found (column_added name kind) n changes passes.1.0)
+                (catalog_column_added m n namespace table name kind slots [] changes (le_of_lt before) passes.1.0 passes.1.1.1.0 (catalog_of m changes inv.master)))
+              (nothing_late n (column_added name kind t) changes m.clock before inv.master.past inv.late)
               (λ i. told_either IsMild slots (SetVersion (t.schema.version + 1)) i tt tt)) })
 
 abbrev pub drop_column_checks : List ℕ → List ℕ → List ℕ → Master → List Check
@@ -78,12 +79,10 @@ drop_column_checks namespace table name m =
 abbrev pub column_dropped : List ℕ → TableRecord → ChangeAct
 column_dropped name t = ColumnDropped t.id (id_of_column (column_named t.schema.columns name))
 
-pub drop_column_by : (ps : Parts) (changes : List Made) (n : ℕ) (namespace table name slots : List ℕ) → Later (0 ∷ slots) ps n → Inv ps changes
-    → (Passes (drop_column_checks namespace table name ps.master) → let t = the_table (table_of ps.master namespace table) in
-        CatalogStands (table_changed t t.name (without_column name t.schema) n ps.master) (with n (column_dropped name t) changes))
+pub drop_column_keeps : (ps : Parts) (changes : List Made) (n : ℕ) (namespace table name slots : List ℕ) → Later (0 ∷ slots) ps n → Inv ps changes
     → KeepsAll (Change (DropColumn namespace table name) slots) n ps changes (drop_column namespace table name slots n ps)
 unfolding drop_column changed
-drop_column_by ps changes n namespace table name slots later inv stands =
+drop_column_keeps ps changes n namespace table name slots later inv =
     let m = ps.master in
     let command = DropColumn namespace table name in
     let found = table_of m namespace table in
@@ -96,7 +95,9 @@ drop_column_by ps changes n namespace table name slots later inv stands =
           subst (Inv (told (Change command slots) (accepts command slots tablets []) n ps)) (sym (with_found found (column_dropped name) n changes passes.1.0))
             (quiet_keeps command slots tablets [] n ps changes (with n (column_dropped name t) changes) later inv
               (follows_changed m t t.name (without_column name t.schema) n changes _ before (column_dropped_quiet n t.id _ changes))
-              (stands passes) (nothing_late n (column_dropped name t) changes m.clock before inv.master.past inv.late)
+              (subst (CatalogStands (changed command slots n m)) (with_found found (column_dropped name) n changes passes.1.0)
+                (catalog_column_dropped m n namespace table name slots [] changes (le_of_lt before) passes.1.0 passes.1.1.0 (catalog_of m changes inv.master)))
+              (nothing_late n (column_dropped name t) changes m.clock before inv.master.past inv.late)
               (λ i. told_either IsMild slots (SetVersion (t.schema.version + 1)) i tt tt)) })
 
 abbrev pub rename_table_checks : List ℕ → List ℕ → List ℕ → Master → List Check
@@ -111,12 +112,10 @@ rename_table_checks namespace table name m =
 abbrev pub table_renamed : List ℕ → TableRecord → ChangeAct
 table_renamed name t = TableRenamed t.id name
 
-pub rename_table_by : (ps : Parts) (changes : List Made) (n : ℕ) (namespace table name slots : List ℕ) → Later (0 ∷ slots) ps n → Inv ps changes
-    → (Passes (rename_table_checks namespace table name ps.master) → let t = the_table (table_of ps.master namespace table) in
-        CatalogStands (table_changed t name t.schema n ps.master) (with n (table_renamed name t) changes))
+pub rename_table_keeps : (ps : Parts) (changes : List Made) (n : ℕ) (namespace table name slots : List ℕ) → Later (0 ∷ slots) ps n → Inv ps changes
     → KeepsAll (Change (RenameTable namespace table name) slots) n ps changes (rename_table namespace table name slots n ps)
 unfolding rename_table changed
-rename_table_by ps changes n namespace table name slots later inv stands =
+rename_table_keeps ps changes n namespace table name slots later inv =
     let m = ps.master in
     let command = RenameTable namespace table name in
     let found = table_of m namespace table in
@@ -128,4 +127,6 @@ rename_table_by ps changes n namespace table name slots later inv stands =
           subst (Inv (told (Change command slots) (accepts command slots [] []) n ps)) (sym (with_found found (table_renamed name) n changes passes.1.0))
             (quiet_keeps command slots [] [] n ps changes (with n (table_renamed name t) changes) later inv
               (follows_changed m t name t.schema n changes _ before (table_renamed_quiet n t.id name changes))
-              (stands passes) (nothing_late n (table_renamed name t) changes m.clock before inv.master.past inv.late) (λ i. tt)) })
+              (subst (CatalogStands (changed command slots n m)) (with_found found (table_renamed name) n changes passes.1.0)
+                (catalog_table_renamed m n namespace table name slots [] changes (le_of_lt before) passes.1.0 passes.1.1.1.0 (catalog_of m changes inv.master)))
+              (nothing_late n (table_renamed name t) changes m.clock before inv.master.past inv.late) (λ i. tt)) })

@@ -13,14 +13,9 @@ use Rattle.model.specs.Changed.{changed}
 use Rattle.model.specs.History.{told}
 use Rattle.model.specs.Right.{NothingLate}
 use Rattle.law_store.proofs.Keys.{either_way}
-use Rattle.law_invariants.specs.Invariant.{SlotGood, MasterGood, Inv, Later, NamespacesStand, TablesStand}
+use Rattle.law_invariants.specs.Invariant.{SlotGood, MasterGood, Inv, Later}
 use Rattle.law_invariants.proofs.Finding.{both_pass}
 use Rattle.law_invariants.proofs.Ticking.{not_true}
-
--- the records of the catalog stand for the journal
-pub record CatalogStands (m : Master) (changes : List Made) : Type 0 where
-  pub namespaces : NamespacesStand m.catalog.namespaces m.clock m.drawn.namespaces changes
-  pub tables : TablesStand m.catalog m.clock m.drawn.tables changes
 
 touched_has : (i : ℕ) (slots : List ℕ) → (has (0 ∷ slots) i && not (eqb i 0)) ≡ true → (has slots i ≡ true) × (eqb i 0 ≡ false)
 touched_has i slots e =

@@ -4,3 +4,5 @@ pub mod Namespaces
 pub mod Schemas
 pub mod Plans
 pub mod Dropping
+pub mod Free
+pub mod Creating

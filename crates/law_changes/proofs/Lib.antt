@@ -6,3 +6,4 @@ pub mod Plans
 pub mod Dropping
 pub mod Free
 pub mod Creating
+pub mod Changing

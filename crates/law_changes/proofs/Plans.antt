@@ -1,0 +1,55 @@
+-- The slots of a plan: those of a table's tablets, and free ones.
+use Rattle.std.proofs.Common.{ℕ, ◌≡◌, ◌≤◌, ◌<◌, ◌+◌, List, [], ◌∷◌, length, map, Option, Some, None, Bool, true, false, cond, ◌&&◌, ◌||◌, inl, inr, refl, sym, ap, subst, ◌∙◌, arith, not, eqb, ltb, eqb-true}
+use Rattle.std.specs.List.{filter}
+use Rattle.std.proofs.lemmas.Bool.{cond_both}
+use Rattle.std.proofs.lemmas.Bool.Decides.{nat_tests}
+use Rattle.model.specs.Ids.{Id, In, has, put_slot, rising, same}
+use Rattle.model.specs.Times.{is_open}
+use Rattle.model.specs.Activity.{Interval}
+use Rattle.model.specs.Parts.{Master}
+use Rattle.model.specs.Looks.{active_in}
+use Rattle.law_store.proofs.Keys.{either_way}
+use Rattle.law_invariants.proofs.Finding.{map_in, passes_both}
+
+pub in_filter : {A : Type 0} (xs : List A) (test : A → Bool) (a : A) → In a xs → test a ≡ true → In a (filter test xs)
+in_filter [] test a isin t = absurd isin
+in_filter (x ∷ xs) test a (inl e) t = let k : test x ≡ true = ap test e ∙ t in rw k (inl e)
+in_filter (x ∷ xs) test a (inr isin) t = cond_both (test x) (x ∷ filter test xs) (filter test xs) (In a) (λ k. inr (in_filter xs test a isin t)) (λ k. in_filter xs test a isin t)
+
+pub has_in : (slots : List ℕ) (slot : ℕ) → In slot slots → has slots slot ≡ true
+has_in [] slot isin = absurd isin
+has_in (s ∷ slots) slot (inl e) = let k : eqb s slot ≡ true = grind (arith, nat_tests) in rw k refl
+has_in (s ∷ slots) slot (inr isin) = let k = has_in slots slot isin in either_way (eqb s slot) (λ e. rw e refl) (λ e. rw e k)
+
+either_has : (a b : Bool) → b ≡ true → (a || b) ≡ true
+either_has true b e = refl
+either_has false b e = e
+
+pub or_ways : {P : Type 0} (a b : Bool) → (a || b) ≡ true → (a ≡ true → P) → (b ≡ true → P) → P
+or_ways true b e first second = first refl
+or_ways false b e first second = second e
+
+pub has_put : (slots : List ℕ) (s slot : ℕ) → has (s ∷ slots) slot ≡ true → has (put_slot s slots) slot ≡ true
+has_put [] s slot h = h
+has_put (r ∷ slots) s slot h = cond_both (ltb s r) (s ∷ r ∷ slots) (cond (eqb r s) (r ∷ slots) (r ∷ put_slot s slots)) (λ l. has l slot ≡ true)
+    (λ e. h)
+    (λ e. cond_both (eqb r s) (r ∷ slots) (r ∷ put_slot s slots) (λ l. has l slot ≡ true)
+        (λ is. or_ways (eqb s slot) (eqb r slot || has slots slot) h
+            (λ q. let k : eqb r slot ≡ true = ap (λ z. eqb z slot) (eqb-true r s is) ∙ q in rw k refl)
+            (λ q. q))
+        (λ is. or_ways (eqb s slot) (eqb r slot || has slots slot) h
+            (λ q. either_has (eqb r slot) (has (put_slot s slots) slot) (has_put slots s slot (rw q refl)))
+            (λ q. or_ways (eqb r slot) (has slots slot) q
+                (λ k. rw k refl)
+                (λ k. either_has (eqb r slot) (has (put_slot s slots) slot) (has_put slots s slot (either_has (eqb s slot) (has slots slot) k))))))
+
+pub has_rising : (slots : List ℕ) (slot : ℕ) → has slots slot ≡ true → has (rising slots) slot ≡ true
+has_rising [] slot h = h
+has_rising (s ∷ slots) slot h = has_put (rising slots) s slot (either_way (eqb s slot) (λ e. rw e refl) (λ e. let q : (eqb s slot || has slots slot) ≡ true = h in let k : has slots slot ≡ true = rw e at q in either_has (eqb s slot) _ (has_rising slots slot k)))
+
+-- the slot of each active tablet of a table is in the plan of what is done to the table
+pub active_planned : (m : Master) (id : Id) (i : Interval) → In i m.activity → i.to ≡ None → same i.table id ≡ true → has (rising (map (λ j. j.slot) (active_in m id))) i.slot ≡ true
+active_planned m id i isin opened is =
+    let test : Interval → Bool = λ j. is_open j.to && same j.table id in
+    let passes : test i ≡ true = passes_both (is_open i.to) (same i.table id) (ap is_open opened) is in
+    has_rising (map (λ j. j.slot) (active_in m id)) i.slot (has_in (map (λ j. j.slot) (active_in m id)) i.slot (map_in (λ j. j.slot) (active_in m id) i (in_filter m.activity test i isin passes)))

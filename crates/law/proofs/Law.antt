@@ -3,14 +3,15 @@ use Rattle.std.proofs.Common.{ℕ, ◌≡◌, ◌≤◌, ◌<◌, ◌+◌, ◌*�
 use Rattle.std.proofs.lemmas.Bool.Decides.{nat_tests}
 use Rattle.row_values.specs.Stamps as rule
 use Rattle.model.specs.Ids.{has}
-use Rattle.model.specs.Journal.{Change}
-use Rattle.model.specs.Acts.{Act, Look, Write, Read, Cutoff, Compact, Restart, Stats}
+use Rattle.model.specs.Journal as made
+use Rattle.model.specs.Acts.{Act, Look, Change, Write, Read, Cutoff, Compact, Restart, Stats}
 use Rattle.model.specs.Parts.{Parts, start}
 use Rattle.model.specs.Entries.{Entry, slots_of, clock_at, stamp_of, ActAsked}
 use Rattle.model.specs.History.{outcome, told, replay, journal_of, Legal, Right, with_changes, ReplyRight}
 use Rattle.law_store.proofs.Keys.{either_way}
 use Rattle.law_invariants.specs.Invariant.{Inv, Keeps, Later}
 use Rattle.law_invariants.proofs.Ticking.{nothing_told, KeepsAll}
+use Rattle.law_changes.proofs.Changing.{catalog_change_keeps}
 use Rattle.law_rows.proofs.Keeping.{stats_keeps, restart_keeps, compact_keeps, cutoff_keeps}
 use Rattle.law_rows.proofs.Writing.{write_keeps}
 use Rattle.law_rows.proofs.Reading.{read_keeps}
@@ -19,8 +20,9 @@ use Rattle.law.specs.Covering.{ActCovered, Covered}
 use Rattle.law.proofs.Starting.{start_holds}
 
 -- each act that is covered keeps what holds
-act_keeps : (act : Act) (slots n : ℕ) (ps : Parts) (changes : List Change) → Later (slots_of act) ps n → ActAsked slots act → ActCovered act → Inv ps changes → KeepsAll act n ps changes (outcome act n ps)
+act_keeps : (act : Act) (slots n : ℕ) (ps : Parts) (changes : List made.Change) → Later (slots_of act) ps n → ActAsked slots act → ActCovered act → Inv ps changes → KeepsAll act n ps changes (outcome act n ps)
 act_keeps (Look ask) slots n ps changes later asked covered inv = look_keeps ask n ps changes later asked inv
+act_keeps (Change command plan) slots n ps changes later asked covered inv = catalog_change_keeps command plan ps changes n covered asked.0 later inv
 act_keeps (Write place version batch) slots n ps changes later asked covered inv = write_keeps ps changes n place version batch later asked.0.0 inv
 act_keeps (Read places version key at columns) slots n ps changes later asked covered inv = read_keeps slots ps changes n places version key at columns later asked.1 inv
 act_keeps (Cutoff slot) slots n ps changes later asked covered inv = cutoff_keeps ps changes n slot later asked.0 inv

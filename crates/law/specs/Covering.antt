@@ -2,9 +2,11 @@
 use Rattle.std.specs.Prelude.{ℕ, List, [], ◌∷◌}
 use Rattle.model.specs.Acts.{Act, Look, Change, Write, Read, Cutoff, Compact, Restart, Stats}
 use Rattle.model.specs.Entries.{Entry}
+use Rattle.law_changes.specs.Commands.{IsOfCatalog}
 
 abbrev pub ActCovered : Act → Type 0
 ActCovered (Look ask) = Unit {0}
+ActCovered (Change command slots) = IsOfCatalog command
 ActCovered (Write place version batch) = Unit {0}
 ActCovered (Read places version key at columns) = Unit {0}
 ActCovered (Cutoff slot) = Unit {0}

@@ -5,13 +5,14 @@ use Rattle.model.specs.Catalog.{namespace_named}
 use Rattle.model.specs.Journal.{Change as Made}
 use Rattle.model.specs.Records.{Schedule, schedule_with, schedule_of}
 use Rattle.model.specs.Entries.{CommandAsked, slots_of}
-use Rattle.model.specs.Acts.{Command, CreateNamespace, DropNamespace, CreateTable, AddColumn, DropColumn, RenameTable, DropTable, Restore, CloneNamespace, ListSchedules, ListSnapshots, ListRestorations, ListClones, ListTablets, Change, Refused, StalePlan, UnknownNamespace, Schedules, Snapshots, Restorations, Clones, Tablets, Act, Refusal}
+use Rattle.model.specs.Acts.{Reply, Command, CreateNamespace, DropNamespace, CreateTable, AddColumn, DropColumn, RenameTable, DropTable, Restore, CloneNamespace, ListSchedules, ListSnapshots, ListRestorations, ListClones, ListTablets, Change, Refused, StalePlan, UnknownNamespace, Schedules, Snapshots, Restorations, Clones, Tablets, Act, Refusal}
 use Rattle.model.specs.Parts.{Master, Parts, Outcome, If, judged, answered, refused}
 use Rattle.model.specs.Looks.{plan_of, known}
 use Rattle.model.specs.Lines.{schedule_lines, snapshot_lines, restoration_lines, clone_lines, tablet_lines}
 use Rattle.model.specs.Changes.{change, planned, list_tablets}
-use Rattle.model.specs.History.{outcome, ReplyRight, WindowRightOf}
+use Rattle.model.specs.History.{outcome, ReplyRight, WindowRightOf, WindowRight, CloneWindowRight}
 use Rattle.std.specs.Prelude.{is_none}
+use Rattle.law_changes.specs.Commands.{IsOfCatalog}
 use Rattle.law_invariants.specs.Invariant.{Inv, Later}
 use Rattle.law_invariants.proofs.Ticking.{by_checks, refused_keeps, nothing_told, KeepsAll}
 use Rattle.law_changes.proofs.Namespaces.{create_namespace_keeps, drop_namespace_keeps}
@@ -19,14 +20,15 @@ use Rattle.law_changes.proofs.Schemas.{add_column_keeps, drop_column_keeps, rena
 use Rattle.law_changes.proofs.Dropping.{drop_table_keeps}
 use Rattle.law_changes.proofs.Creating.{create_table_keeps}
 
-stale_window : (s : Option Schedule) (kept : List ℕ) (m : Master) (n to : ℕ) → WindowRightOf s (Refused (StalePlan kept)) m n to
-stale_window None kept m n to = tt
-stale_window (Some s) kept m n to = λ free. tt
+stale_window : (s : Option Schedule) (Judged : Reply → Schedule → ℕ → ℕ → Type 0) (kept : List ℕ) (m : Master) (n to : ℕ) → ((t : Schedule) → Judged (Refused (StalePlan kept)) t n to)
+    → WindowRightOf Judged s (Refused (StalePlan kept)) m n to
+stale_window None Judged kept m n to fine = tt
+stale_window (Some s) Judged kept m n to fine = λ free. fine s
 
 -- a stale plan says nothing of a window
 stale_right : (command : Command) (slots kept : List ℕ) (n : ℕ) (ps : Parts) (changes : List Made) → ReplyRight (Change command slots) (Refused (StalePlan kept)) n ps changes
-stale_right (Restore schedule to) slots kept n ps changes = stale_window (schedule_with ps.master.schedules schedule) kept ps.master n to
-stale_right (CloneNamespace source target to) slots kept n ps changes = stale_window (schedule_of ps.master.schedules (known (namespace_named ps.master.catalog.namespaces source))) kept ps.master n _
+stale_right (Restore schedule to) slots kept n ps changes = stale_window (schedule_with ps.master.schedules schedule) WindowRight kept ps.master n to (λ s. tt)
+stale_right (CloneNamespace source target to) slots kept n ps changes = stale_window (schedule_of ps.master.schedules (known (namespace_named ps.master.catalog.namespaces source))) CloneWindowRight kept ps.master n _ (λ s. tt)
 stale_right _ slots kept n ps changes = tt
 
 by_cases : (b : Bool) (why : Refusal) (act : Act) (n : ℕ) (ps : Parts) (changes : List Made) (o : Outcome) → KeepsAll act n ps changes (refused why) → (b ≡ true → KeepsAll act n ps changes o)
@@ -43,22 +45,6 @@ change_keeps command slots ps changes n later inv keeps =
     let kept = plan_of command ps.master in
     by_cases (same_slots slots kept) (StalePlan kept) (Change command slots) n ps changes (planned command slots n ps)
       (refused_keeps (Change command slots) (StalePlan kept) n ps changes later inv (stale_right command slots kept n ps changes) refl) keeps
-
--- the commands on namespaces and tables, and those that list
-abbrev pub IsOfCatalog : Command → Type 0
-IsOfCatalog (CreateNamespace name) = Unit {0}
-IsOfCatalog (DropNamespace name) = Unit {0}
-IsOfCatalog (CreateTable namespace table tablets columns) = Unit {0}
-IsOfCatalog (AddColumn namespace table name kind) = Unit {0}
-IsOfCatalog (DropColumn namespace table name) = Unit {0}
-IsOfCatalog (RenameTable namespace table name) = Unit {0}
-IsOfCatalog (DropTable namespace table) = Unit {0}
-IsOfCatalog ListSchedules = Unit {0}
-IsOfCatalog ListSnapshots = Unit {0}
-IsOfCatalog ListRestorations = Unit {0}
-IsOfCatalog ListClones = Unit {0}
-IsOfCatalog (ListTablets namespace) = Unit {0}
-IsOfCatalog _ = ⊥
 
 list_tablets_keeps : (ps : Parts) (changes : List Made) (n : ℕ) (namespace slots : List ℕ) → Later (0 ∷ slots) ps n → Inv ps changes
     → KeepsAll (Change (ListTablets namespace) slots) n ps changes (list_tablets namespace ps)

@@ -1,35 +1,34 @@
 -- A table is made: its tablets are made in free slots, and their activity begins.
-use Rattle.std.proofs.Common.{ℕ, ◌≡◌, ◌≤◌, ◌<◌, ◌+◌, ◌*◌, ◌/◌, List, [], ◌∷◌, ◌++◌, map, length, take, Option, Some, None, Bool, true, false, cond, ◌&&◌, inl, inr, refl, sym, ap, subst, ◌∙◌, arith, not, eqb, leb, ltb, le_trans, le_refl, le_of_lt, leb-true, ltb-false, ◌==◌}
+use Rattle.std.proofs.Common.{ℕ, ◌≡◌, ◌≤◌, ◌<◌, ◌+◌, ◌*◌, ◌/◌, List, [], ◌∷◌, length, take, Option, Some, None, true, false, cond, ◌&&◌, inl, inr, refl, sym, ap, subst, ◌∙◌, arith, not, eqb, leb, ltb, le_trans, le_refl, le_of_lt, leb-true, ltb-false, ◌==◌}
 use Rattle.std.specs.Prelude.{is_none}
 use Rattle.std.specs.Option.{is_some}
 use Rattle.std.specs.List.{list_any}
-use Rattle.std.proofs.lemmas.Bool.{cond_both, true≢false}
+use Rattle.std.proofs.lemmas.Bool.{true≢false}
 use Rattle.std.proofs.lemmas.Bool.Decides.{nat_tests}
-use Rattle.model.specs.Ids.{Id, In, has, same, same_slots, rising}
-use Rattle.model.specs.Schema.{Column, NewColumn, numbered}
-use Rattle.model.specs.Activity.{Interval, active_at}
-use Rattle.model.specs.Catalog.{Owner, namespace_named, current_named, current_tables, owner_of}
-use Rattle.model.specs.Journal.{Change as Made, ChangeAct, TableMade, table_at, row_at}
+use Rattle.model.specs.Ids.{Id, In, has, same, same_slots}
+use Rattle.model.specs.Schema.{NewColumn, numbered}
+use Rattle.model.specs.Activity.{Interval}
+use Rattle.model.specs.Catalog.{namespace_named, current_named, current_tables}
+use Rattle.model.specs.Journal.{Change as Made, ChangeAct, TableMade, table_at}
 use Rattle.model.specs.Tablets.{Tablet, Mark, Make, RestoreFromKind, is_done, act_for, effect}
 use Rattle.model.specs.Records.{Listed, RestorationRecord, RestorationState, Restoring}
 use Rattle.model.specs.Stands.{awaited_in, awaited_of, first_of_two, is_restore}
 use Rattle.model.specs.Entries.{CommandAsked}
-use Rattle.model.specs.Acts.{Command, CreateTable, Change, UnknownNamespace, Busy, NameTaken, TooMany, SlotsFull}
+use Rattle.model.specs.Acts.{CreateTable, Change, UnknownNamespace, Busy, NameTaken, TooMany, SlotsFull}
 use Rattle.model.specs.Parts.{Master, Parts, Check, If}
 use Rattle.model.specs.Operations.{holder}
 use Rattle.model.specs.Looks.{names, known, plan_of, free_slots, least_slots}
 use Rattle.model.specs.Changes.{accepts, tell_made, table_id, most_tables, create_table}
 use Rattle.model.specs.Changed.{changed, table_made, begins, shares, next_table, next_tablet}
-use Rattle.model.specs.History.{with, told}
-use Rattle.law_store.proofs.Keys.{either_way}
-use Rattle.law_invariants.specs.Invariant.{IsGood, IsOpen, SlotGood, MasterGood, Inv, Later, Passes}
-use Rattle.law_invariants.proofs.Finding.{same_equal, same_self, not_same, apart_by_number, in_append, in_first, in_second, both_pass}
+use Rattle.model.specs.History.{with}
+use Rattle.law_invariants.specs.Invariant.{IsGood, SlotGood, MasterGood, Inv, Later}
+use Rattle.law_invariants.proofs.Finding.{not_same, apart_by_number, in_append, in_first, in_second, both_pass}
 use Rattle.law_invariants.proofs.Ticking.{by_checks, refused_keeps, KeepsAll}
 use Rattle.law_invariants.proofs.Records.{owner_beside}
 use Rattle.law_invariants.proofs.Journaling.{made_here, made_rows, made_keeps, no_rows, nothing_late}
 use Rattle.law_invariants.proofs.Covering.{made_covers}
 use Rattle.law_invariants.proofs.Cataloguing.{CatalogStands, catalog_of, catalog_table_made}
-use Rattle.law_changes.proofs.Told.{slots_told, master_early, tablet_early, slots_equal}
+use Rattle.law_changes.proofs.Told.{slots_told, master_early, slots_equal}
 use Rattle.law_changes.proofs.Quiet.{Carries, good_carried}
 use Rattle.law_changes.proofs.Plans.{has_in}
 use Rattle.law_changes.proofs.Free.{RiseFrom, rise_in, in_has, AreFree, least_free}
@@ -50,7 +49,7 @@ none_awaited : (rs : List RestorationRecord) (tablet : Id) (done : List Mark) �
 none_awaited [] tablet done apart = refl
 none_awaited (r ∷ rs) tablet done apart =
     ap (λ o. first_of_two o (awaited_in rs tablet done)) (awaited_none r.state r tablet done (λ l isin. apart r l (inl refl) isin))
-        ∙ none_awaited rs tablet done (λ q l isin lists. apart q l (inr isin) lists)
+    ∙ none_awaited rs tablet done (λ q l isin lists. apart q l (inr isin) lists)
 
 -- The new tablets
 
@@ -67,9 +66,23 @@ pub record IsShare (m : Master) (n count : ℕ) (slots : List ℕ) (w : Interval
 share_is : (slots : List ℕ) (place count n : ℕ) (m : Master) (w : Interval) → length slots + place ≡ count → In w (shares slots place count n m) → IsShare m n count slots w
 share_is [] place count n m w long isin = absurd isin
 share_is (slot ∷ slots) place count n m w long (inl e) = record {
-    slot = slot; place = place; low = place * 65536 / count; high = (place + 1) * 65536 / count; is = sym e; isin = inl refl; drawn = omega (arith, long) }
+  slot = slot;
+  place = place;
+  low = place * 65536 / count;
+  high = (place + 1) * 65536 / count;
+  is = sym e;
+  isin = inl refl;
+  drawn = omega (arith, long);
+}
 share_is (slot ∷ slots) place count n m w long (inr isin) = let r = share_is slots (place + 1) count n m w (omega (arith, long)) isin in record {
-    slot = r.slot; place = r.place; low = r.low; high = r.high; is = r.is; isin = inr r.isin; drawn = r.drawn }
+  slot = r.slot;
+  place = r.place;
+  low = r.low;
+  high = r.high;
+  is = r.is;
+  isin = inr r.isin;
+  drawn = r.drawn;
+}
 
 share_slot : (slots : List ℕ) (place count n : ℕ) (m : Master) (w : Interval) → In w (shares slots place count n m) → In w.slot slots
 share_slot [] place count n m w isin = absurd isin
@@ -108,16 +121,23 @@ never_made m changes x h = h.tables.unmade (next_table m) x (h.tables.owners_dra
 good_begins : (m : Master) (n : ℕ) (changes : List Made) (ns : Id) (name : List ℕ) (tablets : ℕ) (columns : List NewColumn) (slots : List ℕ) (t : Tablet) (slot place low high : ℕ)
     → MasterGood m changes → place < tablets → 1 ≤ slot → slot ≤ m.slots
     → IsGood (table_made ns name tablets columns slots n m) (with_made m n ns name columns changes) (effect (Make (next_tablet m (place + 1)) (next_table m) low high 1) n t)
-        (begins slot (next_tablet m (place + 1)) (next_table m) low high n)
+    (begins slot (next_tablet m (place + 1)) (next_table m) low high n)
 good_begins m n changes ns name tablets columns slots t slot place low high h drawn from to =
     let id = next_table m in record {
-    past = record { begun = le_refl n; ended = tt };
-    over = tt;
-    drawn = omega (arith, drawn);
-    drawn_table = le_refl _;
-    slot_from = from; slot_to = to; present = refl; tablet_is = refl; table_is = refl; low_is = refl; high_is = refl;
-    viewed = λ x active. ap is_some (made_here n id ns name (numbered 1 columns) changes x (leb-true n x (both_pass (leb n x) true active).0));
-    stands = λ settled key x within cut soon. sym (made_rows n id ns name (numbered 1 columns) changes x id key ∙ no_rows changes x id key (never_made m changes x h)) }
+      past = record { begun = le_refl n; ended = tt };
+      over = tt;
+      drawn = omega (arith, drawn);
+      drawn_table = le_refl _;
+      slot_from = from;
+      slot_to = to;
+      present = refl;
+      tablet_is = refl;
+      table_is = refl;
+      low_is = refl;
+      high_is = refl;
+      viewed = λ x active. ap is_some (made_here n id ns name (numbered 1 columns) changes x (leb-true n x (both_pass (leb n x) true active).0));
+      stands = λ settled key x within cut soon. sym (made_rows n id ns name (numbered 1 columns) changes x id key ∙ no_rows changes x id key (never_made m changes x h));
+    }
 
 good_share : (m : Master) (n : ℕ) (changes : List Made) (ns : Id) (name : List ℕ) (tablets : ℕ) (columns : List NewColumn) (slots : List ℕ) (t : Tablet) (w : Interval)
     → MasterGood m changes → AreFree m tablets slots → In w (shares slots 0 tablets n m)
@@ -125,7 +145,7 @@ good_share : (m : Master) (n : ℕ) (changes : List Made) (ns : Id) (name : List
 good_share m n changes ns name tablets columns slots t w h free isin =
     let s = share_is slots 0 tablets n m w (let e = free.long in omega arith) isin in
     subst (λ v. IsGood (table_made ns name tablets columns slots n m) (with_made m n ns name columns changes) (effect (Make v.tablet v.table v.low v.high 1) n t) v) (sym s.is)
-      (good_begins m n changes ns name tablets columns slots t s.slot s.place s.low s.high h s.drawn (rise_in slots 1 s.slot free.rise s.isin) (free.to s.slot s.isin))
+    (good_begins m n changes ns name tablets columns slots t s.slot s.place s.low s.high h s.drawn (rise_in slots 1 s.slot free.rise s.isin) (free.to s.slot s.isin))
 
 -- a slot that gets a tablet of the new table
 slot_placed : (m : Master) (n : ℕ) (changes : List Made) (ns : Id) (name : List ℕ) (tablets : ℕ) (columns : List NewColumn) (slots : List ℕ) (t : Tablet) (i : ℕ) (w : Interval)
@@ -136,25 +156,36 @@ slot_placed m n changes ns name tablets columns slots t i w before h free isin l
     let new = with_made m n ns name columns changes in
     let s = share_is slots 0 tablets n m w (let e = free.long in omega arith) listed in
     let told_w : (v : Interval) → In v (shares slots 0 tablets n m) → v.slot ≡ i → act_for (tell_made (shares slots 0 tablets n m)) i ≡ Make v.tablet v.table v.low v.high 1 =
-        λ v lists at. ap (act_for (tell_made (shares slots 0 tablets n m))) (sym at) ∙ share_told slots 0 tablets n 1 m v free.rise lists in
+    λ v lists at. ap (act_for (tell_made (shares slots 0 tablets n m))) (sym at) ∙ share_told slots 0 tablets n 1 m v free.rise lists in
     record {
-    good = record { sorted = tt; below = tt; cutoff = le_refl n };
-    each = λ j lists at. elim (in_append m.activity (shares slots 0 tablets n m) j lists) [
-        inl old ↦ absurd (free.vacant i isin j old at)
-      | inr made ↦ subst (λ a. IsGood k new (effect a n t) j) (sym (told_w j made at) ∙ told_w w listed is) (good_share m n changes ns name tablets columns slots t j h free made) ];
-    opens = λ serving unfenced. record {
-        interval = w; listed = in_second m.activity (shares slots 0 tablets n m) w listed; slot_is = is; opened = ap (λ v. v.to) s.is;
+      good = record { sorted = tt; below = tt; cutoff = le_refl n };
+      each = λ j lists at. elim (in_append m.activity (shares slots 0 tablets n m) j lists) [
+        | inl old ↦ absurd (free.vacant i isin j old at)
+        | inr made ↦ subst (λ a. IsGood k new (effect a n t) j) (sym (told_w j made at) ∙ told_w w listed is) (good_share m n changes ns name tablets columns slots t j h free made)
+      ];
+      opens = λ serving unfenced. record {
+        interval = w;
+        listed = in_second m.activity (shares slots 0 tablets n m) w listed;
+        slot_is = is;
+        opened = ap (λ v. v.to) s.is;
         begun = (let e : w.from ≡ n = ap (λ v. v.from) s.is in omega arith);
         settled = none_awaited m.restorations w.tablet [] (λ r l isin lists. not_same l.tablet w.tablet (apart_by_number l.tablet w.tablet
-            (let e : w.tablet.number ≡ m.drawn.tablets + (s.place + 1) = ap (λ v. v.tablet.number) s.is in let q : l.tablet.number ≤ m.drawn.tablets = h.listed r l isin lists in omega arith))) };
-    later = λ owner to fixed serving unfenced owned. le_trans (h.past owner to fixed) (le_of_lt before) }
+            (let e : w.tablet.number ≡ m.drawn.tablets + (s.place + 1) = ap (λ v. v.tablet.number) s.is in let q : l.tablet.number ≤ m.drawn.tablets = h.listed r l isin lists in omega arith)));
+      };
+      later = λ owner to fixed serving unfenced owned. le_trans (h.past owner to fixed) (le_of_lt before);
+    }
 
 carries_made : (m : Master) (n : ℕ) (changes : List Made) (ns : Id) (name : List ℕ) (tablets : ℕ) (columns : List NewColumn) (slots : List ℕ) (i : Interval) → m.clock < n
     → Carries m (table_made ns name tablets columns slots n m) changes (with_made m n ns name columns changes) i
 carries_made m n changes ns name tablets columns slots i before = record {
-    clock = le_of_lt before; slots = refl; restorations = refl; drawn = omega arith; drawn_tables = omega arith;
-    viewed = λ x active is. made_keeps n (next_table m) ns name (numbered 1 columns) changes x i.table is;
-    rows = λ x key soon. made_rows n (next_table m) ns name (numbered 1 columns) changes x i.table key }
+  clock = le_of_lt before;
+  slots = refl;
+  restorations = refl;
+  drawn = omega arith;
+  drawn_tables = omega arith;
+  viewed = λ x active is. made_keeps n (next_table m) ns name (numbered 1 columns) changes x i.table is;
+  rows = λ x key soon. made_rows n (next_table m) ns name (numbered 1 columns) changes x i.table key;
+}
 
 -- a slot that gets none
 slot_aside : (m : Master) (n : ℕ) (changes : List Made) (ns : Id) (name : List ℕ) (tablets : ℕ) (columns : List NewColumn) (slots : List ℕ) (t : Tablet) (i : ℕ)
@@ -164,38 +195,47 @@ slot_aside m n changes ns name tablets columns slots t i before free aside g =
     let k = table_made ns name tablets columns slots n m in
     let new = with_made m n ns name columns changes in
     record {
-    good = g.good;
-    each = λ j lists at. elim (in_append m.activity (shares slots 0 tablets n m) j lists) [
-        inl old ↦ good_carried m k changes new t j (carries_made m n changes ns name tablets columns slots j before) (g.each j old at)
-      | inr made ↦ absurd (
-          let isin : In j.slot slots = share_slot slots 0 tablets n m j made in
-          let from : 1 ≤ j.slot = rise_in slots 1 j.slot free.rise isin in
-          let apart : eqb i 0 ≡ false = grind (arith, nat_tests) in
-          true≢false (sym (has_in slots j.slot isin) ∙ ap (has slots) at ∙ aside apart)) ];
-    opens = λ serving unfenced. (let o = g.opens serving unfenced in record {
-        interval = o.interval; listed = in_first m.activity (shares slots 0 tablets n m) o.interval o.listed; slot_is = o.slot_is; opened = o.opened; begun = o.begun; settled = o.settled });
-    later = λ owner to fixed serving unfenced owned. (
-        let o = g.opens serving unfenced in
-        let q = g.each o.interval o.listed o.slot_is in
-        let drawn : o.interval.table.number ≤ m.drawn.tables = q.drawn_table in
-        let number : t.table.number ≡ o.interval.table.number = ap (λ table. table.number) q.table_is in
-        let apart : same (next_table m) t.table ≡ false = not_same (next_table m) t.table (λ e. apart_by_number t.table (next_table m) (omega arith) (sym e)) in
-        g.later owner to fixed serving unfenced (sym (owner_beside m.catalog.owners (record { table = next_table m; namespace = ns }) t.table apart) ∙ owned)) }
+      good = g.good;
+      each = λ j lists at. elim (in_append m.activity (shares slots 0 tablets n m) j lists) [
+        | inl old ↦ good_carried m k changes new t j (carries_made m n changes ns name tablets columns slots j before) (g.each j old at)
+        | inr made ↦ absurd (
+            let isin : In j.slot slots = share_slot slots 0 tablets n m j made in
+            let from : 1 ≤ j.slot = rise_in slots 1 j.slot free.rise isin in
+            let apart : eqb i 0 ≡ false = grind (arith, nat_tests) in
+            true≢false (sym (has_in slots j.slot isin) ∙ ap (has slots) at ∙ aside apart))
+      ];
+      opens = λ serving unfenced. (let o = g.opens serving unfenced in record {
+        interval = o.interval;
+        listed = in_first m.activity (shares slots 0 tablets n m) o.interval o.listed;
+        slot_is = o.slot_is;
+        opened = o.opened;
+        begun = o.begun;
+        settled = o.settled;
+      });
+      later = λ owner to fixed serving unfenced owned. (
+          let o = g.opens serving unfenced in
+          let q = g.each o.interval o.listed o.slot_is in
+          let drawn : o.interval.table.number ≤ m.drawn.tables = q.drawn_table in
+          let number : t.table.number ≡ o.interval.table.number = ap (λ table. table.number) q.table_is in
+          let apart : same (next_table m) t.table ≡ false = not_same (next_table m) t.table (λ e. apart_by_number t.table (next_table m) (omega arith) (sym e)) in
+          g.later owner to fixed serving unfenced (sym (owner_beside m.catalog.owners (record { table = next_table m; namespace = ns }) t.table apart) ∙ owned));
+    }
 
 master_made : (m : Master) (n : ℕ) (changes : List Made) (ns : Id) (name : List ℕ) (tablets : ℕ) (columns : List NewColumn) (slots : List ℕ)
     → m.clock < n → 0 < tablets → AreFree m tablets slots → ((i : Interval) → In i m.activity → i.table.number ≤ m.drawn.tables)
     → CatalogStands (table_made ns name tablets columns slots n m) (with_made m n ns name columns changes) → MasterGood m changes
     → MasterGood (table_made ns name tablets columns slots n m) (with_made m n ns name columns changes)
 master_made m n changes ns name tablets columns slots before pos free drawn stands h = record {
-    namespaces = stands.namespaces;
-    tables = stands.tables;
-    cover = made_covers m.activity changes slots tablets n m ns name (numbered 1 columns) pos free.long
-        (λ i isin. not_same i.table (next_table m) (apart_by_number i.table (next_table m) (let l : i.table.number ≤ m.drawn.tables = drawn i isin in omega arith)))
-        (λ x. ap is_some (never_made m changes x h)) h.cover;
-    spaces = stands.tables.inside;
-    past = λ owner to is. le_trans (h.past owner to is) (le_of_lt before);
-    complete = λ s isin. le_trans (h.complete s isin) (le_of_lt before);
-    listed = λ r l isin lists. le_trans (h.listed r l isin lists) (omega arith) }
+  namespaces = stands.namespaces;
+  tables = stands.tables;
+  cover = made_covers m.activity changes slots tablets n m ns name (numbered 1 columns) pos free.long
+      (λ i isin. not_same i.table (next_table m) (apart_by_number i.table (next_table m) (let l : i.table.number ≤ m.drawn.tables = drawn i isin in omega arith)))
+      (λ x. ap is_some (never_made m changes x h)) h.cover;
+  spaces = stands.tables.inside;
+  past = λ owner to is. le_trans (h.past owner to is) (le_of_lt before);
+  complete = λ s isin. le_trans (h.complete s isin) (le_of_lt before);
+  listed = λ r l isin lists. le_trans (h.listed r l isin lists) (omega arith);
+}
 
 abbrev pub create_table_checks : List ℕ → List ℕ → ℕ → Master → List Check
 create_table_checks namespace table tablets m =
@@ -235,20 +275,24 @@ create_table_keeps ps changes n namespace table tablets columns slots later aske
     let before : m.clock < n = master_early slots ps n later in
     let told_made = tell_made (shares slots 0 tablets n m) in
     by_checks (Change command slots) n ps changes (create_table_checks namespace table tablets m) (accepts command slots told_made (next_table m ∷ []))
-      (λ why. refused_keeps (Change command slots) why n ps changes later inv tt refl)
-      (λ passes.
-        let enough : tablets ≤ length (free_slots m) = ltb-false (length (free_slots m)) tablets passes.1.1.1.1.0 in
-        let least : slots ≡ take tablets (free_slots m) = slots_equal slots (plan_of command m) plan ∙ planned_free m namespace table tablets columns passes.0 enough in
-        let free : AreFree m tablets slots = subst (AreFree m tablets) (sym least) (least_free m tablets enough) in
-        let stands : CatalogStands k new = catalog_table_made m n namespace table tablets columns slots changes (le_of_lt before) passes.1.1.0 asked.5 (catalog_of m changes h) in
-        record { right = tt; inv = record {
-          master = master_made m n changes ns table tablets columns slots before asked.2.0 free (λ i isin. ((inv.slots i.slot).each i isin refl).drawn_table) stands h;
-          slots = slots_told command slots told_made (next_table m ∷ []) n ps k new
+    (λ why. refused_keeps (Change command slots) why n ps changes later inv tt refl)
+    (λ passes.
+    let enough : tablets ≤ length (free_slots m) = ltb-false (length (free_slots m)) tablets passes.1.1.1.1.0 in
+    let least : slots ≡ take tablets (free_slots m) = slots_equal slots (plan_of command m) plan ∙ planned_free m namespace table tablets columns passes.0 enough in
+    let free : AreFree m tablets slots = subst (AreFree m tablets) (sym least) (least_free m tablets enough) in
+    let stands : CatalogStands k new = catalog_table_made m n namespace table tablets columns slots changes (le_of_lt before) passes.1.1.0 asked.5 (catalog_of m changes h) in
+    record {
+      right = tt;
+      inv = record {
+        master = master_made m n changes ns table tablets columns slots before asked.2.0 free (λ i isin. ((inv.slots i.slot).each i isin refl).drawn_table) stands h;
+        slots = slots_told command slots told_made (next_table m ∷ []) n ps k new
             (λ i is from. (
-              let isin : In i slots = in_has slots i is in
-              let s = share_at slots 0 tablets n m i isin in
-              let e : act_for told_made i ≡ Make s.0.tablet s.0.table s.0.low s.0.high 1 = ap (act_for told_made) (sym s.1.1) ∙ share_told slots 0 tablets n 1 m s.0 free.rise s.1.0 in
-              subst (λ a. SlotGood k new i (effect a n (ps.tablet i))) (sym e)
-                (slot_placed m n changes ns table tablets columns slots (ps.tablet i) i s.0 before h free isin s.1.0 s.1.1)))
+            let isin : In i slots = in_has slots i is in
+            let s = share_at slots 0 tablets n m i isin in
+            let e : act_for told_made i ≡ Make s.0.tablet s.0.table s.0.low s.0.high 1 = ap (act_for told_made) (sym s.1.1) ∙ share_told slots 0 tablets n 1 m s.0 free.rise s.1.0 in
+            subst (λ a. SlotGood k new i (effect a n (ps.tablet i))) (sym e)
+            (slot_placed m n changes ns table tablets columns slots (ps.tablet i) i s.0 before h free isin s.1.0 s.1.1)))
             (λ i aside. slot_aside m n changes ns table tablets columns slots (ps.tablet i) i before free aside (inv.slots i));
-          late = nothing_late n (table_made_act m ns table columns) changes m.clock before h.past inv.late } })
+        late = nothing_late n (table_made_act m ns table columns) changes m.clock before h.past inv.late;
+      };
+    })

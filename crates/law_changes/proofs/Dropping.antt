@@ -1,16 +1,16 @@
 -- A table is dropped: its tablets are hidden, and their activity ends.
-use Rattle.std.proofs.Common.{ℕ, ◌≡◌, ◌≤◌, ◌<◌, ◌+◌, List, [], ◌∷◌, map, Option, Some, None, Bool, true, false, cond, ◌&&◌, inl, inr, refl, sym, ap, subst, ◌∙◌, arith, not, eqb, leb, le_trans, le_refl, le_of_lt, ltb-true}
+use Rattle.std.proofs.Common.{ℕ, ◌≡◌, ◌≤◌, ◌<◌, List, [], ◌∷◌, map, Option, Some, None, true, false, cond, refl, sym, ap, subst, ◌∙◌, arith, eqb, leb, le_trans, le_refl, le_of_lt, ltb-true}
 use Rattle.std.specs.Prelude.{is_none}
 use Rattle.std.specs.Option.{is_some}
 use Rattle.std.proofs.lemmas.Bool.{cond_both, true≢false}
 use Rattle.std.proofs.lemmas.Bool.Decides.{nat_tests}
 use Rattle.model.specs.Ids.{Id, In, has, same, same_slots, rising}
-use Rattle.model.specs.Times.{before_end, ended, is_open}
-use Rattle.model.specs.Activity.{Interval, active_at, end_table_tablets}
+use Rattle.model.specs.Times.{before_end, ended}
+use Rattle.model.specs.Activity.{Interval, active_at}
 use Rattle.model.specs.Catalog.{TableRecord, namespace_named}
 use Rattle.model.specs.Journal.{Change as Made, ChangeAct, TableDropped, TableView, table_at, row_at}
-use Rattle.model.specs.Tablets.{Tablet, Presence, OutOfService, PutOut, act_for, effect, is_vacant, is_serving}
-use Rattle.model.specs.Acts.{Command, DropTable, Change, UnknownNamespace, UnknownTable, Busy}
+use Rattle.model.specs.Tablets.{Tablet, Presence, OutOfService, PutOut, effect, is_vacant}
+use Rattle.model.specs.Acts.{DropTable, Change, UnknownNamespace, UnknownTable, Busy}
 use Rattle.model.specs.Parts.{Master, Parts, Check, If}
 use Rattle.model.specs.Operations.{holder}
 use Rattle.model.specs.Looks.{names, known, table_of, the_table, plan_of, active_in, slots_of_table}
@@ -18,11 +18,11 @@ use Rattle.model.specs.Changes.{accepts, tell, drop_table}
 use Rattle.model.specs.Changed.{changed, table_dropped}
 use Rattle.model.specs.History.{with, told}
 use Rattle.law_store.proofs.Keys.{either_way}
-use Rattle.law_invariants.specs.Invariant.{EndsBy, OverBy, IsPast, IsGood, IsOpen, SlotGood, MasterGood, Inv, Later, Passes}
+use Rattle.law_invariants.specs.Invariant.{EndsBy, OverBy, IsPast, IsGood, SlotGood, MasterGood, Inv, Later}
 use Rattle.law_invariants.proofs.Finding.{same_equal, same_self, in_mapped, map_in, not_passing, both_pass, passes_both}
-use Rattle.law_invariants.proofs.Ticking.{by_checks, refused_keeps, KeepsAll, past_later, over_later, tablet_ticked, ends_later}
+use Rattle.law_invariants.proofs.Ticking.{by_checks, refused_keeps, KeepsAll, over_later, tablet_ticked, ends_later}
 use Rattle.law_invariants.proofs.Holding.{end_weaker}
-use Rattle.law_invariants.proofs.Journaling.{dropped_before, dropped_others, dropped_here, dropped_rows_before, dropped_rows_others, nothing_late}
+use Rattle.law_invariants.proofs.Journaling.{dropped_before, dropped_others, dropped_rows_before, dropped_rows_others, nothing_late}
 use Rattle.law_invariants.proofs.Covering.{dropped_covers}
 use Rattle.law_invariants.proofs.Cataloguing.{CatalogStands, catalog_of, catalog_table_dropped}
 use Rattle.law_changes.proofs.Told.{slots_told, master_early, tablet_early, told_same, slots_equal}
@@ -51,8 +51,9 @@ until (Some e) from time n x before h is = let l : x < e = ltb-true x e is in le
 
 end_past : (id : Id) (time n : ℕ) (i : Interval) → time < n → IsPast time i.from i.to → IsPast n i.from (end_of id n i)
 end_past id time n i before h = record {
-    begun = le_trans h.begun (le_of_lt before);
-    ended = cond_both (same i.table id) (ended n i.to) i.to (EndsBy n i.from) (λ e. ended_ends i.to i.from time n h.begun (le_of_lt before) h.ended) (λ e. ends_later i.to i.from time n (le_of_lt before) h.ended) }
+  begun = le_trans h.begun (le_of_lt before);
+  ended = cond_both (same i.table id) (ended n i.to) i.to (EndsBy n i.from) (λ e. ended_ends i.to i.from time n h.begun (le_of_lt before) h.ended) (λ e. ends_later i.to i.from time n (le_of_lt before) h.ended);
+}
 
 earlier : (id : Id) (n x : ℕ) (i : Interval) → before_end x (end_of id n i) ≡ true → before_end x i.to ≡ true
 earlier id n x i = cond_both (same i.table id) (ended n i.to) i.to (λ to. before_end x to ≡ true → before_end x i.to ≡ true) (λ e. end_weaker x n i.to) (λ e h. h)
@@ -83,51 +84,67 @@ good_cut : (m : Master) (n : ℕ) (changes : List Made) (id : Id) (t : Tablet) (
     → IsGood m changes t i → IsGood (table_dropped id n m) (with n (TableDropped id) changes) (record t { clock = c; presence = p }) (cut_off id n i)
 good_cut m n changes id t c p i before present over g =
     let new = with n (TableDropped id) changes in record {
-    past = end_past id m.clock n i before g.past;
-    over = over;
-    drawn = g.drawn; drawn_table = g.drawn_table; slot_from = g.slot_from; slot_to = g.slot_to; present = present; tablet_is = g.tablet_is; table_is = g.table_is; low_is = g.low_is; high_is = g.high_is;
-    viewed = λ x active. (let a = cut_active id n x i active in
-        on_table {P = is_some (table_at new x i.table) ≡ true} id m.clock n x i before g.past a.1
+      past = end_past id m.clock n i before g.past;
+      over = over;
+      drawn = g.drawn;
+      drawn_table = g.drawn_table;
+      slot_from = g.slot_from;
+      slot_to = g.slot_to;
+      present = present;
+      tablet_is = g.tablet_is;
+      table_is = g.table_is;
+      low_is = g.low_is;
+      high_is = g.high_is;
+      viewed = λ x active. (let a = cut_active id n x i active in
+          on_table {P = is_some (table_at new x i.table) ≡ true} id m.clock n x i before g.past a.1
           (λ l. ap is_some (dropped_before n id changes x i.table l) ∙ g.viewed x a.0)
           (λ e. ap is_some (dropped_others n id changes x i.table e) ∙ g.viewed x a.0));
-    stands = λ settled key x within cut soon. g.stands settled key x within cut (earlier id n x i soon)
-        ∙ on_table {P = row_at changes x i.table key ≡ row_at new x i.table key} id m.clock n x i before g.past soon
+      stands = λ settled key x within cut soon. g.stands settled key x within cut (earlier id n x i soon)
+          ∙ on_table {P = row_at changes x i.table key ≡ row_at new x i.table key} id m.clock n x i before g.past soon
           (λ l. sym (dropped_rows_before n id changes x i.table key l))
-          (λ e. sym (dropped_rows_others n id changes x i.table key e)) }
+          (λ e. sym (dropped_rows_others n id changes x i.table key e));
+    }
 
 -- a slot whose tablet is hidden
 slot_hidden : (m : Master) (n : ℕ) (changes : List Made) (id : Id) (slot : ℕ) (t : Tablet) → m.clock < n → t.clock < n → SlotGood m changes slot t
     → SlotGood (table_dropped id n m) (with n (TableDropped id) changes) slot (effect (PutOut n) n t)
 slot_hidden m n changes id slot t before early h =
     let g = tablet_ticked m n changes slot t (le_of_lt early) h in record {
-    good = record { sorted = g.good.sorted; below = g.good.below; cutoff = g.good.cutoff };
-    each = in_mapped (cut_off id n) (λ i. i.slot ≡ slot → IsGood (table_dropped id n m) (with n (TableDropped id) changes) (effect (PutOut n) n t) i) m.activity
-        (λ i isin is. let q = h.each i isin is in
-            good_cut m n changes id t n (OutOfService n) i before refl
-              (cond_both (same i.table id) (ended n i.to) i.to (OverBy n i.from)
-                (λ e. ended_over i.to i.from t.clock n (let b : i.from ≤ m.clock = q.past.begun in omega arith) (le_of_lt early) q.over)
-                (λ e. over_later i.to i.from t.clock n (le_of_lt early) q.over)) q);
-    opens = λ serving unfenced. absurd (let q : false ≡ true = serving in true≢false (sym q));
-    later = λ ns to is serving unfenced owned. absurd (let q : false ≡ true = serving in true≢false (sym q)) }
+      good = record { sorted = g.good.sorted; below = g.good.below; cutoff = g.good.cutoff };
+      each = in_mapped (cut_off id n) (λ i. i.slot ≡ slot → IsGood (table_dropped id n m) (with n (TableDropped id) changes) (effect (PutOut n) n t) i) m.activity
+          (λ i isin is. let q = h.each i isin is in
+          good_cut m n changes id t n (OutOfService n) i before refl
+          (cond_both (same i.table id) (ended n i.to) i.to (OverBy n i.from)
+          (λ e. ended_over i.to i.from t.clock n (let b : i.from ≤ m.clock = q.past.begun in omega arith) (le_of_lt early) q.over)
+          (λ e. over_later i.to i.from t.clock n (le_of_lt early) q.over)) q);
+      opens = λ serving unfenced. absurd (let q : false ≡ true = serving in true≢false (sym q));
+      later = λ ns to is serving unfenced owned. absurd (let q : false ≡ true = serving in true≢false (sym q));
+    }
 
 -- a slot without an open interval of the table
 slot_beside : (m : Master) (n : ℕ) (changes : List Made) (id : Id) (slot : ℕ) (t : Tablet) → m.clock < n
     → ((i : Interval) → In i m.activity → i.slot ≡ slot → end_of id n i ≡ i.to) → SlotGood m changes slot t
     → SlotGood (table_dropped id n m) (with n (TableDropped id) changes) slot t
 slot_beside m n changes id slot t before apart h = record {
-    good = h.good;
-    each = in_mapped (cut_off id n) (λ i. i.slot ≡ slot → IsGood (table_dropped id n m) (with n (TableDropped id) changes) t i) m.activity
-        (λ i isin is. let q = h.each i isin is in good_cut m n changes id t t.clock t.presence i before q.present (subst (OverBy t.clock i.from) (sym (apart i isin is)) q.over) q);
-    opens = λ serving unfenced. (let o = h.opens serving unfenced in record {
-        interval = cut_off id n o.interval; listed = map_in (cut_off id n) m.activity o.interval o.listed; slot_is = o.slot_is; opened = apart o.interval o.listed o.slot_is ∙ o.opened;
-        begun = o.begun; settled = o.settled });
-    later = h.later }
+  good = h.good;
+  each = in_mapped (cut_off id n) (λ i. i.slot ≡ slot → IsGood (table_dropped id n m) (with n (TableDropped id) changes) t i) m.activity
+      (λ i isin is. let q = h.each i isin is in good_cut m n changes id t t.clock t.presence i before q.present (subst (OverBy t.clock i.from) (sym (apart i isin is)) q.over) q);
+  opens = λ serving unfenced. (let o = h.opens serving unfenced in record {
+    interval = cut_off id n o.interval;
+    listed = map_in (cut_off id n) m.activity o.interval o.listed;
+    slot_is = o.slot_is;
+    opened = apart o.interval o.listed o.slot_is ∙ o.opened;
+    begun = o.begun;
+    settled = o.settled;
+  });
+  later = h.later;
+}
 
 dropped_some : (n : ℕ) (id : Id) (changes : List Made) (x : ℕ) (table : Id) (v : TableView) → table_at (with n (TableDropped id) changes) x table ≡ Some v → table_at changes x table ≡ Some v
 dropped_some n id changes x table v e = either_way (leb n x)
     (λ l. either_way (same id table)
-        (λ s. absurd (let q : cond (leb n x) (cond (same id table) None (table_at changes x table)) (table_at changes x table) ≡ Some v = e in let k : None ≡ Some v = rw (l, s) at q in none_is v k))
-        (λ s. sym (dropped_others n id changes x table s) ∙ e))
+    (λ s. absurd (let q : cond (leb n x) (cond (same id table) None (table_at changes x table)) (table_at changes x table) ≡ Some v = e in let k : None ≡ Some v = rw (l, s) at q in none_is v k))
+    (λ s. sym (dropped_others n id changes x table s) ∙ e))
     (λ l. sym (dropped_before n id changes x table (let k : x < n = grind (arith, nat_tests) in k)) ∙ e)
   where
     none_is : (v : TableView) → None ≡ Some v → ⊥
@@ -136,13 +153,14 @@ dropped_some n id changes x table v e = either_way (leb n x)
 master_dropped : (m : Master) (n : ℕ) (changes : List Made) (id : Id) → m.clock < n → CatalogStands (table_dropped id n m) (with n (TableDropped id) changes) → MasterGood m changes
     → MasterGood (table_dropped id n m) (with n (TableDropped id) changes)
 master_dropped m n changes id before stands h = record {
-    namespaces = stands.namespaces;
-    tables = stands.tables;
-    cover = dropped_covers m.activity changes id n h.cover;
-    spaces = λ table x v e. h.spaces table x v (dropped_some n id changes x table v e);
-    past = λ ns to is. le_trans (h.past ns to is) (le_of_lt before);
-    complete = λ s isin. le_trans (h.complete s isin) (le_of_lt before);
-    listed = h.listed }
+  namespaces = stands.namespaces;
+  tables = stands.tables;
+  cover = dropped_covers m.activity changes id n h.cover;
+  spaces = λ table x v e. h.spaces table x v (dropped_some n id changes x table v e);
+  past = λ ns to is. le_trans (h.past ns to is) (le_of_lt before);
+  complete = λ s isin. le_trans (h.complete s isin) (le_of_lt before);
+  listed = h.listed;
+}
 
 abbrev pub drop_table_checks : List ℕ → List ℕ → Master → List Check
 drop_table_checks namespace table m =
@@ -172,18 +190,22 @@ drop_table_keeps ps changes n namespace table slots later plan inv =
     let new = with n (TableDropped id) changes in
     let before : m.clock < n = master_early slots ps n later in
     by_checks (Change command slots) n ps changes (drop_table_checks namespace table m) (accepts command slots (tell slots (PutOut n)) [])
-      (λ why. refused_keeps (Change command slots) why n ps changes later inv tt refl)
-      (λ passes.
-        let with_ = with_found found table_dropped_act n changes passes.1.0 in
-        let all : slots ≡ rising (map (λ j. j.slot) (active_in m id)) = slots_equal slots (plan_of command m) plan ∙ planned_slots m namespace table passes.1.0 in
-        record { right = tt; inv = subst (Inv (told (Change command slots) (accepts command slots (tell slots (PutOut n)) []) n ps)) (sym with_) (record {
-          master = master_dropped m n changes id before (subst (CatalogStands (changed command slots n m)) with_ (catalog_table_dropped m n namespace table slots [] changes (le_of_lt before) passes.1.0 (catalog_of m changes inv.master))) inv.master;
-          slots = slots_told command slots (tell slots (PutOut n)) [] n ps (table_dropped id n m) new
+    (λ why. refused_keeps (Change command slots) why n ps changes later inv tt refl)
+    (λ passes.
+    let with_ = with_found found table_dropped_act n changes passes.1.0 in
+    let all : slots ≡ rising (map (λ j. j.slot) (active_in m id)) = slots_equal slots (plan_of command m) plan ∙ planned_slots m namespace table passes.1.0 in
+    record {
+      right = tt;
+      inv = subst (Inv (told (Change command slots) (accepts command slots (tell slots (PutOut n)) []) n ps)) (sym with_) (record {
+        master = master_dropped m n changes id before (subst (CatalogStands (changed command slots n m)) with_ (catalog_table_dropped m n namespace table slots [] changes (le_of_lt before) passes.1.0 (catalog_of m changes inv.master))) inv.master;
+        slots = slots_told command slots (tell slots (PutOut n)) [] n ps (table_dropped id n m) new
             (λ i is from. subst (λ a. SlotGood (table_dropped id n m) new i (effect a n (ps.tablet i))) (sym (told_same slots (PutOut n) i is))
-                (slot_hidden m n changes id i (ps.tablet i) before (tablet_early slots ps n i later is from) (inv.slots i)))
+            (slot_hidden m n changes id i (ps.tablet i) before (tablet_early slots ps n i later is from) (inv.slots i)))
             (λ i others. slot_beside m n changes id i (ps.tablet i) before (λ j isin is. stays_ended id n j (λ opened of_table.
-                let planned : has slots j.slot ≡ true = ap (λ ss. has ss j.slot) all ∙ active_planned m id j isin opened of_table in
-                let from : 1 ≤ j.slot = ((inv.slots i).each j isin is).slot_from in
-                let apart : eqb i 0 ≡ false = grind (arith, nat_tests) in
-                true≢false (sym planned ∙ ap (has slots) is ∙ others apart))) (inv.slots i));
-          late = nothing_late n (TableDropped id) changes m.clock before inv.master.past inv.late }) })
+            let planned : has slots j.slot ≡ true = ap (λ ss. has ss j.slot) all ∙ active_planned m id j isin opened of_table in
+            let from : 1 ≤ j.slot = ((inv.slots i).each j isin is).slot_from in
+            let apart : eqb i 0 ≡ false = grind (arith, nat_tests) in
+            true≢false (sym planned ∙ ap (has slots) is ∙ others apart))) (inv.slots i));
+        late = nothing_late n (TableDropped id) changes m.clock before inv.master.past inv.late;
+      });
+    })

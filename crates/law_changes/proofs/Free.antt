@@ -1,12 +1,11 @@
 -- The free slots that a plan takes differ, and hold no tablet.
-use Rattle.std.proofs.Common.{ℕ, suc, zero, ◌≡◌, ◌≤◌, ◌<◌, ◌+◌, List, [], ◌∷◌, length, map, take, Bool, true, false, cond, ◌||◌, inl, inr, refl, sym, ap, subst, ◌∙◌, arith, not, eqb, eqb-true, leb, le_trans, length-take-le}
+use Rattle.std.proofs.Common.{ℕ, suc, zero, ◌≡◌, ◌≤◌, ◌<◌, ◌+◌, List, [], ◌∷◌, length, map, take, Bool, true, false, ◌||◌, inl, inr, sym, ap, ◌∙◌, arith, not, eqb, eqb-true, le_trans, length-take-le}
 use Rattle.std.specs.List.{filter}
 use Rattle.std.proofs.lemmas.Bool.{cond_both, true≢false}
-use Rattle.std.proofs.lemmas.Bool.Decides.{nat_tests}
 use Rattle.model.specs.Ids.{In, has}
 use Rattle.model.specs.Activity.{Interval}
 use Rattle.model.specs.Parts.{Master}
-use Rattle.model.specs.Looks.{counting, is_free, free_slots, least_slots, reserved}
+use Rattle.model.specs.Looks.{counting, is_free, free_slots, reserved}
 use Rattle.law_store.proofs.Keys.{either_way}
 use Rattle.law_invariants.proofs.Finding.{map_in}
 use Rattle.law_changes.proofs.Plans.{has_in, or_ways}
@@ -56,7 +55,7 @@ filter_in : (ss : List ℕ) (test : ℕ → Bool) (slot : ℕ) → In slot (filt
 filter_in [] test slot isin = absurd isin
 filter_in (s ∷ ss) test slot isin = either_way (test s)
     (λ e. let k : In slot (s ∷ filter test ss) = rw e at isin in
-        elim k [ inl q ↦ (inl q, ap test (sym q) ∙ e) | inr r ↦ (let h = filter_in ss test slot r in (inr h.0, h.1)) ])
+    elim k [ inl q ↦ (inl q, ap test (sym q) ∙ e) | inr r ↦ (let h = filter_in ss test slot r in (inr h.0, h.1)) ])
     (λ e. let k : In slot (filter test ss) = rw e at isin in let h = filter_in ss test slot k in (inr h.0, h.1))
 
 in_counting : (count from slot : ℕ) → In slot (counting count from) → slot < from + count
@@ -82,7 +81,8 @@ least_free m count enough =
     let all = counting m.slots 1 in
     let isin : (slot : ℕ) → In slot (take count (free_slots m)) → In slot all × (is_free m slot ≡ true) = λ slot isin. filter_in all (is_free m) slot (in_take (free_slots m) count slot isin) in
     record {
-    long = length-take-le count (free_slots m) enough;
-    rise = rise_take (free_slots m) count 1 (rise_filter all (is_free m) 1 (rise_counting m.slots 1));
-    to = λ slot h. (let l : slot < 1 + m.slots = in_counting m.slots 1 slot (isin slot h).0 in omega arith);
-    vacant = λ slot h i listed is. no_tablet m slot i (isin slot h).1 listed is }
+      long = length-take-le count (free_slots m) enough;
+      rise = rise_take (free_slots m) count 1 (rise_filter all (is_free m) 1 (rise_counting m.slots 1));
+      to = λ slot h. (let l : slot < 1 + m.slots = in_counting m.slots 1 slot (isin slot h).0 in omega arith);
+      vacant = λ slot h i listed is. no_tablet m slot i (isin slot h).1 listed is;
+    }

@@ -1,5 +1,5 @@
 -- The slots of a plan: those of a table's tablets, and free ones.
-use Rattle.std.proofs.Common.{ℕ, ◌≡◌, ◌≤◌, ◌<◌, ◌+◌, List, [], ◌∷◌, length, map, Option, Some, None, Bool, true, false, cond, ◌&&◌, ◌||◌, inl, inr, refl, sym, ap, subst, ◌∙◌, arith, not, eqb, ltb, eqb-true}
+use Rattle.std.proofs.Common.{ℕ, ◌≡◌, List, [], ◌∷◌, map, None, Bool, true, false, cond, ◌&&◌, ◌||◌, inl, inr, refl, ap, ◌∙◌, arith, eqb, ltb, eqb-true}
 use Rattle.std.specs.List.{filter}
 use Rattle.std.proofs.lemmas.Bool.{cond_both}
 use Rattle.std.proofs.lemmas.Bool.Decides.{nat_tests}
@@ -34,14 +34,14 @@ has_put [] s slot h = h
 has_put (r ∷ slots) s slot h = cond_both (ltb s r) (s ∷ r ∷ slots) (cond (eqb r s) (r ∷ slots) (r ∷ put_slot s slots)) (λ l. has l slot ≡ true)
     (λ e. h)
     (λ e. cond_both (eqb r s) (r ∷ slots) (r ∷ put_slot s slots) (λ l. has l slot ≡ true)
-        (λ is. or_ways (eqb s slot) (eqb r slot || has slots slot) h
-            (λ q. let k : eqb r slot ≡ true = ap (λ z. eqb z slot) (eqb-true r s is) ∙ q in rw k refl)
-            (λ q. q))
-        (λ is. or_ways (eqb s slot) (eqb r slot || has slots slot) h
-            (λ q. either_has (eqb r slot) (has (put_slot s slots) slot) (has_put slots s slot (rw q refl)))
-            (λ q. or_ways (eqb r slot) (has slots slot) q
-                (λ k. rw k refl)
-                (λ k. either_has (eqb r slot) (has (put_slot s slots) slot) (has_put slots s slot (either_has (eqb s slot) (has slots slot) k))))))
+    (λ is. or_ways (eqb s slot) (eqb r slot || has slots slot) h
+    (λ q. let k : eqb r slot ≡ true = ap (λ z. eqb z slot) (eqb-true r s is) ∙ q in rw k refl)
+    (λ q. q))
+    (λ is. or_ways (eqb s slot) (eqb r slot || has slots slot) h
+    (λ q. either_has (eqb r slot) (has (put_slot s slots) slot) (has_put slots s slot (rw q refl)))
+    (λ q. or_ways (eqb r slot) (has slots slot) q
+    (λ k. rw k refl)
+    (λ k. either_has (eqb r slot) (has (put_slot s slots) slot) (has_put slots s slot (either_has (eqb s slot) (has slots slot) k))))))
 
 pub has_rising : (slots : List ℕ) (slot : ℕ) → has slots slot ≡ true → has (rising slots) slot ≡ true
 has_rising [] slot h = h

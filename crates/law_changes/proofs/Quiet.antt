@@ -1,12 +1,12 @@
 -- A command that makes and drops no table keeps what holds.
-use Rattle.std.proofs.Common.{ℕ, ◌≡◌, ◌≤◌, ◌<◌, List, [], ◌∷◌, Option, Some, None, Bool, true, false, cond, ◌&&◌, refl, sym, ap, subst, ◌∙◌, arith, not, eqb, le_of_lt, le_trans}
+use Rattle.std.proofs.Common.{ℕ, ◌≡◌, ◌≤◌, List, ◌∷◌, Some, true, sym, ap, subst, ◌∙◌, arith, le_of_lt, le_trans}
 use Rattle.std.specs.Option.{is_some}
-use Rattle.model.specs.Ids.{Id, In, has}
+use Rattle.model.specs.Ids.{Id, In}
 use Rattle.model.specs.Activity.{Interval, active_at}
 use Rattle.model.specs.Times.{before_end}
 use Rattle.model.specs.Catalog.{owner_of}
 use Rattle.model.specs.Journal.{Change as Made, table_at, row_at}
-use Rattle.model.specs.Tablets.{Tablet, TabletAct, Told, act_for, effect, Clock, SetVersion, versioned}
+use Rattle.model.specs.Tablets.{Tablet, TabletAct, Told, act_for, effect, Clock, SetVersion}
 use Rattle.model.specs.Stands.{awaited_in}
 use Rattle.model.specs.Acts.{Command, Change}
 use Rattle.model.specs.Parts.{Master, Parts}
@@ -14,12 +14,12 @@ use Rattle.model.specs.Changes.{accepts}
 use Rattle.model.specs.Changed.{changed}
 use Rattle.model.specs.History.{told}
 use Rattle.model.specs.Right.{NothingLate}
-use Rattle.law_invariants.specs.Invariant.{Covered, StandsIn, IsGood, IsOpen, SlotGood, MasterGood, Inv, Later}
+use Rattle.law_invariants.specs.Invariant.{Covered, IsGood, SlotGood, MasterGood, Inv, Later}
 use Rattle.law_invariants.proofs.Ticking.{past_later, tablet_ticked}
 use Rattle.law_invariants.proofs.Journaling.{IsQuiet}
 use Rattle.law_invariants.proofs.Covering.{quiet_covers}
 use Rattle.law_invariants.proofs.Cataloguing.{CatalogStands}
-use Rattle.law_changes.proofs.Told.{slots_told, master_early, tablet_early}
+use Rattle.law_changes.proofs.Told.{slots_told, tablet_early}
 
 -- the master goes on with its tablets, under a journal with the same tables and rows
 pub record Follows (m k : Master) (changes new : List Made) : Type 0 where
@@ -45,42 +45,57 @@ pub record Carries (m k : Master) (changes new : List Made) (i : Interval) : Typ
 
 pub good_carried : (m k : Master) (changes new : List Made) (t : Tablet) (i : Interval) → Carries m k changes new i → IsGood m changes t i → IsGood k new t i
 good_carried m k changes new t i f g = record {
-    past = past_later i.from m.clock k.clock i.to f.clock g.past;
-    over = g.over;
-    drawn = le_trans g.drawn f.drawn;
-    drawn_table = le_trans g.drawn_table f.drawn_tables;
-    slot_from = g.slot_from;
-    slot_to = (let l = g.slot_to in let e = f.slots in omega arith);
-    present = g.present; tablet_is = g.tablet_is; table_is = g.table_is; low_is = g.low_is; high_is = g.high_is;
-    viewed = λ x active. f.viewed x active (g.viewed x active);
-    stands = λ settled key x within cut before. g.stands (ap (λ rs. awaited_in rs t.tablet t.done) (sym f.restorations) ∙ settled) key x within cut before ∙ sym (f.rows x key before) }
+  past = past_later i.from m.clock k.clock i.to f.clock g.past;
+  over = g.over;
+  drawn = le_trans g.drawn f.drawn;
+  drawn_table = le_trans g.drawn_table f.drawn_tables;
+  slot_from = g.slot_from;
+  slot_to = (let l = g.slot_to in let e = f.slots in omega arith);
+  present = g.present;
+  tablet_is = g.tablet_is;
+  table_is = g.table_is;
+  low_is = g.low_is;
+  high_is = g.high_is;
+  viewed = λ x active. f.viewed x active (g.viewed x active);
+  stands = λ settled key x within cut before. g.stands (ap (λ rs. awaited_in rs t.tablet t.done) (sym f.restorations) ∙ settled) key x within cut before ∙ sym (f.rows x key before);
+}
 
 carries : (m k : Master) (changes new : List Made) (i : Interval) → Follows m k changes new → Carries m k changes new i
 carries m k changes new i f = record {
-    clock = f.clock; slots = f.slots; restorations = f.restorations;
-    drawn = (let e = f.drawn in omega arith);
-    drawn_tables = (let e = f.drawn_tables in omega arith);
-    viewed = λ x active is. (f.quiet.tables x i.table).there ∙ is;
-    rows = λ x key before. f.quiet.rows x i.table key }
+  clock = f.clock;
+  slots = f.slots;
+  restorations = f.restorations;
+  drawn = (let e = f.drawn in omega arith);
+  drawn_tables = (let e = f.drawn_tables in omega arith);
+  viewed = λ x active is. (f.quiet.tables x i.table).there ∙ is;
+  rows = λ x key before. f.quiet.rows x i.table key;
+}
 
 pub slot_follows : (m k : Master) (changes new : List Made) (slot : ℕ) (t : Tablet) → Follows m k changes new → SlotGood m changes slot t → SlotGood k new slot t
 slot_follows m k changes new slot t f h = record {
-    good = h.good;
-    each = λ i isin is. good_carried m k changes new t i (carries m k changes new i f) (h.each i (subst (In i) f.activity isin) is);
-    opens = λ serving unfenced. (let o = h.opens serving unfenced in record {
-        interval = o.interval; listed = subst (In o.interval) (sym f.activity) o.listed; slot_is = o.slot_is; opened = o.opened; begun = o.begun;
-        settled = ap (λ rs. awaited_in rs t.tablet t.done) f.restorations ∙ o.settled });
-    later = λ ns to is serving unfenced owned. h.later ns to (sym (f.quiet.fixed ns to) ∙ is) serving unfenced (ap (λ os. owner_of os t.table) (sym f.owners) ∙ owned) }
+  good = h.good;
+  each = λ i isin is. good_carried m k changes new t i (carries m k changes new i f) (h.each i (subst (In i) f.activity isin) is);
+  opens = λ serving unfenced. (let o = h.opens serving unfenced in record {
+    interval = o.interval;
+    listed = subst (In o.interval) (sym f.activity) o.listed;
+    slot_is = o.slot_is;
+    opened = o.opened;
+    begun = o.begun;
+    settled = ap (λ rs. awaited_in rs t.tablet t.done) f.restorations ∙ o.settled;
+  });
+  later = λ ns to is serving unfenced owned. h.later ns to (sym (f.quiet.fixed ns to) ∙ is) serving unfenced (ap (λ os. owner_of os t.table) (sym f.owners) ∙ owned);
+}
 
 pub master_follows : (m k : Master) (changes new : List Made) → Follows m k changes new → CatalogStands k new → MasterGood m changes → MasterGood k new
 master_follows m k changes new f stands h = record {
-    namespaces = stands.namespaces;
-    tables = stands.tables;
-    cover = subst (λ is. Covered is new) (sym f.activity) (quiet_covers m.activity changes new f.quiet h.cover);
-    spaces = λ id x v is. (let u = (f.quiet.tables x id).space v is in ap (λ os. owner_of os id) f.owners ∙ h.spaces id x u.0 u.1.0 ∙ ap Some u.1.1);
-    past = λ ns to is. le_trans (h.past ns to (sym (f.quiet.fixed ns to) ∙ is)) f.clock;
-    complete = λ s isin. le_trans (h.complete s (subst (In s) f.schedules isin)) f.clock;
-    listed = λ r l isin lists. (let q = h.listed r l (subst (In r) f.restorations isin) lists in let e = f.drawn in omega arith) }
+  namespaces = stands.namespaces;
+  tables = stands.tables;
+  cover = subst (λ is. Covered is new) (sym f.activity) (quiet_covers m.activity changes new f.quiet h.cover);
+  spaces = λ id x v is. (let u = (f.quiet.tables x id).space v is in ap (λ os. owner_of os id) f.owners ∙ h.spaces id x u.0 u.1.0 ∙ ap Some u.1.1);
+  past = λ ns to is. le_trans (h.past ns to (sym (f.quiet.fixed ns to) ∙ is)) f.clock;
+  complete = λ s isin. le_trans (h.complete s (subst (In s) f.schedules isin)) f.clock;
+  listed = λ r l isin lists. (let q = h.listed r l (subst (In r) f.restorations isin) lists in let e = f.drawn in omega arith);
+}
 
 -- a tablet is told a version of its schema, or nothing
 abbrev pub IsMild : TabletAct → Type 0
@@ -91,13 +106,32 @@ IsMild _ = ⊥
 mild_keeps : (a : TabletAct) (m : Master) (n : ℕ) (changes : List Made) (slot : ℕ) (t : Tablet) → IsMild a → t.clock ≤ n → SlotGood m changes slot t → SlotGood m changes slot (effect a n t)
 mild_keeps Clock m n changes slot t mild le h = tablet_ticked m n changes slot t le h
 mild_keeps (SetVersion version) m n changes slot t mild le h = let g = tablet_ticked m n changes slot t le h in record {
-    good = record { sorted = g.good.sorted; below = g.good.below; cutoff = g.good.cutoff };
-    each = λ i isin is. (let q = g.each i isin is in record {
-        past = q.past; over = q.over; drawn = q.drawn; drawn_table = q.drawn_table; slot_from = q.slot_from; slot_to = q.slot_to; present = q.present; tablet_is = q.tablet_is;
-        table_is = q.table_is; low_is = q.low_is; high_is = q.high_is; viewed = q.viewed; stands = q.stands });
-    opens = λ serving unfenced. (let o = g.opens serving unfenced in record {
-        interval = o.interval; listed = o.listed; slot_is = o.slot_is; opened = o.opened; begun = o.begun; settled = o.settled });
-    later = g.later }
+  good = record { sorted = g.good.sorted; below = g.good.below; cutoff = g.good.cutoff };
+  each = λ i isin is. (let q = g.each i isin is in record {
+    past = q.past;
+    over = q.over;
+    drawn = q.drawn;
+    drawn_table = q.drawn_table;
+    slot_from = q.slot_from;
+    slot_to = q.slot_to;
+    present = q.present;
+    tablet_is = q.tablet_is;
+    table_is = q.table_is;
+    low_is = q.low_is;
+    high_is = q.high_is;
+    viewed = q.viewed;
+    stands = q.stands;
+  });
+  opens = λ serving unfenced. (let o = g.opens serving unfenced in record {
+    interval = o.interval;
+    listed = o.listed;
+    slot_is = o.slot_is;
+    opened = o.opened;
+    begun = o.begun;
+    settled = o.settled;
+  });
+  later = g.later;
+}
 mild_keeps _ m n changes slot t mild le h = absurd mild
 
 pub quiet_keeps : (command : Command) (slots : List ℕ) (tablets : List Told) (made : List Id) (n : ℕ) (ps : Parts) (changes new : List Made) → Later (0 ∷ slots) ps n → Inv ps changes
@@ -105,8 +139,9 @@ pub quiet_keeps : (command : Command) (slots : List ℕ) (tablets : List Told) (
     → Inv (told (Change command slots) (accepts command slots tablets made) n ps) new
 quiet_keeps command slots tablets made n ps changes new later inv f stands late mild =
     let k = changed command slots n ps.master in record {
-    master = master_follows ps.master k changes new f stands inv.master;
-    slots = slots_told command slots tablets made n ps k new
-        (λ i is from. mild_keeps (act_for tablets i) k n new i (ps.tablet i) (mild i) (le_of_lt (tablet_early slots ps n i later is from)) (slot_follows ps.master k changes new i (ps.tablet i) f (inv.slots i)))
-        (λ i others. slot_follows ps.master k changes new i (ps.tablet i) f (inv.slots i));
-    late = late }
+      master = master_follows ps.master k changes new f stands inv.master;
+      slots = slots_told command slots tablets made n ps k new
+          (λ i is from. mild_keeps (act_for tablets i) k n new i (ps.tablet i) (mild i) (le_of_lt (tablet_early slots ps n i later is from)) (slot_follows ps.master k changes new i (ps.tablet i) f (inv.slots i)))
+          (λ i others. slot_follows ps.master k changes new i (ps.tablet i) f (inv.slots i));
+      late = late;
+    }

@@ -1,19 +1,17 @@
 -- What an accepted command leaves: the master as it changed it, and each tablet of its plan as it was told.
-use Rattle.std.proofs.Common.{ℕ, ◌≡◌, ◌≤◌, ◌<◌, List, [], ◌∷◌, Option, Some, None, Bool, true, false, cond, ◌&&◌, ◌||◌, refl, sym, ap, subst, ◌∙◌, arith, not, eqb, eqb-true, le_of_lt, le_trans}
-use Rattle.std.proofs.lemmas.Bool.{cond_both, true≢false}
+use Rattle.std.proofs.Common.{ℕ, ◌≡◌, ◌<◌, List, [], ◌∷◌, Bool, true, false, cond, ◌&&◌, ◌||◌, refl, ap, ◌∙◌, arith, not, eqb, eqb-true}
+use Rattle.std.proofs.lemmas.Bool.{cond_both}
 use Rattle.std.proofs.lemmas.Bool.Decides.{nat_tests}
-use Rattle.model.specs.Ids.{Id, In, has, same_slots}
+use Rattle.model.specs.Ids.{Id, has, same_slots}
 use Rattle.model.specs.Journal.{Change as Made}
-use Rattle.model.specs.Tablets.{Tablet, TabletAct, Told, act_for, effect, Clock, SetVersion}
-use Rattle.model.specs.Acts.{Command, Change, Reply, Ok}
+use Rattle.model.specs.Tablets.{TabletAct, Told, act_for, effect, Clock}
+use Rattle.model.specs.Acts.{Command, Change}
 use Rattle.model.specs.Parts.{Master, Parts}
 use Rattle.model.specs.Entries.{clock_at}
 use Rattle.model.specs.Changes.{accepts, tell}
-use Rattle.model.specs.Changed.{changed}
 use Rattle.model.specs.History.{told}
-use Rattle.model.specs.Right.{NothingLate}
 use Rattle.law_store.proofs.Keys.{either_way}
-use Rattle.law_invariants.specs.Invariant.{SlotGood, MasterGood, Inv, Later}
+use Rattle.law_invariants.specs.Invariant.{SlotGood, Later}
 use Rattle.law_invariants.proofs.Finding.{both_pass}
 use Rattle.law_invariants.proofs.Ticking.{not_true}
 
@@ -42,8 +40,8 @@ pub slots_told : (command : Command) (slots : List ℕ) (tablets : List Told) (m
     → (i : ℕ) → SlotGood k new i ((told (Change command slots) (accepts command slots tablets made) n ps).tablet i)
 slots_told command slots tablets made n ps k new mine others i =
     cond_both (has (0 ∷ slots) i && not (eqb i 0)) (effect (act_for tablets i) n (ps.tablet i)) (ps.tablet i) (λ t. SlotGood k new i t)
-      (λ e. let h = touched_has i slots e in mine i h.0 h.1)
-      (λ e. others i (untouched_has i slots e))
+    (λ e. let h = touched_has i slots e in mine i h.0 h.1)
+    (λ e. others i (untouched_has i slots e))
 
 -- the clocks of the master and of the plan's tablets are below the stamp
 pub master_early : (slots : List ℕ) (ps : Parts) (n : ℕ) → Later (0 ∷ slots) ps n → ps.master.clock < n
@@ -65,7 +63,7 @@ told_same [] a i is = cc
 told_same (slot ∷ slots) a i is = either_way (eqb slot i)
     (λ e. rw e refl)
     (λ e. let q : (eqb slot i || has slots i) ≡ true = is in let k : has slots i ≡ true = rw e at q in
-        ap (λ b. cond b a (act_for (tell slots a) i)) e ∙ told_same slots a i k)
+    ap (λ b. cond b a (act_for (tell slots a) i)) e ∙ told_same slots a i k)
 
 -- what holds of no act and of the one act that all are told holds of what each slot is told
 pub told_either : (P : TabletAct → Type 0) (slots : List ℕ) (a : TabletAct) (i : ℕ) → P Clock → P a → P (act_for (tell slots a) i)

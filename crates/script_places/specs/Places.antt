@@ -1,5 +1,5 @@
 -- What the places of a command make of its words, from left to right.
-use Rattle.std.specs.Prelude.{ℕ, if◌then◌else◌, List, [], ◌∷◌, Result, Ok, Err}
+use Rattle.std.specs.Prelude.{ℕ, if◌then◌else◌, List, [], ◌∷◌, Result, Ok, Err, bytes_eq}
 use Rattle.table_schema.specs.declared.column.NewColumn.{NewColumn}
 use Rattle.script_words.specs.declared.cause.Cause.{Cause}
 use Rattle.script_words.specs.declared.cause.Cause.TheVariants.{WrongWords, BadNumber, BadTime, NoSuchSlot}
@@ -51,12 +51,18 @@ read slots [] command ws = Ok command
 read slots (place ∷ rest) make ws = at slots place ws >>= λ x. read slots rest (make x.0) x.1
 
 -- a command: its word, the places of its other words, and what makes it of their meanings
-pub record Row (C : Type 0) : Type 0 where
+pub record Form (C : Type 0) : Type 0 where
   pub word : Word
   pub places : List Place
   pub makes : Makes C places
 
--- The command of the words behind a row's own. A wrong count or fixed word comes before the cause of
+-- The command of the words behind its own. A wrong count or fixed word comes before the cause of
 -- a single word.
-unfoldable pub read_row : {C : Type 0} → ℕ → Row C → List Word → Result C Cause
-read_row slots row ws = if fits row.places ws then read slots row.places row.makes ws else Err WrongWords
+unfoldable pub read_form : {C : Type 0} → ℕ → Form C → List Word → Result C Cause
+read_form slots form ws = if fits form.places ws then read slots form.places form.makes ws else Err WrongWords
+
+-- the command of a word and those behind it, as these forms say, or else this
+abbrev pub look_up : {C : Type 0} → ℕ → List (Form C) → Word → List Word → Result C Cause → Result C Cause
+look_up slots [] w ws otherwise = otherwise
+look_up slots (form ∷ forms) w ws otherwise =
+    if bytes_eq w form.word then read_form slots form ws else look_up slots forms w ws otherwise

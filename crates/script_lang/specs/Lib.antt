@@ -1,0 +1,5 @@
+pub mod Catalog
+pub mod Rows
+pub mod Script
+pub mod Settings
+pub mod Table

@@ -6,6 +6,7 @@
 #![tactic(auto)]
 
 mod column;
+mod laws;
 mod names;
 mod numbers;
 mod place;
@@ -15,6 +16,7 @@ mod values;
 mod words;
 
 pub use column::{column_at, columns};
+pub use laws::numbers_are_decimal;
 pub use names::{key_at, name_at};
 pub use numbers::number_at;
 pub use place::{Place, counted};

@@ -1,0 +1,7 @@
+pub mod CellWords
+pub mod ColumnWords
+pub mod Cuts
+pub mod Decimals
+pub mod FormWords
+pub mod PlaceWords
+pub mod TimeWords

@@ -1,4 +1,5 @@
 pub mod Catalog
+pub mod Grammar
 pub mod Rows
 pub mod Script
 pub mod Settings

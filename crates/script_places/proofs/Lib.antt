@@ -4,4 +4,5 @@ pub mod Cuts
 pub mod Decimals
 pub mod FormWords
 pub mod PlaceWords
+pub mod TableWords
 pub mod TimeWords

@@ -1,9 +1,9 @@
 -- Which words spell which command, and which is the first wrong one where they spell none.
-use Rattle.std.specs.Prelude.{◌≡◌, ℕ, ◌≤◌, ◌^◌, Bool, true, false, not, ◌&&◌, ◌||◌, nat_lt, List, [], ◌∷◌, ◌++◌, ◌⊎◌, decimal}
+use Rattle.std.specs.Prelude.{◌≡◌, ℕ, ◌≤◌, ◌^◌, Bool, true, false, not, ◌&&◌, ◌||◌, nat_lt, List, [], ◌∷◌, ◌++◌, ◌⊎◌, decimal, bytes_eq}
 use Rattle.row_values.specs.declared.value.Value.{Value}
 use Rattle.table_schema.specs.declared.column.NewColumn.{NewColumn}
 use Rattle.script_words.specs.declared.cause.Cause.{Cause}
-use Rattle.script_words.specs.declared.cause.Cause.TheVariants.{WrongWords, BadName, BadKey, BadValue, BadNumber, BadTime, NoSuchSlot, RepeatedColumn}
+use Rattle.script_words.specs.declared.cause.Cause.TheVariants.{UnknownCommand, WrongWords, BadName, BadKey, BadValue, BadNumber, BadTime, NoSuchSlot, RepeatedColumn}
 use Rattle.script_places.specs.declared.types.NamedCell.{NamedCell}
 use Rattle.script_places.specs.declared.types.Time.{Time}
 use Rattle.script_places.specs.declared.place.Place.{Place}
@@ -99,3 +99,31 @@ is_empty (place ∷ rest) = false
 abbrev pub are_right : List Place → Bool
 are_right [] = true
 are_right (place ∷ rest) = is_bounded place && ((not (takes_rest place) || is_empty rest) && are_right rest)
+
+-- whether each form of the table can be read
+abbrev pub all_right : {C : Type 0} → List (Form C) → Bool
+all_right [] = true
+all_right (form ∷ forms) = are_right form.places && all_right forms
+
+abbrev pub has_word : {C : Type 0} → List (Form C) → Word → Bool
+has_word [] w = false
+has_word (form ∷ forms) w = bytes_eq w form.word || has_word forms w
+
+-- whether no two forms of the table have the same word
+abbrev pub words_differ : {C : Type 0} → List (Form C) → Bool
+words_differ [] = true
+words_differ (form ∷ forms) = not (has_word forms form.word) && words_differ forms
+
+-- It is so of a form of the table.
+abbrev pub SomeForm : {C : Type 0} → (Form C → Type 0) → List (Form C) → Type 0
+SomeForm P [] = ⊥
+SomeForm P (form ∷ forms) = P form ⊎ SomeForm P forms
+
+-- A form of the table has the first word, and the others spell the command as it says.
+abbrev pub SpelledIn : {C : Type 0} → ℕ → List (Form C) → C → Word → List Word → Type 0
+SpelledIn slots table command w ws = SomeForm (λ form. (w ≡ form.word) × Spells slots form.places form.makes command ws) table
+
+-- No form of the table has the first word, or one has, and the others are refused by it.
+abbrev pub RefusedIn : {C : Type 0} → ℕ → List (Form C) → Cause → Word → List Word → Type 0
+RefusedIn slots table cause w ws =
+    ((has_word table w ≡ false) × (cause ≡ UnknownCommand)) ⊎ SomeForm (λ form. (w ≡ form.word) × FormRefused slots form cause ws) table

@@ -1,5 +1,4 @@
 use Rattle.script_places.proofs.Decimals.{is_decimal, decimal_is}
-use Rattle.script_places.proofs.FormWords.{form_sound}
 use Rattle.script_places.proofs.laws.numbers_are_decimal.Goals as goal
 
 pub returns-clause-read : goal.returns-clause-read

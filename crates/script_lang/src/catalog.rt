@@ -6,8 +6,8 @@ ghost use Rattle.script_lang.specs.Catalog as catalog;
 ghost use Rattle.script_lang.specs.Table.{from_catalog};
 
 use crate::command::ScriptCommand;
-use crate::rows;
 use crate::reading::Reading;
+use crate::rows;
 use row_values::Bytes;
 use script_places::{Place, column_at, columns, counted, name_at, next_of, number_at};
 use script_words::{Cause, LineError};

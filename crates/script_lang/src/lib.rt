@@ -21,3 +21,6 @@ pub use laws::{
 pub use script::{NumberedCommand, Script, ScriptLine, ScriptRefused, read_script};
 pub use script_places::{NamedCell, NamedItem, NamedOp, Time};
 pub use script_words::Cause;
+
+#[cfg(test)]
+mod tests;

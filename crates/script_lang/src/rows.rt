@@ -15,10 +15,7 @@ use script_words::{Cause, LineError};
 fn put(with: Reading, words: &[Bytes]) -> Result<ScriptCommand, LineError>
     ensures exact { Gives same result (read_form with.slots rows.put words.now) }
 {
-    counted(
-        &[Place::Name, Place::Name, Place::Key, Place::Cells],
-        words,
-    )?;
+    counted(&[Place::Name, Place::Name, Place::Key, Place::Cells], words)?;
     let (namespace, rest) = name_at(with.alloc, words)?;
     let (table, rest) = name_at(with.alloc, rest)?;
     let (key, rest) = key_at(with.alloc, rest)?;

@@ -1,6 +1,10 @@
-ghost use Rattle.std.specs.Prelude.{◌≡◌, Ok, MatchResult};
+ghost use Rattle.std.specs.Prelude.{◌≡◌, ℕ, List, Ok, MatchResult, IfOk, IfErr, IsErr, IsOkUnless};
+ghost use Rattle.script_words.specs.declared.cause.Cause.{Cause};
 ghost use Rattle.script_words.specs.Reading.{Gives, same};
+ghost use Rattle.script_lang.specs.declared.script.ScriptLine.{ScriptLine};
+ghost use Rattle.script_lang.specs.declared.script.ScriptRefused.TheVariants.{NoMemory};
 ghost use Rattle.script_lang.specs.Script.{line_of, script_of, RefusedFor};
+ghost use Rattle.script_lang.specs.Grammar.{IsScript, IsRefusedAt, IsRefusedFor};
 
 use crate::command::ScriptCommand;
 use crate::reading::Reading;
@@ -52,22 +56,14 @@ fn line_of(with: Reading, line: &[u8]) -> Result<Option<ScriptCommand>, LineErro
     }
 }
 
-/// Reads the text of a script for so many slots. `sections` says whether the lines of sections are
-/// in the grammar; no such line is built yet, so that they are unknown commands either way. The time
-/// that this takes is linear in the text's length.
+// The commands of the lines.
 #[tactic(auto, unfolding(crate::specs::Script::script_from))]
-pub fn read_script(
-    alloc: Global,
-    bytes: &[u8],
-    slots: u32,
-    _sections: bool,
-) -> Result<Script, ScriptRefused>
+fn read_lines(with: Reading, bytes: &[u8]) -> Result<Script, ScriptRefused>
     ensures exact { MatchResult result
-        (λ script. script_of slots bytes.now ≡ Ok script.lines)
-        (RefusedFor (script_of slots bytes.now)) }
+        (λ script. script_of with.slots bytes.now ≡ Ok script.lines)
+        (RefusedFor (script_of with.slots bytes.now)) }
 {
-    let with = Reading { alloc, slots };
-    let mut lines = Records::new(alloc);
+    let mut lines = Records::new(with.alloc);
     let mut rest = bytes;
     let mut number: u64 = 0;
     while !rest.is_empty() {
@@ -95,4 +91,26 @@ pub fn read_script(
         rest = behind;
     }
     Ok(Script { lines })
+}
+
+/// Reads the text of a script for so many slots. It is Ok exactly where each line is in the grammar,
+/// with the commands that the text means; else it names the first line that isn't, and that line's
+/// first cause. `sections` says whether the lines of sections are in the grammar. None of them is
+/// built yet, so they are unknown commands either way.
+pub fn read_script(
+    alloc: Global,
+    bytes: &[u8],
+    slots: u32,
+    sections: bool,
+) -> Result<Script, ScriptRefused>
+    ensures exact { MatchResult result
+        (λ script. script_of slots bytes.now ≡ Ok script.lines)
+        (RefusedFor (script_of slots bytes.now)) }
+    ensures script { IfOk result (λ script. IsScript slots bytes.now script.lines) }
+    ensures refused { IfErr result (IsRefusedFor slots bytes.now) }
+    ensures accepted { (found : List ScriptLine) → IsScript slots bytes.now found → IsOkUnless result NoMemory }
+    ensures told { (line : ℕ) (cause : Cause) → IsRefusedAt slots bytes.now line cause → IsErr result }
+{
+    let _ = sections;
+    read_lines(Reading { alloc, slots }, bytes)
 }

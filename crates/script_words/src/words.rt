@@ -63,8 +63,7 @@ fn is_comment(line: &[u8]) -> bool
     matches!(line.first(), Some(b'#'))
 }
 
-/// The words of a line, none where it does nothing. A word keeps its quotes. The time that this takes
-/// is linear in the line's length.
+/// The words of a line, none where it does nothing. A word keeps its quotes.
 pub fn words_of_line(alloc: Global, line: &[u8]) -> Result<Records<Bytes>, LineError>
     ensures exact { Gives same result (words_of_line line.now) }
 {

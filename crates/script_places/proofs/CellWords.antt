@@ -1,11 +1,11 @@
 -- What a value's and a cell's word is read as.
-use Rattle.std.proofs.Common.{◌≡◌, ℕ, zero, suc, ◌+◌, ◌-◌, ◌^◌, ◌<◌, ◌≤◌, ◌⊎◌, inl, inr, Bool, true, false, not, ◌&&◌, cond, List, [], ◌∷◌, ◌++◌, length, get_or, take, drop, map, append_assoc, Option, Some, None, Result, Ok, Err, refl, sym, ap, subst, ◌∙◌, codes, arith}
+use Rattle.std.proofs.Common.{◌≡◌, ℕ, zero, suc, ◌+◌, ◌-◌, ◌^◌, ◌<◌, ◌≤◌, ◌⊎◌, inl, inr, Bool, true, false, ◌&&◌, cond, List, [], ◌∷◌, ◌++◌, length, get_or, take, drop, map, append_assoc, Option, Some, None, Result, Ok, Err, refl, sym, ap, subst, ◌∙◌, codes, arith}
 use Rattle.std.specs.Prelude.{◌==◌, nat_le, bytes_eq, decimal, option_map, pos, negsuc}
 use Rattle.std.specs.List.{AllByRecursion}
 use Rattle.std.proofs.lemmas.Bool.{and_parts, and_from, eqb-true}
 use Rattle.std.proofs.lemmas.Bool.Decides.{nat_tests}
 use Rattle.std.proofs.lemmas.Fmt.{decimal_nonempty}
-use Rattle.std.proofs.lemmas.List.{length-append, take_at, append-nil, length-take}
+use Rattle.std.proofs.lemmas.List.{length-append, take_at, append-nil}
 use Rattle.row_values.specs.declared.value.Value.{Value}
 use Rattle.row_values.specs.declared.value.Value.TheVariants.{Int, Text, Null}
 use Rattle.script_words.specs.declared.cause.Cause.{Cause}
@@ -88,7 +88,7 @@ quoted_whole (b ∷ c ∷ cs) long first last =
     let quote : get_or (c ∷ cs) (length cs) 0 ≡ 39 = sym (ap (λ (n : ℕ). get_or (b ∷ c ∷ cs) n 0) end) ∙ last in
     let inner : take (length cs) (c ∷ cs) ≡ unquoted (b ∷ c ∷ cs) = ap (λ (n : ℕ). take n (c ∷ cs)) (sym count) in
     ap (λ (d : ℕ). d ∷ c ∷ cs) first ∙ ap (λ (bs : List ℕ). 39 ∷ bs)
-        (split ∙ ap (λ (d : ℕ). take (length cs) (c ∷ cs) ++ (d ∷ [])) quote ∙ ap (λ (bs : List ℕ). bs ++ (39 ∷ [])) inner)
+    (split ∙ ap (λ (d : ℕ). take (length cs) (c ∷ cs) ++ (d ∷ [])) quote ∙ ap (λ (bs : List ℕ). bs ++ (39 ∷ [])) inner)
 
 text_is : (w : List ℕ) → is_quoted w ≡ true → Is w (Text (unquoted w))
 text_is w quoted =
@@ -220,9 +220,12 @@ cells_by : (w : Word) (ws : List Word) (kept all : List NamedCell) (r : Result N
 cells_by w ws kept all (Err d) is later e = absurd cc
 cells_by w ws kept all (Ok cell) is later e =
     let i = cell_is w cell is in
-    let rest = later cell e in
-    (cell ∷ rest.0, rest.1 ∙ append_assoc kept (cell ∷ []) rest.0,
-        ap (λ (v : Word). v ∷ ws) i.0 ∙ ap (λ (vs : List Word). cell_word cell ∷ vs) rest.2, (i.1, rest.3))
+    let rest = later cell e in (
+      cell ∷ rest.0,
+      rest.1 ∙ append_assoc kept (cell ∷ []) rest.0,
+      ap (λ (v : Word). v ∷ ws) i.0 ∙ ap (λ (vs : List Word). cell_word cell ∷ vs) rest.2,
+      (i.1, rest.3),
+    )
 
 pub cells_are : (ws : List Word) (kept all : List NamedCell) → cells_from kept ws ≡ Ok all → Cells kept all ws
 unfolding cells_from

@@ -153,7 +153,7 @@ unfolding columns_from
 columns_again [] kept fits new = ap done (sym (append-nil kept))
 columns_again (column ∷ columns) kept fits new =
     rw (behind_new kept (column_word column) column (column_again column fits.0) new.0)
-        (columns_again columns (kept ++ column ∷ []) fits.1 new.1 ∙ ap done (append_assoc kept (column ∷ []) columns))
+    (columns_again columns (kept ++ column ∷ []) fits.1 new.1 ∙ ap done (append_assoc kept (column ∷ []) columns))
 
 -- the columns that were read behind those that are kept
 abbrev pub NewColumns : List NewColumn → List NewColumn → List Word → Type 0
@@ -166,9 +166,13 @@ columns_by w ws kept all (Err d) is later e = absurd cc
 columns_by w ws kept all (Ok column) is later e =
     let b = behind_is kept w column is in
     let i = column_is w column b.0 in
-    let rest = later column e in
-    (column ∷ rest.0, rest.1 ∙ append_assoc kept (column ∷ []) rest.0,
-        ap (λ (v : Word). v ∷ ws) i.0 ∙ ap (λ (vs : List Word). column_word column ∷ vs) rest.2, (i.1, rest.3), (b.1, rest.4))
+    let rest = later column e in (
+      column ∷ rest.0,
+      rest.1 ∙ append_assoc kept (column ∷ []) rest.0,
+      ap (λ (v : Word). v ∷ ws) i.0 ∙ ap (λ (vs : List Word). column_word column ∷ vs) rest.2,
+      (i.1, rest.3),
+      (b.1, rest.4),
+    )
 
 pub columns_are : (ws : List Word) (kept all : List NewColumn) → columns_from kept ws ≡ Ok all → NewColumns kept all ws
 unfolding columns_from

@@ -38,7 +38,6 @@ pub cut_whole : (b : ℕ) (w : List ℕ) → (w ≡ before b w ++ (b ∷ behind 
 cut_whole b [] = inr refl
 cut_whole b (c ∷ cs) = cut_by b c cs (c == b) refl (cut_whole b cs)
 
-
 not_true : (b : Bool) → not b ≡ true → b ≡ false
 not_true true e = cc
 not_true false e = refl

@@ -1,5 +1,5 @@
 -- The words behind a command's own are read as what they spell, and are refused for the first wrong one.
-use Rattle.std.proofs.Common.{◌≡◌, ℕ, ◌^◌, ◌<◌, ◌⊎◌, inl, inr, Bool, true, false, not, ◌&&◌, ◌||◌, cond, List, [], ◌∷◌, ◌++◌, Result, Ok, Err, refl, sym, ap, subst, ◌∙◌}
+use Rattle.std.proofs.Common.{◌≡◌, ℕ, ◌^◌, ◌<◌, ◌⊎◌, inl, inr, Bool, true, false, not, ◌&&◌, ◌||◌, cond, List, [], ◌∷◌, Result, Ok, Err, refl, sym, ap, ◌∙◌}
 use Rattle.std.proofs.lemmas.Bool.{and_parts}
 use Rattle.script_words.specs.declared.cause.Cause.{Cause}
 use Rattle.script_words.specs.declared.cause.Cause.TheVariants.{WrongWords}
@@ -9,7 +9,7 @@ use Rattle.script_places.specs.Words.{Word}
 use Rattle.script_places.specs.Counts.{takes_rest, fits}
 use Rattle.script_places.specs.Places.{Meaning, Makes, Form, at, read, read_form}
 use Rattle.script_places.specs.Grammar.{Spells, Refused, FormRefused, is_bounded, is_empty, are_right}
-use Rattle.script_places.proofs.PlaceWords.{Stands, stands, read_again, fit_again, refused_there, refused_again}
+use Rattle.script_places.proofs.PlaceWords.{stands, read_again, fit_again, refused_there, refused_again}
 
 abbrev okay : {A : Type 0} → A → Result A Cause
 okay x = Ok x
@@ -80,9 +80,10 @@ complete slots (place ∷ rest) make command ws few right' s =
     let r = right place rest right' in
     let later = complete slots rest (make s.0) command s.2 few r.others s.5 in
     let last : takes_rest place ≡ true → s.2 ≡ [] = λ takes. ends slots rest (make s.0) command s.2 (r.last takes) s.5 in
-    let here : at slots place ws ≡ Ok (s.0, s.2) = ap (at slots place) s.3 ∙ read_again slots place s.0 s.1 s.2 few r.bound last s.4 in
-    (ap (fits (place ∷ rest)) s.3 ∙ fit_again slots place rest s.0 s.1 s.2 last s.4 later.0,
-        bound (at slots place ws) (λ (p : Meaning place × List Word). read slots rest (make p.0) p.1) (s.0, s.2) here ∙ later.1)
+    let here : at slots place ws ≡ Ok (s.0, s.2) = ap (at slots place) s.3 ∙ read_again slots place s.0 s.1 s.2 few r.bound last s.4 in (
+      ap (fits (place ∷ rest)) s.3 ∙ fit_again slots place rest s.0 s.1 s.2 last s.4 later.0,
+      bound (at slots place ws) (λ (p : Meaning place × List Word). read slots rest (make p.0) p.1) (s.0, s.2) here ∙ later.1,
+    )
 
 refused_by : {C : Type 0} (slots : ℕ) (place : Place) (rest : List Place) (make : Meaning place → Makes C rest) (cause : Cause) (ws : List Word) → slots < 2 ^ 64 → Right place rest
     → fits (place ∷ rest) ws ≡ true
@@ -101,7 +102,7 @@ refused slots [] make cause ws few right' fit e = absurd cc
 refused slots (place ∷ rest) make cause ws few right' fit e =
     let r = right place rest right' in
     refused_by slots place rest make cause ws few r fit (λ x others f h. refused slots rest (make x) cause others few r.others f h)
-        (not_all (at slots place ws) (λ (p : Meaning place × List Word). read slots rest (make p.0) p.1) cause e)
+    (not_all (at slots place ws) (λ (p : Meaning place × List Word). read slots rest (make p.0) p.1) cause e)
 
 no_end : (slots : ℕ) (rest : List Place) (cause : Cause) (others : List Word) → rest ≡ [] → Refused slots rest cause others → others ≡ []
 no_end slots [] cause others last r = absurd r
@@ -112,13 +113,13 @@ pub refuses : {C : Type 0} (slots : ℕ) (places : List Place) (make : Makes C p
 refuses slots [] make cause ws few right' r = absurd r
 refuses slots (place ∷ rest) make cause ws few right' (inl r) =
     not_bound (at slots place ws) (λ (p : Meaning place × List Word). read slots rest (make p.0) p.1) cause
-        (refused_again slots place cause ws few (right place rest right').bound r)
+    (refused_again slots place cause ws few (right place rest right').bound r)
 refuses slots (place ∷ rest) make cause ws few right' (inr s) =
     let r = right place rest right' in
     let last : takes_rest place ≡ true → s.2 ≡ [] = λ takes. no_end slots rest cause s.2 (r.last takes) s.5 in
     let here : at slots place ws ≡ Ok (s.0, s.2) = ap (at slots place) s.3 ∙ read_again slots place s.0 s.1 s.2 few r.bound last s.4 in
     bound (at slots place ws) (λ (p : Meaning place × List Word). read slots rest (make p.0) p.1) (s.0, s.2) here
-        ∙ refuses slots rest (make s.0) cause s.2 few r.others s.5
+    ∙ refuses slots rest (make s.0) cause s.2 few r.others s.5
 
 -- the same of a form
 fitted : {C : Type 0} (b : Bool) (r : Result C Cause) (command : C) → cond b r (Err WrongWords) ≡ Ok command → (b ≡ true) × (r ≡ Ok command)

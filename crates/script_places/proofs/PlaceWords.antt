@@ -1,5 +1,5 @@
 -- What a place makes of its words is what they write, and it refuses what writes nothing.
-use Rattle.std.proofs.Common.{◌≡◌, ℕ, ◌+◌, ◌^◌, ◌<◌, ◌≤◌, Bool, true, false, ◌&&◌, cond, List, [], ◌∷◌, ◌++◌, length, map, Option, Some, None, Result, Ok, Err, refl, sym, ap, subst, ◌∙◌, codes, arith}
+use Rattle.std.proofs.Common.{◌≡◌, ℕ, ◌^◌, ◌<◌, ◌≤◌, Bool, true, false, ◌&&◌, cond, List, [], ◌∷◌, ◌++◌, length, map, Option, Some, None, Result, Ok, Err, refl, sym, ap, subst, ◌∙◌, codes, arith}
 use Rattle.std.specs.Prelude.{nat_le, nat_lt, bytes_eq, decimal}
 use Rattle.std.proofs.lemmas.Bool.{and_parts, and_from}
 use Rattle.std.proofs.lemmas.Bool.Decides.{nat_tests}
@@ -25,7 +25,7 @@ use Rattle.script_places.specs.Spelling.{cell_word, FitsCell, column_word, FitsC
 use Rattle.std.specs.List.{AllByRecursion}
 use Rattle.script_places.specs.Grammar.{IsNumber, is_bounded, RefusedAt}
 use Rattle.script_places.proofs.Decimals.{is_decimal, decimal_is}
-use Rattle.script_places.proofs.Cuts.{at_most, is_at_most, same_words, words_same}
+use Rattle.script_places.proofs.Cuts.{at_most, is_at_most, same_words}
 use Rattle.script_places.proofs.CellWords.{cells_are, cells_again, cells_not, cells_refused}
 use Rattle.script_places.proofs.ColumnWords.{column_is, column_again, column_not, column_refused, columns_are, columns_again, columns_not, columns_refused}
 use Rattle.script_places.proofs.TimeWords.{time_is, time_again, time_not, no_time}
@@ -200,8 +200,8 @@ stands slots places.Columns rest ws p few bound last fit e =
     let count = between (length ws) (counted places.Columns rest ws refl fit) in
     let long : length ws ≡ length t.0 = ap length words ∙ length-map t.0 column_word in
     all_words slots places.Columns rest ws t.0 p t.2
-        (words, subst (λ (columns : List NewColumn). AllByRecursion FitsColumn columns) (sym c.1) c.3, subst (λ (columns : List NewColumn). AreNew [] columns) (sym c.1) c.4, omega (arith, count.0, long), omega (arith, count.1, long))
-        (last refl)
+    (words, subst (λ (columns : List NewColumn). AllByRecursion FitsColumn columns) (sym c.1) c.3, subst (λ (columns : List NewColumn). AreNew [] columns) (sym c.1) c.4, omega (arith, count.0, long), omega (arith, count.1, long))
+    (last refl)
 
 -- and words that write something are read as it
 abbrev read_one : (slots : ℕ) (place : Place) → List Word → List Word → Result (Meaning place × List Word) Cause
@@ -265,12 +265,12 @@ fit_again slots places.Cells rest x front others last w fit =
     let e : front ++ others ≡ map cell_word x = ap (λ (vs : List Word). front ++ vs) (last refl) ∙ append-nil front ∙ w.0 in
     let long : length (map cell_word x) ≡ length x = length-map x cell_word in
     ap (fits (places.Cells ∷ rest)) e ∙ counts places.Cells rest (map cell_word x) refl
-        (and_from (nat_le 1 (length (map cell_word x))) (nat_le (length (map cell_word x)) 16) (is_at_most _ _ (omega (arith, w.2, long))) (is_at_most _ _ (omega (arith, w.3, long))))
+    (and_from (nat_le 1 (length (map cell_word x))) (nat_le (length (map cell_word x)) 16) (is_at_most _ _ (omega (arith, w.2, long))) (is_at_most _ _ (omega (arith, w.3, long))))
 fit_again slots places.Columns rest x front others last w fit =
     let e : front ++ others ≡ map column_word x = ap (λ (vs : List Word). front ++ vs) (last refl) ∙ append-nil front ∙ w.0 in
     let long : length (map column_word x) ≡ length x = length-map x column_word in
     ap (fits (places.Columns ∷ rest)) e ∙ counts places.Columns rest (map column_word x) refl
-        (and_from (nat_le 1 (length (map column_word x))) (nat_le (length (map column_word x)) 16) (is_at_most _ _ (omega (arith, w.3, long))) (is_at_most _ _ (omega (arith, w.4, long))))
+    (and_from (nat_le 1 (length (map column_word x))) (nat_le (length (map column_word x)) 16) (is_at_most _ _ (omega (arith, w.3, long))) (is_at_most _ _ (omega (arith, w.4, long))))
 
 -- what is refused has no meaning, for that cause
 pub refused_there : (slots : ℕ) (place : Place) (rest : List Place) (cause : Cause) (ws : List Word) → slots < 2 ^ 64 → is_bounded place ≡ true

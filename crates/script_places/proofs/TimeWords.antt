@@ -1,5 +1,5 @@
 -- What a time's words are read as.
-use Rattle.std.proofs.Common.{◌≡◌, ℕ, suc, ◌+◌, ◌-◌, ◌^◌, ◌<◌, ◌≤◌, Bool, true, false, cond, List, [], ◌∷◌, ◌++◌, length, get_or, take, Option, Some, None, refl, sym, ap, subst, ◌∙◌, codes, arith}
+use Rattle.std.proofs.Common.{◌≡◌, ℕ, ◌-◌, ◌^◌, ◌<◌, ◌≤◌, Bool, true, false, cond, List, [], ◌∷◌, ◌++◌, length, get_or, take, Option, Some, None, refl, sym, ap, subst, ◌∙◌, codes, arith}
 use Rattle.std.specs.Prelude.{◌==◌, bytes_eq, decimal, option_map}
 use Rattle.std.proofs.lemmas.Bool.{eqb-true}
 use Rattle.std.proofs.lemmas.Bool.Decides.{nat_tests}
@@ -65,20 +65,19 @@ front_whole (c ∷ cs) b long last =
     let byte : get_or (c ∷ cs) (length cs) 0 ≡ b = sym (ap (λ (n : ℕ). get_or (c ∷ cs) n 0) count) ∙ last in
     split ∙ ap (λ (d : ℕ). take (length cs) (c ∷ cs) ++ (d ∷ [])) byte ∙ ap (λ (n : ℕ). take n (c ∷ cs) ++ (b ∷ [])) (sym count)
 
-
 minutes_are : (w : List ℕ) (time : Time) → w ≡ front w ++ (109 ∷ []) → option_map MinusMinutes (number_of most_back (front w)) ≡ Some time → Is (codes "minus" ∷ w ∷ []) time
 minutes_are w time whole e =
     let m = mapped MinusMinutes (number_of most_back (front w)) time e in
     let d = is_decimal most_back m.0 (front w) (omega arith) m.1 in
     subst (λ (t : Time). Is (codes "minus" ∷ w ∷ []) t) m.2
-        (ap (λ (v : Word). codes "minus" ∷ v ∷ []) (whole ∙ ap (λ (v : Word). v ++ (109 ∷ [])) d.0), d.1)
+    (ap (λ (v : Word). codes "minus" ∷ v ∷ []) (whole ∙ ap (λ (v : Word). v ++ (109 ∷ [])) d.0), d.1)
 
 seconds_are : (w : List ℕ) (time : Time) → w ≡ front w ++ (115 ∷ []) → option_map MinusSeconds (number_of most_back (front w)) ≡ Some time → Is (codes "minus" ∷ w ∷ []) time
 seconds_are w time whole e =
     let m = mapped MinusSeconds (number_of most_back (front w)) time e in
     let d = is_decimal most_back m.0 (front w) (omega arith) m.1 in
     subst (λ (t : Time). Is (codes "minus" ∷ w ∷ []) t) m.2
-        (ap (λ (v : Word). codes "minus" ∷ v ∷ []) (whole ∙ ap (λ (v : Word). v ++ (115 ∷ [])) d.0), d.1)
+    (ap (λ (v : Word). codes "minus" ∷ v ∷ []) (whole ∙ ap (λ (v : Word). v ++ (115 ∷ [])) d.0), d.1)
 
 back_by : (w : List ℕ) (empty minutes seconds : Bool) (time : Time) → (length w == 0) ≡ empty → (last_byte w == 109) ≡ minutes → (last_byte w == 115) ≡ seconds
     → cond empty None (cond minutes (option_map MinusMinutes (number_of most_back (front w))) (cond seconds (option_map MinusSeconds (number_of most_back (front w))) None)) ≡ Some time

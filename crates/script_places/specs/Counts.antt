@@ -1,5 +1,5 @@
 -- How many words a command has, and which of them are fixed.
-use Rattle.std.specs.Prelude.{ℕ, Bool, true, false, ◌&&◌, if◌then◌else◌, nat_le, List, [], ◌∷◌, length, codes, bytes_eq}
+use Rattle.std.specs.Prelude.{Bool, true, false, ◌&&◌, if◌then◌else◌, nat_le, List, [], ◌∷◌, length, codes, bytes_eq}
 use Rattle.script_places.specs.declared.place.Place.{Place}
 use Rattle.script_places.specs.declared.place.Place.TheVariants.{Tablets, Time, Cells, Columns}
 use Rattle.script_places.specs.Words.{Word}

@@ -58,8 +58,8 @@ ColumnsRefused earlier cause [] = ⊥
 ColumnsRefused earlier cause (w ∷ ws) =
     (¬ (IsColumn w) × (cause ≡ BadName))
     ⊎ ((column : NewColumn) × (w ≡ column_word column) × FitsColumn column
-        × (((has_name earlier column.name ≡ true) × (cause ≡ RepeatedColumn))
-            ⊎ ((has_name earlier column.name ≡ false) × ColumnsRefused (earlier ++ (column ∷ [])) cause ws)))
+    × (((has_name earlier column.name ≡ true) × (cause ≡ RepeatedColumn))
+    ⊎ ((has_name earlier column.name ≡ false) × ColumnsRefused (earlier ++ (column ∷ [])) cause ws)))
 
 -- The place has no meaning here, for this cause.
 abbrev pub RefusedAt : ℕ → Place → Cause → List Word → Type 0

@@ -1,0 +1,9 @@
+pub mod Lists
+pub mod Totals
+pub mod Puts
+pub mod Keeps
+pub mod Merges
+pub mod Laws
+pub mod Commits
+pub mod Outs
+pub mod Joined

@@ -7,3 +7,4 @@ pub mod Laws
 pub mod Commits
 pub mod Outs
 pub mod Joined
+pub mod Performs

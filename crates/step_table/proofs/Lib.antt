@@ -8,3 +8,4 @@ pub mod Commits
 pub mod Outs
 pub mod Joined
 pub mod Performs
+pub mod Histories

@@ -121,6 +121,9 @@ module _ {P E D R F : Type 0} (c : Core P E D R F) where
   every_log G [] f = tt
   every_log G (p ∷ ps) f = (every_from G (c.log p) (λ x here. f x (in_merged_second x (history_of c ps) (c.log p) here)), every_log G ps (λ x here. f x (in_merged_first x (history_of c ps) (c.log p) here)))
 
+  pub made_is : (given : List P) (es : List (Entry E R)) → made_since c given (history_of c given ++ es) ≡ es
+  made_is given es = drop_front (history_of c given) es
+
 module _ {P E D R F : Type 0} (c : Core P E D R F) (laws : Lawful c) where
   -- the logs after a step have no entry but those before and the new one
   logs_in : (G : Entry E R → Type 0) (ps : List P) (e : Entry E R) → c.Legal ps → IsStep c ps e → ((x : Entry E R) → In x (history_of c ps) → G x) → G (entry_of c (touched c ps e.event) e.event e.number)
@@ -165,12 +168,9 @@ module _ {P E D R F : Type 0} (c : Core P E D R F) (laws : Lawful c) where
   pub whole_numbered : (ps : List P) (es : List (Entry E R)) → c.Legal ps → IsNumbered 1 (history_of c ps) → IsRight c ps es → IsNumbered 1 (history_of c ps ++ es)
   whole_numbered ps es legal begun right = let count = history_length c ps in numbered_append 1 (suc (logged c ps)) (history_of c ps) es begun (omega arith) (right_numbered c laws ps es legal right)
 
-  pub made_is : (given : List P) (es : List (Entry E R)) → made_since c given (history_of c given ++ es) ≡ es
-  made_is given es = drop_front (history_of c given) es
-
   pub follows : (given : List P) (es : List (Entry E R)) → c.Legal given → IsNumbered 1 (history_of c given) → IsRight c given es → Follows c given (history_of c given ++ es)
   follows given es legal begun right =
-    let is = made_is given es in record {
+    let is = made_is c given es in record {
       begins = ap (λ xs. history_of c given ++ xs) (sym is);
       right = subst (IsRight c given) (sym is) right;
       numbered = whole_numbered given es legal begun right;

@@ -9,3 +9,4 @@ pub mod Outs
 pub mod Joined
 pub mod Performs
 pub mod Histories
+pub mod Told

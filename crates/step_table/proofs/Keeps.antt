@@ -219,7 +219,7 @@ module _ {X : Type 0} where
   pub first_and_rest : (xs ys : List (ℕ × X)) (x : ℕ × X) → xs ≡ x ∷ ys → xs ≡ x ∷ Rattle.atomic_table.specs.Table.rest xs
   first_and_rest xs ys x e = e ∙ ap (λ zs. x ∷ zs) (sym (ap Rattle.atomic_table.specs.Table.rest e))
 
-abbrev in_some : {X : Type 0} → X → Option X → X
+abbrev pub in_some : {X : Type 0} → X → Option X → X
 in_some d None = d
 in_some d (Some x) = x
 

@@ -10,3 +10,4 @@ pub mod Joined
 pub mod Performs
 pub mod Histories
 pub mod Told
+pub mod Closes

@@ -1,5 +1,5 @@
 //! The parts on their way into the table's slots and out of them.
-ghost use Rattle.std.specs.Prelude.{◌≡◌, ◌+◌, ◌<◌, ◌≤◌, ◌^◌, [], ◌∷◌, map, length, replicate, None, Some, IfOk, IfErr, vec_capacity, ℕ};
+ghost use Rattle.std.specs.Prelude.{◌≡◌, ◌+◌, ◌<◌, ◌≤◌, ◌^◌, [], ◌∷◌, map, length, replicate, None, Some, IfOk, IfErr, vec_capacity, ℕ, List};
 ghost use Rattle.std.specs.Mem.Slots.{slots_items, slots_len, IsFull};
 ghost use mathlib.Core.Option.{some};
 ghost use lib.ListN.{get_elem?};
@@ -57,7 +57,7 @@ pub(crate) fn fill<P: Drop>(parts: &mut Vec<P>, slots: &mut Vec<Option<P>>)
 /// Moves the parts out of the slots of a table that was not made, into the room.
 pub(crate) fn empty<P: Drop>(slots: Vec<Option<P>>, room: &mut Vec<P>)
     requires room { (room.old.items ≡ []) × (length slots.items ≤ vec_capacity room.old) }
-    requires full { (k : ℕ) → k < length slots.items → (p : P) × (get_elem? slots.items k ≡ some (Some p)) }
+    requires full { (parts : List P) × (slots.items ≡ map Some parts) }
     ensures parts { map Some room.new.items ≡ slots.items }
 {
     for slot in slots {

@@ -87,7 +87,11 @@ impl<M: Machine> StepTable<M> {
         let mut room = parts.into_vec();
         fill(&mut room, &mut slots);
         match Table::new(alloc, words.as_slice(), slots, &about) {
-            Ok((table, seat)) => Ok((StepTable { table, room }, Pass { seat, shares: 4096 })),
+            Ok((table, seat)) => {
+                let pass = Pass { seat, shares: 4096 };
+                let made = StepTable { table, room };
+                Ok((made, pass))
+            }
             Err(Refused { slots }) => {
                 empty(slots, &mut room);
                 Err(Records::from_vec(room))

@@ -16,5 +16,5 @@ loop-part-preserved g c =
     let r = inv.room in record {
       slots = (p ∷ inv.slots.0,
         inv.slots.1 ∙ (ap (λ xs. xs ++ inv.slots.0) items ∙ append_assoc c.pop.new.self.items (p ∷ []) inv.slots.0),
-        rw (n, inv.slots.2, long) (set_end (length c.pop.new.self.items) None (Some p) (map (λ (q : g.row.M-Part.Denot). Some q) inv.slots.0)));
+        rw (n, inv.slots.2, long) (set_end (length c.pop.new.self.items) None (Some p) (map (λ (q : g.row.P.Denot). Some q) inv.slots.0)));
       room = omega arith }

@@ -149,8 +149,8 @@ impl<M: Machine> StepTable<M> {
         ensures entries_at_their_numbers { Every (IsAtNumber pass.new.seen) pass.new.made }
     {
         let alloc = *self.room.allocator();
-        let seat = &mut pass.seat;
-        try_perform_as::<M, Brand>(alloc, &self.table.shared, seat, event)
+        let place = &mut pass.seat;
+        try_perform_as::<M, Brand>(alloc, &self.table.shared, place, event)
     }
 
     /// Gives one share to a new pass. A pass takes no memory here, so that the answer is always Ok.

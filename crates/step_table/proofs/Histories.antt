@@ -1,16 +1,15 @@
 -- The logs of all parts, merged, are the one history.
-use Rattle.std.proofs.Common.{◌≡◌, ℕ, zero, suc, ◌+◌, ◌≤◌, ◌<◌, ◌⊎◌, List, [], ◌∷◌, ◌++◌, map, drop, set, refl, sym, ap, subst, arith, length, ◌∙◌, inl, inr, append-nil, append_assoc}
-use Rattle.std.specs.Prelude.{Some, None, cond, nat_eq, nat_lt, slice_get}
-use mathlib.Core.Option as maybe
+use Rattle.std.proofs.Common.{◌≡◌, ℕ, zero, suc, ◌+◌, ◌≤◌, ◌<◌, List, [], ◌∷◌, ◌++◌, map, drop, set, refl, sym, ap, subst, arith, length, ◌∙◌, inl, inr, append-nil, append_assoc}
+use Rattle.std.specs.Prelude.{Some, cond, nat_eq, nat_lt, slice_get}
 use lib.ListN.{get_elem?}
 use Rattle.step_table.specs.declared.known.Entry.{Entry}
 use Rattle.step_table.specs.Lists.{total, Every, In, Above, Rising, pick, put, found_also}
 use Rattle.step_table.specs.Machines.{Core, Lawful, leaves, next, touched, IsRight, IsStep, logged, entry_of, noted}
-use Rattle.step_table.specs.Histories.{inserted, merged, IsNumbered, IsAtNumber, history_of, made_since, left_by, Follows}
-use Rattle.step_table.proofs.Lists.{either_way, every_map, every_in, every_snoc, every_append, in_longer, in_behind, in_last}
+use Rattle.step_table.specs.Histories.{inserted, merged, IsNumbered, IsAtNumber, history_of, made_since, Follows}
+use Rattle.step_table.proofs.Lists.{either_way, every_snoc, in_longer, in_last}
 use Rattle.step_table.proofs.Totals.{total_append}
 use Rattle.step_table.proofs.Merges.{total_merged, every_merged, rising_merged, counted, counted_once, numbers, same_list}
-use Rattle.step_table.proofs.Laws.{next_weighs, next_logged, right_numbered, right_legal}
+use Rattle.step_table.proofs.Laws.{next_weighs, right_numbered, right_legal}
 
 drop_front : {A : Type 0} (xs ys : List A) → drop (length xs) (xs ++ ys) ≡ ys
 drop_front [] ys = refl
@@ -103,6 +102,7 @@ module _ {P E D R F : Type 0} (c : Core P E D R F) where
       length_total : {A : Type 0} (xs : List A) → length xs ≡ total (λ x. 1) xs
       length_total [] = refl
       length_total (x ∷ xs) = let t = length_total xs in omega arith
+
       sums : (ps : List P) → total (λ (p : P). total (λ x. 1) (c.log p)) ps ≡ logged c ps
       sums [] = refl
       sums (p ∷ ps) = let t = length_total (c.log p) in let r = sums ps in omega arith
@@ -110,8 +110,8 @@ module _ {P E D R F : Type 0} (c : Core P E D R F) where
   rising_history : (ps : List P) → ((n : ℕ) → counted n (history_of c ps) ≤ 1) → Rising (numbers (history_of c ps))
   rising_history [] once = tt
   rising_history (p ∷ ps) once =
-    let split : (n : ℕ) → counted n (history_of c ps) + counted n (c.log p) ≤ 1 = λ n. let o = once n in let t : counted n (merged (history_of c ps) (c.log p)) ≡ counted n (history_of c ps) + counted n (c.log p) = total_merged (λ (e : Entry E R). cond {A = ℕ} (nat_eq n e.number) 1 0) (history_of c ps) (c.log p) in omega arith in
-    rising_merged (history_of c ps) (c.log p) (rising_history ps (λ n. let s = split n in omega arith)) split
+      let split : (n : ℕ) → counted n (history_of c ps) + counted n (c.log p) ≤ 1 = λ n. let o = once n in let t : counted n (merged (history_of c ps) (c.log p)) ≡ counted n (history_of c ps) + counted n (c.log p) = total_merged (λ (e : Entry E R). cond {A = ℕ} (nat_eq n e.number) 1 0) (history_of c ps) (c.log p) in omega arith in
+      rising_merged (history_of c ps) (c.log p) (rising_history ps (λ n. let s = split n in omega arith)) split
 
   every_history : (G : Entry E R → Type 0) (ps : List P) → Every (λ p. Every G (c.log p)) ps → Every G (history_of c ps)
   every_history G [] all = tt
@@ -129,40 +129,40 @@ module _ {P E D R F : Type 0} (c : Core P E D R F) (laws : Lawful c) where
   logs_in : (G : Entry E R → Type 0) (ps : List P) (e : Entry E R) → c.Legal ps → IsStep c ps e → ((x : Entry E R) → In x (history_of c ps) → G x) → G (entry_of c (touched c ps e.event) e.event e.number)
       → Every (λ p. Every G (c.log p)) (next c ps e.event e.number)
   logs_in G ps e legal one old new =
-    let held = touched c ps e.event in
-    let all : Every (λ p. Every G (c.log p)) ps = every_log c G ps old in
-    let fits = laws.fits ps e.event legal one.0 in
-    let here : Every (Every G) (map c.log held) = every_to_map (Every G) c.log held (every_pick (λ p. Every G (c.log p)) (c.touches e.event) ps all) in
-    let after : Every (λ p. Every G (c.log p)) (c.after held e.event e.number) = every_of_map (Every G) c.log (c.after held e.event e.number)
-        (subst (Every (Every G)) (sym (laws.adds held e.event e.number fits one.1)) (every_noted G (entry_of c held e.event e.number) (map c.log held) here new)) in
-    every_put (λ p. Every G (c.log p)) (c.touches e.event) (c.after held e.event e.number) ps all after
+      let held = touched c ps e.event in
+      let all : Every (λ p. Every G (c.log p)) ps = every_log c G ps old in
+      let fits = laws.fits ps e.event legal one.0 in
+      let here : Every (Every G) (map c.log held) = every_to_map (Every G) c.log held (every_pick (λ p. Every G (c.log p)) (c.touches e.event) ps all) in
+      let after : Every (λ p. Every G (c.log p)) (c.after held e.event e.number) = every_of_map (Every G) c.log (c.after held e.event e.number)
+      (subst (Every (Every G)) (sym (laws.adds held e.event e.number fits one.1)) (every_noted G (entry_of c held e.event e.number) (map c.log held) here new)) in
+      every_put (λ p. Every G (c.log p)) (c.touches e.event) (c.after held e.event e.number) ps all after
 
   -- a step puts its entry behind the history
   step_history : (ps : List P) (e : Entry E R) → c.Legal ps → IsNumbered 1 (history_of c ps) → IsStep c ps e → IsNumbered 1 (history_of c ps ++ e ∷ []) → history_of c (next c ps e.event e.number) ≡ history_of c ps ++ e ∷ []
   step_history ps e legal begun one longer =
-    let new = entry_of c (touched c ps e.event) e.event e.number in
-    let same : new ≡ e = ap (λ (r : R). record e { reply = r }) (sym one.2) in
-    let up = numbered_rising 1 (history_of c ps ++ e ∷ []) longer in
-    let counts : (n : ℕ) → counted n (history_of c (next c ps e.event e.number)) ≡ counted n (history_of c ps ++ e ∷ []) = λ n.
-        let h : Entry E R → ℕ = λ x. cond {A = ℕ} (nat_eq n x.number) 1 0 in
-        history_weighs c h (next c ps e.event e.number) ∙ (next_weighs c laws h ps e.event e.number legal one.0 one.1
-          ∙ (let w = history_weighs c h ps in let a = total_append h (history_of c ps) (e ∷ []) in let s : h new ≡ h e = ap h same in omega arith)) in
-    same_list (history_of c (next c ps e.event e.number)) (history_of c ps ++ e ∷ [])
+      let new = entry_of c (touched c ps e.event) e.event e.number in
+      let same : new ≡ e = ap (λ (r : R). record e { reply = r }) (sym one.2) in
+      let up = numbered_rising 1 (history_of c ps ++ e ∷ []) longer in
+      let counts : (n : ℕ) → counted n (history_of c (next c ps e.event e.number)) ≡ counted n (history_of c ps ++ e ∷ []) = λ n.
+      let h : Entry E R → ℕ = λ x. cond {A = ℕ} (nat_eq n x.number) 1 0 in
+      history_weighs c h (next c ps e.event e.number) ∙ (next_weighs c laws h ps e.event e.number legal one.0 one.1
+      ∙ (let w = history_weighs c h ps in let a = total_append h (history_of c ps) (e ∷ []) in let s : h new ≡ h e = ap h same in omega arith)) in
+      same_list (history_of c (next c ps e.event e.number)) (history_of c ps ++ e ∷ [])
       (rising_history c (next c ps e.event e.number) (λ n. let k = counts n in let o = counted_once n (history_of c ps ++ e ∷ []) up in omega arith))
       up
       (every_history c (λ x. In x (history_of c ps ++ e ∷ [])) (next c ps e.event e.number)
-        (logs_in (λ x. In x (history_of c ps ++ e ∷ [])) ps e legal one (λ x here. in_longer x (history_of c ps) (e ∷ []) here) (subst (λ x. In x (history_of c ps ++ e ∷ [])) (sym same) (in_last (history_of c ps) e))))
+      (logs_in (λ x. In x (history_of c ps ++ e ∷ [])) ps e legal one (λ x here. in_longer x (history_of c ps) (e ∷ []) here) (subst (λ x. In x (history_of c ps ++ e ∷ [])) (sym same) (in_last (history_of c ps) e))))
       counts
 
   -- the logs of the parts that a right history leaves are that history
   pub history_leaves : (ps : List P) (es : List (Entry E R)) → c.Legal ps → IsNumbered 1 (history_of c ps) → IsRight c ps es → history_of c (leaves c ps es) ≡ history_of c ps ++ es
   history_leaves ps [] legal begun right = sym (append-nil (history_of c ps))
   history_leaves ps (e ∷ es) legal begun right =
-    let one = right.0 in
-    let count = history_length c ps in
-    let longer : IsNumbered 1 (history_of c ps ++ e ∷ []) = numbered_append 1 (suc (logged c ps)) (history_of c ps) (e ∷ []) begun (omega arith) (one.3, tt) in
-    let step = step_history ps e legal begun one longer in
-    history_leaves (next c ps e.event e.number) es (laws.stays ps e.event e.number legal one.0 one.1 one.3) (subst (IsNumbered 1) (sym step) longer) right.1
+      let one = right.0 in
+      let count = history_length c ps in
+      let longer : IsNumbered 1 (history_of c ps ++ e ∷ []) = numbered_append 1 (suc (logged c ps)) (history_of c ps) (e ∷ []) begun (omega arith) (one.3, tt) in
+      let step = step_history ps e legal begun one longer in
+      history_leaves (next c ps e.event e.number) es (laws.stays ps e.event e.number legal one.0 one.1 one.3) (subst (IsNumbered 1) (sym step) longer) right.1
       ∙ (ap (λ xs. xs ++ es) step ∙ append_assoc (history_of c ps) (e ∷ []) es)
 
   pub whole_numbered : (ps : List P) (es : List (Entry E R)) → c.Legal ps → IsNumbered 1 (history_of c ps) → IsRight c ps es → IsNumbered 1 (history_of c ps ++ es)
@@ -170,9 +170,10 @@ module _ {P E D R F : Type 0} (c : Core P E D R F) (laws : Lawful c) where
 
   pub follows : (given : List P) (es : List (Entry E R)) → c.Legal given → IsNumbered 1 (history_of c given) → IsRight c given es → Follows c given (history_of c given ++ es)
   follows given es legal begun right =
-    let is = made_is c given es in record {
-      begins = ap (λ xs. history_of c given ++ xs) (sym is);
-      right = subst (IsRight c given) (sym is) right;
-      numbered = whole_numbered given es legal begun right;
-      legal = subst (λ xs. c.Legal (leaves c given xs)) (sym is) (right_legal c laws given es legal right);
-      logs = ap (λ xs. history_of c (leaves c given xs)) is ∙ history_leaves given es legal begun right }
+      let is = made_is c given es in record {
+        begins = ap (λ xs. history_of c given ++ xs) (sym is);
+        right = subst (IsRight c given) (sym is) right;
+        numbered = whole_numbered given es legal begun right;
+        legal = subst (λ xs. c.Legal (leaves c given xs)) (sym is) (right_legal c laws given es legal right);
+        logs = ap (λ xs. history_of c (leaves c given xs)) is ∙ history_leaves given es legal begun right;
+      }

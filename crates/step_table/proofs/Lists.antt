@@ -1,5 +1,5 @@
 -- Lemmas on lists: facts of each item, items that stand in a list, prefixes, rising numbers.
-use Rattle.std.proofs.Common.{◌≡◌, ℕ, zero, suc, ◌+◌, ◌≤◌, ◌<◌, ◌≢◌, ◌⊎◌, List, [], ◌∷◌, ◌++◌, map, refl, sym, ap, subst, arith, length, ◌∙◌, inl, inr, append-nil, append_assoc, Bool, true, false}
+use Rattle.std.proofs.Common.{◌≡◌, ℕ, suc, ◌+◌, ◌≤◌, ◌<◌, List, [], ◌∷◌, ◌++◌, map, refl, sym, ap, subst, arith, length, ◌∙◌, inl, inr, append-nil, append_assoc, Bool, true, false}
 use mathlib.Core.List.{IsPrefix}
 use Rattle.step_table.specs.Lists.{fst, snd, Every, In, Above, Rising, pair}
 use Rattle.step_table.specs.Plays.{but_last}
@@ -83,6 +83,7 @@ module _ {A : Type 0} where
       head : A → List A → A
       head d [] = d
       head d (w ∷ ws) = w
+
       tail : List A → List A
       tail [] = []
       tail (w ∷ ws) = ws

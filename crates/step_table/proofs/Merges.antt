@@ -1,5 +1,5 @@
 -- Lists of entries, merged by number.
-use Rattle.std.proofs.Common.{eq-eqb, ne_eqb, ⊎_elim, ◌≡◌, ℕ, zero, suc, ◌+◌, ◌≤◌, ◌<◌, ◌≢◌, ◌⊎◌, List, [], ◌∷◌, ◌++◌, map, refl, sym, ap, subst, arith, length, ◌∙◌, inl, inr, append-nil}
+use Rattle.std.proofs.Common.{eq-eqb, ne_eqb, ⊎_elim, ◌≡◌, ℕ, ◌+◌, ◌≤◌, ◌<◌, List, [], ◌∷◌, map, refl, sym, ap, arith, length, ◌∙◌, append-nil}
 use Rattle.std.specs.Prelude.{cond, nat_lt, nat_eq}
 use Rattle.std.proofs.lemmas.Bool.Decides.{nat_tests}
 use mathlib.Core.List.{IsPrefix}
@@ -35,20 +35,20 @@ module _ {E R : Type 0} where
   above_insert : (m : ℕ) (e : Entry E R) (xs : List (Entry E R)) → m < e.number → Above m (numbers xs) → counted e.number xs ≡ 0 → Above m (numbers (inserted e xs))
   above_insert m e [] lt up none' = (lt, tt)
   above_insert m e (x ∷ xs) lt up none' = either_way (nat_lt e.number x.number)
-    (λ t. rw t (lt, (grind (arith, nat_tests), up.1)))
-    (λ t. rw t (up.0, above_insert x.number e xs (grind (arith, nat_tests)) up.1 (grind (arith, nat_tests))))
+      (λ t. rw t (lt, (grind (arith, nat_tests), up.1)))
+      (λ t. rw t (up.0, above_insert x.number e xs (grind (arith, nat_tests)) up.1 (grind (arith, nat_tests))))
 
   pub rising_insert : (e : Entry E R) (xs : List (Entry E R)) → Rising (numbers xs) → counted e.number xs ≡ 0 → Rising (numbers (inserted e xs))
   rising_insert e [] up none' = tt
   rising_insert e (x ∷ xs) up none' = either_way (nat_lt e.number x.number)
-    (λ t. rw t (grind (arith, nat_tests), up))
-    (λ t. rw t (above_insert x.number e xs (grind (arith, nat_tests)) up (grind (arith, nat_tests))))
+      (λ t. rw t (grind (arith, nat_tests), up))
+      (λ t. rw t (above_insert x.number e xs (grind (arith, nat_tests)) up (grind (arith, nat_tests))))
 
   pub rising_merged : (xs ys : List (Entry E R)) → Rising (numbers xs) → ((n : ℕ) → counted n xs + counted n ys ≤ 1) → Rising (numbers (merged xs ys))
   rising_merged xs [] up once = up
   rising_merged xs (y ∷ ys) up once = rising_merged (inserted y xs) ys
-    (rising_insert y xs up (let o = once y.number in grind (arith, nat_tests)))
-    (λ n. let o = once n in let i : counted n (inserted y xs) ≡ cond {A = ℕ} (nat_eq n y.number) 1 0 + counted n xs = total_insert (λ (e : Entry E R). cond {A = ℕ} (nat_eq n e.number) 1 0) y xs in omega arith)
+      (rising_insert y xs up (let o = once y.number in grind (arith, nat_tests)))
+      (λ n. let o = once n in let i : counted n (inserted y xs) ≡ cond {A = ℕ} (nat_eq n y.number) 1 0 + counted n xs = total_insert (λ (e : Entry E R). cond {A = ℕ} (nat_eq n e.number) 1 0) y xs in omega arith)
 
   above_counted : (m : ℕ) (n : ℕ) (xs : List (Entry E R)) → Above m (numbers xs) → n ≤ m → counted n xs ≡ 0
   above_counted m n [] up le = refl
@@ -85,12 +85,12 @@ module _ {E R : Type 0} where
   same_list [] (y ∷ ys) up up' all same = absurd (let s : 0 ≡ cond {A = ℕ} (nat_eq y.number y.number) 1 0 + counted y.number ys = same y.number in let t : cond {A = ℕ} (nat_eq y.number y.number) 1 0 ≡ 1 = ap (λ b. cond {A = ℕ} b 1 0) (eq-eqb y.number y.number refl) in omega arith)
   same_list (x ∷ xs) [] up up' all same = absurd all.0
   same_list (x ∷ xs) (y ∷ ys) up up' all same =
-    let mine : Every (λ (e : Entry E R). x.number < e.number) xs = above_all x.number xs up in
-    let theirs : Every (λ (e : Entry E R). y.number < e.number) ys = above_all y.number ys up' in
-    let heads : y ≡ x = ⊎_elim (λ (e : y ≡ x). e) (λ (here : In x ys).
-        let lt : y.number < x.number = every_get (λ (e : Entry E R). y.number < e.number) ys theirs x here in
-        let none_mine = none_below y.number xs (every_map (λ (e : Entry E R). x.number < e.number) (λ (e : Entry E R). y.number < e.number) (λ e more. omega arith) xs mine) in
-        absurd (let s = same y.number in let t : cond {A = ℕ} (nat_eq y.number y.number) 1 0 ≡ 1 = ap (λ b. cond {A = ℕ} b 1 0) (eq-eqb y.number y.number refl) in let u : cond {A = ℕ} (nat_eq y.number x.number) 1 0 ≡ 0 = ap (λ b. cond {A = ℕ} b 1 0) (ne_eqb y.number x.number (λ q. omega arith)) in omega arith)) all.0 in
-    let rest' : Every (λ e. In e ys) xs = every_in (λ e. In e (y ∷ ys)) (λ e. In e ys) xs (λ e here inside. ⊎_elim (λ (q : y ≡ e). absurd (let lt : x.number < e.number = every_get (λ (z : Entry E R). x.number < z.number) xs mine e here in let a : y.number ≡ e.number = ap (λ (z : Entry E R). z.number) q in let b : y.number ≡ x.number = ap (λ (z : Entry E R). z.number) heads in omega arith)) (λ (h : In e ys). h) inside) all.1 in
-    let counts : (n : ℕ) → counted n xs ≡ counted n ys = λ n. let s = same n in let b : cond {A = ℕ} (nat_eq n y.number) 1 0 ≡ cond {A = ℕ} (nat_eq n x.number) 1 0 = ap (λ (z : Entry E R). cond {A = ℕ} (nat_eq n z.number) 1 0) heads in omega arith in
-    ap (λ z. z ∷ xs) (sym heads) ∙ ap (λ zs. y ∷ zs) (same_list xs ys (rising_rest x.number (numbers xs) up) (rising_rest y.number (numbers ys) up') rest' counts)
+      let mine : Every (λ (e : Entry E R). x.number < e.number) xs = above_all x.number xs up in
+      let theirs : Every (λ (e : Entry E R). y.number < e.number) ys = above_all y.number ys up' in
+      let heads : y ≡ x = ⊎_elim (λ (e : y ≡ x). e) (λ (here : In x ys).
+      let lt : y.number < x.number = every_get (λ (e : Entry E R). y.number < e.number) ys theirs x here in
+      let none_mine = none_below y.number xs (every_map (λ (e : Entry E R). x.number < e.number) (λ (e : Entry E R). y.number < e.number) (λ e more. omega arith) xs mine) in
+      absurd (let s = same y.number in let t : cond {A = ℕ} (nat_eq y.number y.number) 1 0 ≡ 1 = ap (λ b. cond {A = ℕ} b 1 0) (eq-eqb y.number y.number refl) in let u : cond {A = ℕ} (nat_eq y.number x.number) 1 0 ≡ 0 = ap (λ b. cond {A = ℕ} b 1 0) (ne_eqb y.number x.number (λ q. omega arith)) in omega arith)) all.0 in
+      let rest' : Every (λ e. In e ys) xs = every_in (λ e. In e (y ∷ ys)) (λ e. In e ys) xs (λ e here inside. ⊎_elim (λ (q : y ≡ e). absurd (let lt : x.number < e.number = every_get (λ (z : Entry E R). x.number < z.number) xs mine e here in let a : y.number ≡ e.number = ap (λ (z : Entry E R). z.number) q in let b : y.number ≡ x.number = ap (λ (z : Entry E R). z.number) heads in omega arith)) (λ (h : In e ys). h) inside) all.1 in
+      let counts : (n : ℕ) → counted n xs ≡ counted n ys = λ n. let s = same n in let b : cond {A = ℕ} (nat_eq n y.number) 1 0 ≡ cond {A = ℕ} (nat_eq n x.number) 1 0 = ap (λ (z : Entry E R). cond {A = ℕ} (nat_eq n z.number) 1 0) heads in omega arith in
+      ap (λ z. z ∷ xs) (sym heads) ∙ ap (λ zs. y ∷ zs) (same_list xs ys (rising_rest x.number (numbers xs) up) (rising_rest y.number (numbers ys) up') rest' counts)

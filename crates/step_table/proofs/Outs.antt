@@ -1,8 +1,7 @@
 -- What a seat has while it takes its slots and gives them back.
-use Rattle.std.proofs.Common.{◌≡◌, ℕ, zero, suc, ◌+◌, ◌≤◌, ◌<◌, ◌≢◌, ◌⊎◌, List, [], ◌∷◌, ◌++◌, map, refl, sym, ap, subst, arith, length, ◌∙◌, inl, inr, take, ne_eqb, add-one, slice_index, append-nil}
+use Rattle.std.proofs.Common.{◌≡◌, ℕ, zero, suc, ◌+◌, ◌<◌, List, [], ◌∷◌, ◌++◌, map, refl, sym, ap, subst, arith, length, ◌∙◌, inl, inr, take, ne_eqb, add-one, slice_index}
 use Rattle.std.proofs.lemmas.List.{map-append}
-use Rattle.std.specs.Prelude.{Option, Some, None, cond, nat_eq}
-use mathlib.Core.List.{IsPrefix}
+use Rattle.std.specs.Prelude.{Option, None, cond, nat_eq}
 use Rattle.atomic_table.specs.Table.{rest}
 use Rattle.step_table.specs.declared.known.Known.{Known}
 use Rattle.step_table.specs.Lists.{fst, snd, total, Every, In, Rising, Above, pair}
@@ -84,12 +83,20 @@ module _ {P E R : Type 0} where
   pub still_finds : (a m m' : Sat P E R) (k : ℕ) → IsStill a m → m' ≡ (finding m.0 k, m.1) → IsStill a m'
   still_finds a m m' k s e = subst (IsStill a) (sym e) (record {
     alike = alike_then a.0 m.0 (finding m.0 k) s.alike (record { given = refl; seen = refl; mine = refl; olds = refl; shares = refl; splits = refl });
-    doing = s.doing; held = s.held; carried = s.carried; findings = prefix_then a.0.findings m.0.findings (m.0.findings ++ k ∷ []) s.findings (k ∷ [], refl) })
+    doing = s.doing;
+    held = s.held;
+    carried = s.carried;
+    findings = prefix_then a.0.findings m.0.findings (m.0.findings ++ k ∷ []) s.findings (k ∷ [], refl);
+  })
 
   pub still_takes : (event : Option E) (a m m' : Sat P E R) (k : ℕ) (q : P) → IsStill a m → m' ≡ (holding m.0 event k q, (k, None) ∷ m.1) → HasTaken event k q a m'
   still_takes event a m m' k q s e = subst (HasTaken event k q a) (sym e) (record {
     alike = alike_then a.0 m.0 (holding m.0 event k q) s.alike (record { given = refl; seen = refl; mine = refl; olds = refl; shares = refl; splits = refl });
-    doing = refl; held = ap (λ xs. xs ++ (k, q) ∷ []) s.held; carried = ap (λ xs. (k, None) ∷ xs) s.carried; findings = s.findings })
+    doing = refl;
+    held = ap (λ xs. xs ++ (k, q) ∷ []) s.held;
+    carried = ap (λ xs. (k, None) ∷ xs) s.carried;
+    findings = s.findings;
+  })
 
   pub back_refl : (m : Sat P E R) → IsBack m m
   back_refl m = record { alike = alike_refl m.0; findings = refl }
@@ -118,7 +125,9 @@ module _ {P E D R F : Type 0} (c : Core P E D R F) where
     busy = inr taken.doing;
     out = record {
       shown = taken.held ∙ (ap (λ xs. xs ++ (k, c.meaning p) ∷ []) is.out.shown ∙ sym (map-append (λ (x : ℕ × P). (x.0, c.meaning x.1)) held ((k, p) ∷ [])));
-      carried = taken.carried ∙ (ap (λ xs. (k, None) ∷ xs) is.out.carried ∙ (sym (backwards_snoc (slots_of held) k []) ∙ ap (λ ks. backwards ks []) (sym (map-append fst held ((k, p) ∷ []))))) } }
+      carried = taken.carried ∙ (ap (λ xs. (k, None) ∷ xs) is.out.carried ∙ (sym (backwards_snoc (slots_of held) k []) ∙ ap (λ ks. backwards ks []) (sym (map-append fst held ((k, p) ∷ [])))));
+    };
+  }
 
   -- the slot that comes next is not held yet
   pub not_yet : (event : Option E) (m : Sat P E R) (held : List (ℕ × P)) (k : ℕ) → IsOut c event m held → Rising (slots_of held ++ k ∷ []) → times k m.0.held ≡ 0
@@ -127,11 +136,12 @@ module _ {P E D R F : Type 0} (c : Core P E D R F) where
   pub out_last : (m : Sat P E R) (held : List (ℕ × P)) (k : ℕ) (p : P) → HasOut c m (held ++ (k, p) ∷ [])
       → (m.0.held ≡ but_last m.0.held ++ (k, c.meaning p) ∷ []) × (m.1 ≡ (k, None) ∷ rest m.1)
   out_last m held k p out =
-    let shown : m.0.held ≡ meant c held ++ (k, c.meaning p) ∷ [] = out.shown ∙ map-append (λ (x : ℕ × P). (x.0, c.meaning x.1)) held ((k, p) ∷ []) in
-    let init : but_last m.0.held ≡ meant c held = ap but_last shown ∙ but_last_snoc (meant c held) (k, c.meaning p) in
-    (shown ∙ ap (λ xs. xs ++ (k, c.meaning p) ∷ []) (sym init), first_and_rest m.1 (backwards (slots_of held) []) (k, None) (out.carried ∙ (ap (λ ks. backwards ks []) (map-append fst held ((k, p) ∷ [])) ∙ backwards_snoc (slots_of held) k [])))
+      let shown : m.0.held ≡ meant c held ++ (k, c.meaning p) ∷ [] = out.shown ∙ map-append (λ (x : ℕ × P). (x.0, c.meaning x.1)) held ((k, p) ∷ []) in
+      let init : but_last m.0.held ≡ meant c held = ap but_last shown ∙ but_last_snoc (meant c held) (k, c.meaning p) in
+      (shown ∙ ap (λ xs. xs ++ (k, c.meaning p) ∷ []) (sym init), first_and_rest m.1 (backwards (slots_of held) []) (k, None) (out.carried ∙ (ap (λ ks. backwards ks []) (map-append fst held ((k, p) ∷ [])) ∙ backwards_snoc (slots_of held) k [])))
 
   pub out_less : (m m' : Sat P E R) (held : List (ℕ × P)) (k : ℕ) (p : P) → HasOut c m (held ++ (k, p) ∷ []) → m' ≡ (released m.0, rest m.1) → HasOut c m' held
   out_less m m' held k p out e = subst (λ n. HasOut c n held) (sym e) (record {
     shown = ap but_last (out.shown ∙ map-append (λ (x : ℕ × P). (x.0, c.meaning x.1)) held ((k, p) ∷ [])) ∙ but_last_snoc (meant c held) (k, c.meaning p);
-    carried = ap rest (out.carried ∙ (ap (λ ks. backwards ks []) (map-append fst held ((k, p) ∷ [])) ∙ backwards_snoc (slots_of held) k [])) })
+    carried = ap rest (out.carried ∙ (ap (λ ks. backwards ks []) (map-append fst held ((k, p) ∷ [])) ∙ backwards_snoc (slots_of held) k []));
+  })

@@ -1,13 +1,12 @@
 -- Parts that are put back into their slots.
-use Rattle.std.proofs.Common.{◌≡◌, ℕ, zero, suc, ◌+◌, ◌≤◌, ◌<◌, ◌≢◌, ◌⊎◌, List, [], ◌∷◌, ◌++◌, set, map, refl, sym, ap, subst, arith, length, inl, inr, ◌∙◌, append-nil, append_assoc, eq-eqb}
+use Rattle.std.proofs.Common.{◌≡◌, ℕ, zero, suc, ◌+◌, ◌<◌, List, [], ◌∷◌, ◌++◌, set, map, refl, sym, ap, arith, length, inl, inr, ◌∙◌, eq-eqb}
 use Rattle.std.proofs.lemmas.List.{length-set}
-use Rattle.std.specs.Prelude.{Option, Some, None, cond, nat_eq}
-use mathlib.Core.Option.{some, none, some-ne-none, some-injective}
-use mathlib.Core.List.{IsPrefix}
+use Rattle.std.specs.Prelude.{cond, nat_eq}
+use mathlib.Core.Option.{some}
 use lib.ListN.{get_elem?}
-use Rattle.atomic_table.proofs.Lists.{set_here, set_else, set_again}
+use Rattle.atomic_table.proofs.Lists.{set_here, set_else}
 use Rattle.step_table.specs.declared.known.Entry.{Entry}
-use Rattle.step_table.specs.Lists.{fst, snd, total, Every, In, Rising, pick, put, pair, found_also}
+use Rattle.step_table.specs.Lists.{fst, total, Every, In, Rising, pick, put, pair}
 use Rattle.step_table.specs.Machines.{Core, leaves, next, IsRight, IsStep}
 use Rattle.step_table.specs.Rule.{times}
 use Rattle.step_table.proofs.Lists.{above_not_in, rising_rest}
@@ -57,11 +56,11 @@ module _ {P : Type 0} where
   put_total f [] (q ∷ qs) ps up lt len = absurd (omega arith)
   put_total f (k ∷ ks) [] ps up lt len = absurd (omega arith)
   put_total f (k ∷ ks) (q ∷ qs) ps up lt len =
-    let at = found_at ps k lt.0 in
-    let h : total f (put ks qs (set ps k q)) + total f (pick ks (set ps k q)) ≡ total f (set ps k q) + total f qs = put_total f ks qs (set ps k q) (rising_rest k ks up) (set_lt ps k q ks lt.1) (omega arith) in
-    let same : total f (pick ks (set ps k q)) ≡ total f (pick ks ps) = ap (total f) (pick_set ks ps k q (above_not_in k ks up)) in
-    let here : total f (set ps k q) + f at.0 ≡ total f ps + f q = total_set f ps k at.0 q at.1 in
-    rw at.1 (omega arith)
+      let at = found_at ps k lt.0 in
+      let h : total f (put ks qs (set ps k q)) + total f (pick ks (set ps k q)) ≡ total f (set ps k q) + total f qs = put_total f ks qs (set ps k q) (rising_rest k ks up) (set_lt ps k q ks lt.1) (omega arith) in
+      let same : total f (pick ks (set ps k q)) ≡ total f (pick ks ps) = ap (total f) (pick_set ks ps k q (above_not_in k ks up)) in
+      let here : total f (set ps k q) + f at.0 ≡ total f ps + f q = total_set f ps k at.0 q at.1 in
+      rw at.1 (omega arith)
 
   pub times_fst : (k : ℕ) (held : List (ℕ × P)) → times k held ≡ total (λ x. cond (nat_eq k x) 1 0) (map fst held)
   times_fst k [] = refl

@@ -1,19 +1,18 @@
 -- What a seat knows, as the clauses on a pass say it.
-use Rattle.std.proofs.Common.{◌≡◌, ℕ, suc, ◌<◌, ◌⊎◌, List, [], ◌∷◌, ◌++◌, refl, sym, ap, subst, ◌∙◌, append_assoc, inl, inr, Result, Ok, Err}
-use Rattle.std.specs.Prelude.{Some, None, IfOk, IfErr, OnErr}
+use Rattle.std.proofs.Common.{◌≡◌, ◌⊎◌, [], ◌∷◌, ◌++◌, sym, ap, subst, ◌∙◌, append_assoc, Result, Ok, Err}
+use Rattle.std.specs.Prelude.{Some, IfOk, IfErr, OnErr}
 use mathlib.Core.List.{IsPrefix}
 use Rattle.atomic_table.specs.Seated.{TableId}
-use Rattle.step_table.specs.declared.known.Entry.{Entry}
 use Rattle.step_table.specs.declared.known.Known.{Known}
 use Rattle.step_table.specs.declared.refused.TryRefused.{TryRefused}
 use Rattle.step_table.specs.declared.refused.TryRefused.TheVariants.{Taken, Step}
-use Rattle.step_table.specs.Lists.{Every, In}
+use Rattle.step_table.specs.Lists.{Every}
 use Rattle.step_table.specs.Machines.{Core, Lawful, leaves, touched}
-use Rattle.step_table.specs.Histories.{history_of, left_by, Follows, IsAtNumber}
+use Rattle.step_table.specs.Histories.{history_of, Follows, IsAtNumber}
 use Rattle.step_table.specs.Rule.{IsAt}
 use Rattle.step_table.specs.Plays.{Knows}
 use Rattle.step_table.specs.Seats.{Performed, Declined}
-use Rattle.step_table.specs.Passes.{PassView, told, EntryAdded, Refuses}
+use Rattle.step_table.specs.Passes.{told, EntryAdded, Refuses}
 use Rattle.step_table.specs.Tries.{TryDeclined, FoundBy, OthersShare, TouchedBy, TryRefuses}
 use Rattle.step_table.proofs.Lists.{every_map, prefix_behind, prefix_self}
 use Rattle.step_table.proofs.Histories.{follows, whole_numbered, at_number, made_is}
@@ -24,17 +23,21 @@ module _ {P E D R F : Type 0} (c : Core P E D R F) where
 
   pub knows_numbers : (laws : Lawful c) (v : Known P E R) → Knows c v → Every (IsAtNumber (history_of c v.given ++ v.seen)) v.mine
   knows_numbers laws v k = every_map (IsAt v.seen) (IsAtNumber (history_of c v.given ++ v.seen))
-    (λ e here. at_number (history_of c v.given ++ v.seen) e (whole_numbered c laws v.given v.seen k.start k.begun k.right) (Rattle.step_table.proofs.Lists.in_behind e (history_of c v.given) v.seen here)) v.mine k.mine
+      (λ e here. at_number (history_of c v.given ++ v.seen) e (whole_numbered c laws v.given v.seen k.start k.begun k.right) (Rattle.step_table.proofs.Lists.in_behind e (history_of c v.given) v.seen here)) v.mine k.mine
 
   pub seen_later : (v w : Known P E R) → w.given ≡ v.given → IsPrefix v.seen w.seen → IsPrefix (history_of c v.given ++ v.seen) (history_of c w.given ++ w.seen)
   seen_later v w given later = subst (λ g. IsPrefix (history_of c v.given ++ v.seen) (history_of c g ++ w.seen)) (sym given) (prefix_behind (history_of c v.given) v.seen w.seen later)
 
   pub added : (e : E) (r : R) (id next_id : TableId) (v w : Known P E R) → w.given ≡ v.given → Performed c e r v w → EntryAdded e r (told c id v) (told c next_id w)
   added e r id next_id v w given p = record {
-    entry = p.entry; event = p.event; reply = p.reply; made = p.made;
+    entry = p.entry;
+    event = p.event;
+    reply = p.reply;
+    made = p.made;
     before = history_of c v.given ++ p.before;
     seen = ap (λ es. history_of c w.given ++ es) p.seen ∙ (ap (λ g. history_of c g ++ (p.before ++ p.entry ∷ [])) given ∙ sym (append_assoc (history_of c v.given) p.before (p.entry ∷ [])));
-    later = prefix_behind (history_of c v.given) v.seen p.before p.later }
+    later = prefix_behind (history_of c v.given) v.seen p.before p.later;
+  }
 
   pub refuses : (e : E) (f : F) (id : TableId) (v w : Known P E R) → Declined c e f v w → Refuses c e f (told c id w)
   refuses e f id v w d = subst (λ es. (f ≡ c.no_memory) ⊎ (c.refusal (touched c (leaves c w.given es) e) e ≡ Some f)) (sym (made_is c w.given w.seen)) d.cause

@@ -1,5 +1,5 @@
 -- How a view is cut in two, and how two become one.
-use Rattle.std.specs.Prelude.{ℕ, ◌+◌, ◌-◌, List, [], ◌∷◌, ◌++◌, length, cond, nat_lt, None}
+use Rattle.std.specs.Prelude.{◌+◌, ◌-◌, List, [], ◌∷◌, ◌++◌, length, cond, nat_lt, None}
 use Rattle.step_table.specs.declared.known.Known.{Known}
 use Rattle.step_table.specs.Histories.{merged}
 
@@ -20,4 +20,5 @@ module _ {P E R : Type 0} where
     olds = (v.given, v.seen) ∷ (w.given, w.seen) ∷ (v.olds ++ w.olds);
     findings = v.findings ++ w.findings;
     shares = v.shares + w.shares;
-    splits = v.splits + w.splits }
+    splits = v.splits + w.splits;
+  }

@@ -1,5 +1,5 @@
 -- Words on lists: sums, facts of each item, rising numbers, and the items of some places.
-use Rattle.std.specs.Prelude.{ℕ, zero, suc, ◌≡◌, ◌⊎◌, ◌+◌, ◌<◌, List, [], ◌∷◌, map, slice_set}
+use Rattle.std.specs.Prelude.{ℕ, ◌≡◌, ◌⊎◌, ◌+◌, ◌<◌, List, [], ◌∷◌, slice_set}
 use mathlib.Core.Option.{Option, none, some}
 use lib.ListN.{get_elem?}
 

@@ -1,5 +1,5 @@
 -- What a machine is: its words, what its entries leave of its parts, and its laws.
-use Rattle.std.specs.Prelude.{ℕ, suc, ◌≡◌, ◌⊎◌, ◌+◌, ◌<◌, ◌≤◌, ◌^◌, List, [], ◌∷◌, ◌++◌, map, length, Option, Some, None}
+use Rattle.std.specs.Prelude.{ℕ, suc, ◌≡◌, ◌<◌, ◌≤◌, ◌^◌, List, [], ◌∷◌, ◌++◌, map, length, Option, None}
 use Rattle.step_table.specs.declared.known.Entry.{Entry}
 use Rattle.step_table.specs.Lists.{total, Every, Rising, pick, put}
 

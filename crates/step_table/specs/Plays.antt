@@ -1,5 +1,5 @@
 -- What each step tells the seat that makes it.
-use Rattle.std.specs.Prelude.{ℕ, suc, ◌≡◌, ◌+◌, ◌≤◌, ◌<◌, ◌⊎◌, ◌^◌, List, [], ◌∷◌, ◌++◌, map, length, Option, Some, None}
+use Rattle.std.specs.Prelude.{ℕ, suc, ◌≡◌, ◌≤◌, ◌<◌, ◌⊎◌, ◌^◌, List, [], ◌∷◌, ◌++◌, map, length, Option, Some, None}
 use mathlib.Core.List.{IsPrefix}
 use Rattle.atomic_table.specs.Table.{Step, Me, rest}
 use Rattle.step_table.specs.declared.known.Entry.{Entry}
@@ -74,7 +74,8 @@ module _ {P E D R F : Type 0} (c : Core P E D R F) where
   entered v since e n = record v {
     seen = since ++ entry_of c (map snd v.held) e n ∷ [];
     mine = v.mine ++ entry_of c (map snd v.held) e n ∷ [];
-    held = pair (c.touches e) (c.after (map snd v.held) e n) }
+    held = pair (c.touches e) (c.after (map snd v.held) e n);
+  }
 
   -- the announced event was committed: its entry stands behind all that was seen, and the held slots show the parts after it
   abbrev pub committed : Option E → At P → Sat P E R → ℕ → Sat P E R → Type 0

@@ -1,5 +1,5 @@
 -- What a call knows of its seat while it takes locks, performs an event and gives the locks back.
-use Rattle.std.specs.Prelude.{ℕ, ◌≡◌, ◌⊎◌, ◌+◌, List, [], ◌∷◌, ◌++◌, map, Option, Some, None}
+use Rattle.std.specs.Prelude.{ℕ, ◌≡◌, ◌⊎◌, List, [], ◌∷◌, ◌++◌, map, Option, Some, None}
 use mathlib.Core.List.{IsPrefix}
 use Rattle.step_table.specs.declared.known.Entry.{Entry}
 use Rattle.step_table.specs.declared.known.Known.{Known}

@@ -1,5 +1,5 @@
 -- Why a try performed no event.
-use Rattle.std.specs.Prelude.{ℕ, ◌≡◌, ◌<◌, List, [], ◌∷◌, ◌++◌}
+use Rattle.std.specs.Prelude.{◌≡◌, ◌<◌, [], ◌∷◌, ◌++◌}
 use Rattle.step_table.specs.declared.refused.TryRefused.{TryRefused}
 use Rattle.step_table.specs.declared.refused.TryRefused.TheVariants.{Taken, Step}
 use Rattle.step_table.specs.Lists.{In}

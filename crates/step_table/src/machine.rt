@@ -44,7 +44,10 @@ pub trait Machine {
 
     /// Takes all the memory that the event needs, and leaves what the parts mean as it was. Any
     /// refusal but want of memory is the machine's own.
-    fn prepare(held: &mut Held<Self::Part>, event: &Self::Event) -> Result<Self::Ready, Self::Refused>
+    fn prepare(
+        held: &mut Held<Self::Part>,
+        event: &Self::Event,
+    ) -> Result<Self::Ready, Self::Refused>
         requires may { (count : ℕ) × core.May count event.now }
         requires slots { slots_of held.old ≡ core.touches event.now }
         requires fits { core.Fits (map core.meaning (parts_of held.old)) event.now }
@@ -74,8 +77,11 @@ pub struct MachineRule<M> {
     of: PhantomData<M>,
 }
 
-impl<M: Machine> TableRule<Option<M::Part>, Known<M::Part, M::Event, M::Reply>, Snapshot<Records<M::Part>>>
-    for MachineRule<M> {
+impl<M: Machine> TableRule<
+    Option<M::Part>,
+    Known<M::Part, M::Event, M::Reply>,
+    Snapshot<Records<M::Part>>,
+> for MachineRule<M> {
     ghost use Rattle.std.specs.Prelude.{map};
     ghost use Rattle.step_table.specs.Rule.{Stands, opener};
 

@@ -57,11 +57,7 @@ pub(crate) fn take_all<M: Machine, N: Announced<M::Event>, R: Wait>(
 }
 
 /// Moves all parts back, the last first, and gives their locks back.
-pub(crate) fn give_all<M: Machine>(
-    top: &Top<M>,
-    seat: &mut Place<M>,
-    mut held: Vec<(u32, M::Part)>,
-)
+pub(crate) fn give_all<M: Machine>(top: &Top<M>, seat: &mut Place<M>, mut held: Vec<(u32, M::Part)>)
     requires table { (seat.old.table_id ≡ top.now.table_id) × (top.now.table_id.words ≡ suc top.now.table_id.slots) }
     requires slots { Every (λ k. k < top.now.table_id.slots) (slots_of held.items) }
     requires view { (seat.old.me.0.shares ≢ 0) × HasOut M.core seat.old.me held.items }

@@ -67,9 +67,7 @@ impl<M: Machine> Model for Pass<M> {
 impl<M: Machine> StepTable<M> {
     /// A table over these parts, and the pass with all 4,096 shares. For want of memory the parts
     /// come back.
-    pub fn new(
-        parts: Records<M::Part>,
-    ) -> Result<(StepTable<M>, Pass<M>), Records<M::Part>>
+    pub fn new(parts: Records<M::Part>) -> Result<(StepTable<M>, Pass<M>), Records<M::Part>>
         requires legal { M.core.Legal (map M.core.meaning parts) }
         requires numbered { IsNumbered 1 (history_of M.core (map M.core.meaning parts)) }
         ensures over_the_parts { IfOk result (λ made. made.0.given ≡ map M.core.meaning parts) }

@@ -1,4 +1,4 @@
-use Rattle.std.proofs.Common.{ℕ, ◌≡◌, ◌<◌, ◌++◌, ◌∷◌, [], map, sym, ap, subst, ◌∙◌}
+use Rattle.std.proofs.Common.{ℕ, ◌≡◌, ◌<◌, ◌++◌, ◌∷◌, [], sym, ap, subst, ◌∙◌}
 use Rattle.std.proofs.lemmas.List.{map-append}
 use Rattle.step_table.specs.Lists.{fst, Every}
 use Rattle.step_table.specs.Helds.{slots_of}
@@ -38,4 +38,5 @@ loop-slot-preserved g c =
       id = e.table.1 ∙ inv.id;
       back = back_then _ _ _ inv.back (back_less _ _ e.view);
       out = out_less core c.loop-slot.seat.me _ left c.in-Some.slot c.in-Some.part (subst (HasOut core c.loop-slot.seat.me) items inv.out) e.view;
-      below = (every_init (λ k. k < c.args.top.now.table_id.slots) (slots_of left) c.in-Some.slot (subst (Every (λ k. k < c.args.top.now.table_id.slots)) slots inv.below)).0 }
+      below = (every_init (λ k. k < c.args.top.now.table_id.slots) (slots_of left) c.in-Some.slot (subst (Every (λ k. k < c.args.top.now.table_id.slots)) slots inv.below)).0;
+    }

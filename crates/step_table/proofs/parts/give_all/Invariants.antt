@@ -10,7 +10,8 @@ invariant-loop-slot g l = record {
   id : l.seat.id ≡ l.fn.seat.id;
   back : IsBack l.fn.seat.me l.seat.me;
   out : HasOut g.M.Machine.core l.seat.me l.held.items;
-  below : Every (λ k. k < l.top.table_id.slots) (slots_of l.held.items) }
+  below : Every (λ k. k < l.top.table_id.slots) (slots_of l.held.items);
+}
 
 abbrev pub decreases-loop-slot : goal.decreases-loop-slot
 decreases-loop-slot g l = length l.held.items

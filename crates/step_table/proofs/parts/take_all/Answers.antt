@@ -1,4 +1,4 @@
-use Rattle.std.proofs.Common.{◌≡◌, ◌+◌, ◌++◌, ◌∷◌, [], ℕ, List, length, map, take, sym, ap, subst, refl, ◌∙◌, arith, slice_index, length-append}
+use Rattle.std.proofs.Common.{◌≡◌, ◌+◌, ◌++◌, ◌∷◌, [], length, take, sym, ap, subst, refl, ◌∙◌, arith, slice_index, length-append}
 use Rattle.std.proofs.lemmas.List.{map-append}
 use Rattle.step_table.specs.Lists.{fst, Rising}
 use Rattle.step_table.specs.Helds.{slots_of}
@@ -44,4 +44,5 @@ loop-slot-preserved g c =
       out = subst (IsOut core event c.wait_part-part.new.seat.me) (sym items) (out_next core event c.loop-slot.seat.me _ old k p inv.out taken);
       slots = ap slots_of items ∙ (map-append fst old ((k, p) ∷ []) ∙ (ap (λ ks. ks ++ k ∷ []) inv.slots ∙ sym (take_next slots i k lt refl)));
       count = ap length items ∙ (length-append old ((k, p) ∷ []) ∙ ap (λ n. n + 1) inv.count);
-      room = (let h = c.push.ensures.capacity in let r = inv.room in omega arith) }
+      room = (let h = c.push.ensures.capacity in let r = inv.room in omega arith);
+    }

@@ -13,4 +13,5 @@ invariant-loop-slot g l = record {
   out : IsOut g.M.Machine.core g.N.Announced.event l.seat.me l.held.items;
   slots : slots_of l.held.items ≡ take l.slot-index l.slots;
   count : length l.held.items ≡ l.slot-index;
-  room : length l.slots ≤ vec_capacity l.held }
+  room : length l.slots ≤ vec_capacity l.held;
+}

@@ -6,4 +6,5 @@ abbrev pub invariant-loop : goal.invariant-loop
 invariant-loop g l = record {
   table : l.seat.table_id ≡ l.fn.seat.table_id;
   id : l.seat.id ≡ l.fn.seat.id;
-  still : IsStill l.fn.seat.me l.seat.me }
+  still : IsStill l.fn.seat.me l.seat.me;
+}

@@ -1,8 +1,7 @@
-use Rattle.std.proofs.Common.{rules, ◌≡◌, ℕ, suc, ◌+◌, ◌<◌, List, map, length, refl, sym, ap, subst, ◌∙◌, arith, add-one, Some, None, ◌⊎◌}
+use Rattle.std.proofs.Common.{◌≡◌, suc, ◌+◌, ◌<◌, map, length, refl, sym, ap, subst, ◌∙◌, arith, add-one, Some, None, ◌⊎◌}
 use Rattle.std.proofs.lemmas.List.{length-map}
 use Rattle.step_table.specs.Lists.{fst, Every}
 use Rattle.step_table.specs.Helds.{slots_of, parts_of}
-use Rattle.step_table.specs.Seats.{HasOut}
 use Rattle.step_table.proofs.Lists.{rising_room}
 use Rattle.step_table.proofs.Performs.{after_look, still_out, declined, commit_out, performed}
 use Rattle.step_table.proofs.perform.finish.Goals as goal
@@ -81,10 +80,11 @@ give_all-requires-in-Ok-clause-view g c =
     let e = c.args.event.now in
     let slots_now : slots_of c.into_items-in-Ok.result.items ≡ slots_of items = ap slots_of c.into_items-in-Ok.ensures.same ∙ (c.apply-reply.ensures.slots ∙ slots) in
     let parts_now : map core.meaning (parts_of c.into_items-in-Ok.result.items) ≡ core.after (map core.meaning (parts_of items)) e (suc n) =
-        ap (λ xs. map core.meaning (parts_of xs)) c.into_items-in-Ok.ensures.same ∙ (c.apply-reply.ensures.parts ∙ (ap (λ x. core.after (map core.meaning (parts_of c.prepare.new.held)) x (n + 1)) event
-        ∙ (ap (λ ps. core.after ps e (n + 1)) meaning ∙ ap (core.after (map core.meaning (parts_of items)) e) (add-one n)))) in
-    ((λ z. v.0 (sym a.shares ∙ (sym (ap (λ m. m.0.shares) (c.commit-number.ensures.told e refl).2) ∙ z))),
-      commit_out core e n 0 items c.into_items-in-Ok.result.items _ _ _ a c.commit-number.ensures.told slots_now parts_now)
+    ap (λ xs. map core.meaning (parts_of xs)) c.into_items-in-Ok.ensures.same ∙ (c.apply-reply.ensures.parts ∙ (ap (λ x. core.after (map core.meaning (parts_of c.prepare.new.held)) x (n + 1)) event
+    ∙ (ap (λ ps. core.after ps e (n + 1)) meaning ∙ ap (core.after (map core.meaning (parts_of items)) e) (add-one n)))) in (
+      (λ z. v.0 (sym a.shares ∙ (sym (ap (λ m. m.0.shares) (c.commit-number.ensures.told e refl).2) ∙ z))),
+      commit_out core e n 0 items c.into_items-in-Ok.result.items _ _ _ a c.commit-number.ensures.told slots_now parts_now,
+    )
 
 pub returns-in-Err-clause-err : goal.returns-in-Err-clause-err
 returns-in-Err-clause-err g c =
@@ -103,5 +103,5 @@ returns-in-Ok-clause-ok g c =
     let e = c.args.event.now in
     let n = c.commit-number.result in
     let reply : c.apply-reply.result ≡ core.reply (map core.meaning (parts_of items)) e (suc n) =
-        c.apply-reply.ensures.reply ∙ (ap (λ x. core.reply (map core.meaning (parts_of c.prepare.new.held)) x (n + 1)) event ∙ (ap (λ ps. core.reply ps e (n + 1)) meaning ∙ ap (core.reply (map core.meaning (parts_of items)) e) (add-one n))) in
+    c.apply-reply.ensures.reply ∙ (ap (λ x. core.reply (map core.meaning (parts_of c.prepare.new.held)) x (n + 1)) event ∙ (ap (λ ps. core.reply ps e (n + 1)) meaning ∙ ap (core.reply (map core.meaning (parts_of items)) e) (add-one n))) in
     performed core e c.apply-reply.result n 0 items c.args.seat.now.me _ _ _ a c.commit-number.ensures.told c.give_all-in-Ok.ensures.back.0 reply

@@ -1,4 +1,4 @@
-use Rattle.std.proofs.Common.{◌≡◌, ◌+◌, ◌++◌, ◌∷◌, [], ℕ, List, map, length, Some, None, Option, refl, sym, ap, subst, ◌∙◌, arith, append_assoc, length-append}
+use Rattle.std.proofs.Common.{◌≡◌, ◌++◌, ◌∷◌, [], List, map, length, Some, Option, refl, sym, ap, subst, ◌∙◌, arith, append_assoc, length-append}
 use Rattle.std.proofs.lemmas.List.{map-append}
 use Rattle.std.specs.Option.{IsSome}
 use Rattle.std.specs.Vec.Iter.{into_iter_items}
@@ -34,9 +34,9 @@ loop-slot-preserved g c =
     let items : c.push.new.self.items ≡ old ++ p ∷ [] = rw c.unwrap-in-loop-slot.ensures at c.push.ensures.items in
     let here : c.in-Some.slot ≡ Some p = c.unwrap.ensures in
     let whole : map (λ (q : g.row.P.Denot). Some q) c.push.new.self.items ++ rest ≡ c.args.slots.items =
-        ap (λ xs. map (λ (q : g.row.P.Denot). Some q) xs ++ rest) items ∙ (ap (λ xs. xs ++ rest) (map-append (λ (q : g.row.P.Denot). Some q) old (p ∷ []))
-        ∙ (append_assoc (map (λ (q : g.row.P.Denot). Some q) old) (Some p ∷ []) rest ∙ (ap (λ x. map (λ (q : g.row.P.Denot). Some q) old ++ x ∷ rest) (sym here)
-        ∙ (ap (λ xs. map (λ (q : g.row.P.Denot). Some q) old ++ xs) (sym steps) ∙ inv.3)))) in
+    ap (λ xs. map (λ (q : g.row.P.Denot). Some q) xs ++ rest) items ∙ (ap (λ xs. xs ++ rest) (map-append (λ (q : g.row.P.Denot). Some q) old (p ∷ []))
+    ∙ (append_assoc (map (λ (q : g.row.P.Denot). Some q) old) (Some p ∷ []) rest ∙ (ap (λ x. map (λ (q : g.row.P.Denot). Some q) old ++ x ∷ rest) (sym here)
+    ∙ (ap (λ xs. map (λ (q : g.row.P.Denot). Some q) old ++ xs) (sym steps) ∙ inv.3)))) in
     let long = length-append old (p ∷ []) in
     let count : length c.push.new.self.items ≡ length (old ++ p ∷ []) = ap length items in
     let stepped : length (into_iter_items c.loop-slot.slot-iterator) ≡ length (c.in-Some.slot ∷ rest) = ap length steps in

@@ -1,4 +1,4 @@
-use Rattle.std.proofs.Common.{rules, ◌≡◌, ◌++◌, ◌∷◌, [], ◌≤◌, ◌+◌, ℕ, zero, suc, List, map, length, replicate, set, Some, None, Option, refl, sym, ap, ◌∙◌, arith, append_assoc, length-append, add-one}
+use Rattle.std.proofs.Common.{rules, ◌≡◌, ◌++◌, ◌∷◌, [], ℕ, zero, suc, List, map, length, replicate, set, Some, None, refl, ap, ◌∙◌, arith, append_assoc, length-append, add-one}
 use Rattle.step_table.proofs.rows.fill.Goals as goal
 
 set_end : {A : Type 0} (n : ℕ) (a b : A) (ys : List A) → set (replicate (suc n) a ++ ys) n b ≡ replicate n a ++ b ∷ ys
@@ -14,7 +14,10 @@ loop-part-preserved g c =
     let long : length c.loop-part.parts.items ≡ suc (length c.pop.new.self.items) = ap length items ∙ (length-append c.pop.new.self.items (p ∷ []) ∙ add-one _) in
     let h = c.pop.ensures.capacity in
     let r = inv.room in record {
-      slots = (p ∷ inv.slots.0,
+      slots = (
+        p ∷ inv.slots.0,
         inv.slots.1 ∙ (ap (λ xs. xs ++ inv.slots.0) items ∙ append_assoc c.pop.new.self.items (p ∷ []) inv.slots.0),
-        rw (n, inv.slots.2, long) (set_end (length c.pop.new.self.items) None (Some p) (map (λ (q : g.row.P.Denot). Some q) inv.slots.0)));
-      room = omega arith }
+        rw (n, inv.slots.2, long) (set_end (length c.pop.new.self.items) None (Some p) (map (λ (q : g.row.P.Denot). Some q) inv.slots.0)),
+      );
+      room = omega arith;
+    }

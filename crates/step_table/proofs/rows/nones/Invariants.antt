@@ -5,4 +5,5 @@ use Rattle.step_table.proofs.rows.nones.Given as goal
 abbrev pub invariant-loop-i : goal.invariant-loop-i
 invariant-loop-i g l = record {
   slots : l.slots.items ≡ replicate l._i None;
-  room : l.count ≤ vec_capacity l.slots }
+  room : l.count ≤ vec_capacity l.slots;
+}

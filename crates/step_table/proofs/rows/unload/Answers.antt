@@ -1,4 +1,4 @@
-use Rattle.std.proofs.Common.{rules, ◌≡◌, ◌≢◌, ◌++◌, ◌∷◌, [], ◌≤◌, ◌<◌, ◌+◌, ℕ, zero, suc, List, map, length, take, set, get_or, Some, None, Option, true, false, refl, sym, ap, subst, ◌∙◌, arith, add-one}
+use Rattle.std.proofs.Common.{rules, ◌≡◌, ◌≢◌, ◌++◌, ◌∷◌, [], ◌<◌, ℕ, zero, suc, List, map, length, take, set, get_or, Some, false, refl, sym, ap, subst, ◌∙◌, arith, add-one}
 use Rattle.std.proofs.lemmas.List.{get_or-set_same, get_or-set_other, map-append}
 use Rattle.std.specs.Option.{IsSome}
 use Rattle.std.specs.Mem.Slots.{slots_items, slots_len, slots_filled, slots_counts}
@@ -41,9 +41,10 @@ loop-i-preserved g c =
     let r = inv.room in record {
       full = λ k le below. ap (λ xs. get_or xs k false) filled ∙ (get_or-set_other (slots_filled old) i k false false (λ e. omega arith) ∙ inv.full k (omega arith) (omega arith));
       taken = λ k below. ap (λ xs. get_or xs k false) filled ∙ dite (ℕ_discrete k i)
-        (λ (e : k ≡ i). subst (λ j. get_or (set (slots_filled old) i false) j false ≡ false) (sym e) (get_or-set_same (slots_filled old) i false false within))
-        (λ (ne : k ≢ i). get_or-set_other (slots_filled old) i k false false ne ∙ inv.taken k (omega arith));
+          (λ (e : k ≡ i). subst (λ j. get_or (set (slots_filled old) i false) j false ≡ false) (sym e) (get_or-set_same (slots_filled old) i false false within))
+          (λ (ne : k ≢ i). get_or-set_other (slots_filled old) i k false false ne ∙ inv.taken k (omega arith));
       items = others.0 ∙ inv.items;
       len = same_len ∙ inv.len;
       parts = ap (map (λ (q : g.row.P.Denot). Some q)) items ∙ (map-append (λ (q : g.row.P.Denot). Some q) c.loop-i.room.items (p ∷ []) ∙ (ap (λ xs. xs ++ Some p ∷ []) inv.parts ∙ (sym (take_with (slots_items c.args.closed.slots) i (Some p) at) ∙ ap (λ n. take n (slots_items c.args.closed.slots)) (sym (add-one i)))));
-      room = omega arith }
+      room = omega arith;
+    }

@@ -11,4 +11,5 @@ invariant-loop-i g l = record {
   items : slots_items l.closed.slots ≡ slots_items l.fn.closed.slots;
   len : slots_len l.closed.slots ≡ slots_len l.fn.closed.slots;
   parts : map (λ (p : g.row.P.Denot). Some p) l.room.items ≡ take l.i (slots_items l.fn.closed.slots);
-  room : slots_len l.fn.closed.slots ≤ vec_capacity l.room }
+  room : slots_len l.fn.closed.slots ≤ vec_capacity l.room;
+}

@@ -1,4 +1,4 @@
-use Rattle.std.proofs.Common.{map, subst, sym, ◌%◌, ◌+◌, ◌^◌, Option}
+use Rattle.std.proofs.Common.{map, subst, sym, ◌%◌, ◌+◌, ◌^◌}
 use Rattle.atomic_table.specs.Table.{Allows, step}
 use mathlib.Core.Option.{none}
 use Rattle.step_table.specs.Plays.{committed}
@@ -14,5 +14,5 @@ fetch_add-requires g c =
       c.requires.table.0,
       c.requires.table.1,
       subst (λ ev. Allows (Stands core (map core.meaning top.key.value)) top.table_id.slots seat.id seat.me 0 (λ n. (n + 1) % 2 ^ 64) (committed core ev (step top.table_id.slots 0 1 0 none) seat.me)) (sym c.requires.event.0)
-        (commits core g.met.M.Machine.lawful (map core.meaning top.key.value) top.table_id.slots seat.id c.args.event.now seat.me c.requires.table.2 c.requires.event.1 c.requires.event.2 c.requires.may.1 c.requires.may.0),
+          (commits core g.met.M.Machine.lawful (map core.meaning top.key.value) top.table_id.slots seat.id c.args.event.now seat.me c.requires.table.2 c.requires.event.1 c.requires.event.2 c.requires.may.1 c.requires.may.0),
     )

@@ -19,6 +19,7 @@ returns g c =
     let view : items ≡ c.args.self.now = c.self.view_is in
     let lt : i < length items = subst (λ xs. i < length xs) (sym view) c.requires.within in
     let at : slice_get items i ≡ Some x = slice_get-get_or items i x lt ∙ ap Some (sym c.index_mut.ensures.value) in
-    let found : slice_get (map snd items) i ≡ Some x.1 = slice_get-map snd items i ∙ ap (option_map snd) at in
-    ((refl, λ part. set_part items i x part c.index_mut.ensures.value ∙ ap (λ xs. with_part xs i part) view),
-      record { writes_back = tt; part = ap (λ xs. slice_get (map snd xs) i) (sym view) ∙ found })
+    let found : slice_get (map snd items) i ≡ Some x.1 = slice_get-map snd items i ∙ ap (option_map snd) at in (
+      (refl, λ part. set_part items i x part c.index_mut.ensures.value ∙ ap (λ xs. with_part xs i part) view),
+      record { writes_back = tt; part = ap (λ xs. slice_get (map snd xs) i) (sym view) ∙ found },
+    )

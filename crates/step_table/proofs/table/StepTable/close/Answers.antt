@@ -1,5 +1,5 @@
-use Rattle.std.proofs.Common.{◌≡◌, ◌<◌, map, Some, sym, ap, subst, ◌∙◌, arith}
-use Rattle.std.specs.Mem.Slots.{slots_items, slots_len, slots_counts}
+use Rattle.std.proofs.Common.{map, sym, ap, subst, ◌∙◌, arith}
+use Rattle.std.specs.Mem.Slots.{slots_items, slots_counts}
 use Rattle.step_table.specs.Passes.{TableView}
 use Rattle.step_table.proofs.Closes.{closes, closed, Closed}
 use Rattle.step_table.proofs.table.StepTable.close.Goals as goal
@@ -23,7 +23,7 @@ returns-clause-same_given g c =
     let left = closes core given seat.id seat.me.0 _ slots (ap (λ p. p.shares) c.pass.view_is ∙ c.requires.all_shares) c.pass.invariant.3 c.close_with-closed.ensures.values.2 in
     let home = closed core g.met.M.Machine.lawful given seat.table_id seat.me.0 slots c.unload.new.room.items left c.unload.ensures.parts in
     let here : Closed core c.args.self.given c.args.pass (map core.meaning c.from_vec.result) = subst (λ xs. Closed core c.args.self.given c.args.pass (map core.meaning xs)) (sym c.from_vec.ensures.same)
-      (subst (λ (t : TableView _). Closed core t.given c.args.pass (map core.meaning c.unload.new.room.items)) c.self.view_is (subst (λ p. Closed core given p (map core.meaning c.unload.new.room.items)) c.pass.view_is home)) in
+    (subst (λ (t : TableView _). Closed core t.given c.args.pass (map core.meaning c.unload.new.room.items)) c.self.view_is (subst (λ p. Closed core given p (map core.meaning c.unload.new.room.items)) c.pass.view_is home)) in
     here.same_given
 
 pub returns-clause-every_entry_once : goal.returns-clause-every_entry_once
@@ -35,7 +35,7 @@ returns-clause-every_entry_once g c =
     let left = closes core given seat.id seat.me.0 _ slots (ap (λ p. p.shares) c.pass.view_is ∙ c.requires.all_shares) c.pass.invariant.3 c.close_with-closed.ensures.values.2 in
     let home = closed core g.met.M.Machine.lawful given seat.table_id seat.me.0 slots c.unload.new.room.items left c.unload.ensures.parts in
     let here : Closed core c.args.self.given c.args.pass (map core.meaning c.from_vec.result) = subst (λ xs. Closed core c.args.self.given c.args.pass (map core.meaning xs)) (sym c.from_vec.ensures.same)
-      (subst (λ (t : TableView _). Closed core t.given c.args.pass (map core.meaning c.unload.new.room.items)) c.self.view_is (subst (λ p. Closed core given p (map core.meaning c.unload.new.room.items)) c.pass.view_is home)) in
+    (subst (λ (t : TableView _). Closed core t.given c.args.pass (map core.meaning c.unload.new.room.items)) c.self.view_is (subst (λ p. Closed core given p (map core.meaning c.unload.new.room.items)) c.pass.view_is home)) in
     here.every_entry_once
 
 pub returns-clause-numbered : goal.returns-clause-numbered
@@ -47,7 +47,7 @@ returns-clause-numbered g c =
     let left = closes core given seat.id seat.me.0 _ slots (ap (λ p. p.shares) c.pass.view_is ∙ c.requires.all_shares) c.pass.invariant.3 c.close_with-closed.ensures.values.2 in
     let home = closed core g.met.M.Machine.lawful given seat.table_id seat.me.0 slots c.unload.new.room.items left c.unload.ensures.parts in
     let here : Closed core c.args.self.given c.args.pass (map core.meaning c.from_vec.result) = subst (λ xs. Closed core c.args.self.given c.args.pass (map core.meaning xs)) (sym c.from_vec.ensures.same)
-      (subst (λ (t : TableView _). Closed core t.given c.args.pass (map core.meaning c.unload.new.room.items)) c.self.view_is (subst (λ p. Closed core given p (map core.meaning c.unload.new.room.items)) c.pass.view_is home)) in
+    (subst (λ (t : TableView _). Closed core t.given c.args.pass (map core.meaning c.unload.new.room.items)) c.self.view_is (subst (λ p. Closed core given p (map core.meaning c.unload.new.room.items)) c.pass.view_is home)) in
     here.numbered
 
 pub returns-clause-right_history : goal.returns-clause-right_history
@@ -59,7 +59,7 @@ returns-clause-right_history g c =
     let left = closes core given seat.id seat.me.0 _ slots (ap (λ p. p.shares) c.pass.view_is ∙ c.requires.all_shares) c.pass.invariant.3 c.close_with-closed.ensures.values.2 in
     let home = closed core g.met.M.Machine.lawful given seat.table_id seat.me.0 slots c.unload.new.room.items left c.unload.ensures.parts in
     let here : Closed core c.args.self.given c.args.pass (map core.meaning c.from_vec.result) = subst (λ xs. Closed core c.args.self.given c.args.pass (map core.meaning xs)) (sym c.from_vec.ensures.same)
-      (subst (λ (t : TableView _). Closed core t.given c.args.pass (map core.meaning c.unload.new.room.items)) c.self.view_is (subst (λ p. Closed core given p (map core.meaning c.unload.new.room.items)) c.pass.view_is home)) in
+    (subst (λ (t : TableView _). Closed core t.given c.args.pass (map core.meaning c.unload.new.room.items)) c.self.view_is (subst (λ p. Closed core given p (map core.meaning c.unload.new.room.items)) c.pass.view_is home)) in
     here.right
 
 pub returns-clause-left_by_their_history : goal.returns-clause-left_by_their_history
@@ -71,7 +71,7 @@ returns-clause-left_by_their_history g c =
     let left = closes core given seat.id seat.me.0 _ slots (ap (λ p. p.shares) c.pass.view_is ∙ c.requires.all_shares) c.pass.invariant.3 c.close_with-closed.ensures.values.2 in
     let home = closed core g.met.M.Machine.lawful given seat.table_id seat.me.0 slots c.unload.new.room.items left c.unload.ensures.parts in
     let here : Closed core c.args.self.given c.args.pass (map core.meaning c.from_vec.result) = subst (λ xs. Closed core c.args.self.given c.args.pass (map core.meaning xs)) (sym c.from_vec.ensures.same)
-      (subst (λ (t : TableView _). Closed core t.given c.args.pass (map core.meaning c.unload.new.room.items)) c.self.view_is (subst (λ p. Closed core given p (map core.meaning c.unload.new.room.items)) c.pass.view_is home)) in
+    (subst (λ (t : TableView _). Closed core t.given c.args.pass (map core.meaning c.unload.new.room.items)) c.self.view_is (subst (λ p. Closed core given p (map core.meaning c.unload.new.room.items)) c.pass.view_is home)) in
     here.left
 
 pub returns-clause-legal : goal.returns-clause-legal
@@ -83,7 +83,7 @@ returns-clause-legal g c =
     let left = closes core given seat.id seat.me.0 _ slots (ap (λ p. p.shares) c.pass.view_is ∙ c.requires.all_shares) c.pass.invariant.3 c.close_with-closed.ensures.values.2 in
     let home = closed core g.met.M.Machine.lawful given seat.table_id seat.me.0 slots c.unload.new.room.items left c.unload.ensures.parts in
     let here : Closed core c.args.self.given c.args.pass (map core.meaning c.from_vec.result) = subst (λ xs. Closed core c.args.self.given c.args.pass (map core.meaning xs)) (sym c.from_vec.ensures.same)
-      (subst (λ (t : TableView _). Closed core t.given c.args.pass (map core.meaning c.unload.new.room.items)) c.self.view_is (subst (λ p. Closed core given p (map core.meaning c.unload.new.room.items)) c.pass.view_is home)) in
+    (subst (λ (t : TableView _). Closed core t.given c.args.pass (map core.meaning c.unload.new.room.items)) c.self.view_is (subst (λ p. Closed core given p (map core.meaning c.unload.new.room.items)) c.pass.view_is home)) in
     here.legal
 
 pub returns-clause-seen : goal.returns-clause-seen
@@ -95,5 +95,5 @@ returns-clause-seen g c =
     let left = closes core given seat.id seat.me.0 _ slots (ap (λ p. p.shares) c.pass.view_is ∙ c.requires.all_shares) c.pass.invariant.3 c.close_with-closed.ensures.values.2 in
     let home = closed core g.met.M.Machine.lawful given seat.table_id seat.me.0 slots c.unload.new.room.items left c.unload.ensures.parts in
     let here : Closed core c.args.self.given c.args.pass (map core.meaning c.from_vec.result) = subst (λ xs. Closed core c.args.self.given c.args.pass (map core.meaning xs)) (sym c.from_vec.ensures.same)
-      (subst (λ (t : TableView _). Closed core t.given c.args.pass (map core.meaning c.unload.new.room.items)) c.self.view_is (subst (λ p. Closed core given p (map core.meaning c.unload.new.room.items)) c.pass.view_is home)) in
+    (subst (λ (t : TableView _). Closed core t.given c.args.pass (map core.meaning c.unload.new.room.items)) c.self.view_is (subst (λ p. Closed core given p (map core.meaning c.unload.new.room.items)) c.pass.view_is home)) in
     here.seen

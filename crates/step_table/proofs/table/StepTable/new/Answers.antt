@@ -1,4 +1,4 @@
-use Rattle.std.proofs.Common.{rules, ◌≡◌, ◌<◌, ◌≤◌, ◌∷◌, ◌^◌, [], ℕ, suc, List, map, length, replicate, Some, None, Option, refl, sym, ap, subst, ◌∙◌, arith}
+use Rattle.std.proofs.Common.{◌≡◌, ◌<◌, ◌∷◌, ◌^◌, [], List, map, length, replicate, Some, None, Option, refl, sym, ap, subst, ◌∙◌, arith}
 use Rattle.step_table.specs.Machines.{logged}
 use Rattle.step_table.proofs.Closes.{opens}
 use Rattle.step_table.proofs.Laws.{logged_below}
@@ -17,6 +17,7 @@ same_parts (x ∷ xs) (y ∷ ys) is = ap (λ z. z ∷ xs) (ap (λ zs. in_or x (h
     head_or : {A : Type 0} → A → List A → A
     head_or d [] = d
     head_or d (z ∷ zs) = z
+
     tail_of : {A : Type 0} → List A → List A
     tail_of [] = []
     tail_of (z ∷ zs) = zs
@@ -33,7 +34,7 @@ new-requires g c =
     let about : c.of-about.result.value ≡ parts = c.of-about.ensures in
     let slice = c.as_slice.ensures.same in
     let words : c.as_slice-2.result.now ≡ logged core (map core.meaning parts) ∷ replicate (length parts) 0 =
-        c.as_slice-2.ensures.value ∙ (c.in-Ok.ensures.words ∙ ap (λ xs. logged core (map core.meaning xs) ∷ replicate (length xs) 0) slice) in
+    c.as_slice-2.ensures.value ∙ (c.in-Ok.ensures.words ∙ ap (λ xs. logged core (map core.meaning xs) ∷ replicate (length xs) 0) slice) in
     let slots : c.fill.new.slots.items ≡ map (λ (p : g.row.M-Part.Denot). Some p) parts = c.fill.ensures.slots ∙ ap (map (λ (p : g.row.M-Part.Denot). Some p)) c.into_vec-room.ensures.same in
     rw (about, words, slots) (opens core parts (logged core (map core.meaning parts)) c.requires.legal c.requires.numbered refl)
 

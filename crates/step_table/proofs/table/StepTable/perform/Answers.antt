@@ -1,4 +1,4 @@
-use Rattle.std.proofs.Common.{◌≡◌, subst}
+use Rattle.std.proofs.Common.{subst}
 use Rattle.step_table.specs.Passes.{EntryAdded, told}
 use Rattle.step_table.proofs.Told.{knows_follows, knows_numbers, added, ok_gives}
 use Rattle.step_table.proofs.table.StepTable.perform.Goals as goal

@@ -1,6 +1,6 @@
 -- What makes an entry right: the prelude's table is found, a read of one key gives its one row, and nothing is late where no time
 -- is fixed.
-use Rattle.std.proofs.Common.{◌≡◌, ℕ, Bool, true, false, List, [], ◌∷◌, ◌++◌, Option, Some, None, refl, sym, ap, subst, ◌∙◌, is_some, ◌&&◌, ◌⊎◌, inl, inr, if◌then◌else◌}
+use Rattle.std.proofs.Common.{◌≡◌, ℕ, Bool, true, false, List, [], ◌∷◌, ◌++◌, Some, None, refl, sym, ap, subst, ◌∙◌, is_some, ◌&&◌, ◌⊎◌, inl, inr, if◌then◌else◌}
 use Rattle.std.specs.Str.{bytes_eq}
 use Rattle.std.proofs.lemmas.Bool.{cases_Bool, true≢false}
 use Rattle.std.proofs.lemmas.Slice.Eq.{bytes_eq-Decides}
@@ -9,7 +9,7 @@ use Rattle.row_values.specs.declared.value.Cell.{Cell}
 use Rattle.row_values.specs.Codes.{code_of}
 use Rattle.row_values.specs.Rows.{cut_to}
 use Rattle.model.specs.Store.{in_range, present}
-use Rattle.model.specs.Acts.{At, Act, Look, Read, AskKeys, NamedCell, NamedUpsert, Place, Placed, Rows}
+use Rattle.model.specs.Acts.{At, Act, NamedCell, NamedUpsert, Place, Placed, Rows}
 use Rattle.model.specs.Entries.{Entry}
 use Rattle.model.specs.History.{Right, ReplyRight, replay, journal_of}
 use Rattle.model.specs.Looks.{batch_fault}
@@ -60,7 +60,6 @@ table_found cs n named found = record {
   current = ap is_some found;
 }
 
-
 -- a read of a key at one place is right for all keys where it is for its own
 pub one_row : (changes : List Change) (time : ℕ) (k : List ℕ) (columns : List ℕ) (tablets : ℕ → Tablet) (p : At) (cells : List Cell)
     → of_key k (row k cells ∷ []) ≡ rows_of_places changes time (Some k) columns tablets (p ∷ []) k → (key : List ℕ)
@@ -72,6 +71,7 @@ one_row changes time k columns tablets p cells own key = by (cases_Bool (bytes_e
         (if test && in_range (tablets p.slot).low (tablets p.slot).high (code_of key)
         then present key (cut_to (row_at changes time (tablets p.slot).table key) columns)
         else []) ++ []
+
     by : (bytes_eq k key ≡ true) ⊎ (bytes_eq k key ≡ false) → of_key key (row k cells ∷ []) ≡ rows_of_places changes time (Some k) columns tablets (p ∷ []) key
     by (inl e) =
         subst (λ q. of_key q (row k cells ∷ []) ≡ rows_of_places changes time (Some k) columns tablets (p ∷ []) q) ((bytes_eq-Decides k key).0 e) own
@@ -86,28 +86,38 @@ pub look_right : (slots : ℕ) (run : Run) (key : List ℕ) (cells : List NamedC
     → Right slots run.entries → (newest (asking key cells) run).reply ≡ Placed places version (int_column 1 v ∷ [])
     → namespace_at (journal_of slots run.entries) (newest (asking key cells) run).stamp (N 1) ≡ Some a
     → table_at (journal_of slots run.entries) (newest (asking key cells) run).stamp (T 1)
-        ≡ Some (record { namespace = N 1; name = t; columns = int_column 1 v ∷ [] })
+    ≡ Some (record { namespace = N 1; name = t; columns = int_column 1 v ∷ [] })
     → batch_fault (int_column 1 v ∷ []) (record { key = key; op = NamedUpsert cells } ∷ []) ≡ None
     → NothingLate (journal_of slots run.entries)
     → Right slots (done (asking key cells) run).entries
 unfolding journal_of
 look_right slots run key cells places version right reply named found judged late =
     let n = (newest (asking key cells) run).stamp in
-    let changes = journal_of slots run.entries in
-    (right, (subst (λ r. ReplyRight (asking key cells) r n (replay slots run.entries) changes) (sym reply)
-        (record { found = table_found changes n named found; columns_are = refl; judged = judged }), late))
+    let changes = journal_of slots run.entries in (
+      right,
+      (
+        subst (λ r. ReplyRight (asking key cells) r n (replay slots run.entries) changes) (sym reply)
+            (record { found = table_found changes n named found; columns_are = refl; judged = judged }),
+        late,
+      ),
+    )
 
 -- a read of a key that gives its row
 pub read_right : (slots : ℕ) (run : Run) (p : At) (version : ℕ) (key columns : List ℕ) (cells : List Cell)
     → Right slots run.entries → (newest (reading p version key columns) run).reply ≡ Rows (row key cells ∷ [])
     → of_key key (row key cells ∷ [])
-        ≡ rows_of_places (journal_of slots run.entries) (newest (reading p version key columns) run).stamp (Some key) columns (replay slots run.entries).tablet (p ∷ []) key
+    ≡ rows_of_places (journal_of slots run.entries) (newest (reading p version key columns) run).stamp (Some key) columns (replay slots run.entries).tablet (p ∷ []) key
     → NothingLate (journal_of slots run.entries)
     → Right slots (done (reading p version key columns) run).entries
 unfolding journal_of
 read_right slots run p version key columns cells right reply own late =
     let n = (newest (reading p version key columns) run).stamp in
     let ps = replay slots run.entries in
-    let changes = journal_of slots run.entries in
-    (right, (subst (λ r. ReplyRight (reading p version key columns) r n ps changes) (sym reply)
-        (record { in_order = tt; each = one_row changes n key columns ps.tablet p cells own }), late))
+    let changes = journal_of slots run.entries in (
+      right,
+      (
+        subst (λ r. ReplyRight (reading p version key columns) r n ps changes) (sym reply)
+            (record { in_order = tt; each = one_row changes n key columns ps.tablet p cells own }),
+        late,
+      ),
+    )

@@ -1,26 +1,15 @@
 -- The history of a first write and read is right. It isn't where the read answers another value.
-use Rattle.std.proofs.Common.{◌≡◌, ℕ, pos, arith, Bool, true, false, List, [], ◌∷◌, ◌++◌, Some, None, refl, sym, ap, subst, ◌∙◌, is_some, ◌&&◌, ◌⊎◌, inl, inr, if◌then◌else◌}
-use Rattle.std.specs.Str.{bytes_eq}
-use Rattle.std.proofs.lemmas.Bool.{cases_Bool, true≢false}
-use Rattle.std.proofs.lemmas.Slice.Eq.{bytes_eq-Decides}
+use Rattle.std.proofs.Common.{◌≡◌, List, [], ◌∷◌, None, refl, ap}
 use Rattle.row_values.specs.declared.rows.KeyedRow.{KeyedRow}
-use Rattle.row_values.specs.declared.value.Value.{Value}
-use Rattle.row_values.specs.declared.value.Value.TheVariants.{Int}
-use Rattle.row_values.specs.declared.value.Cell.{Cell}
-use Rattle.row_values.specs.Codes.{code_of}
-use Rattle.row_values.specs.Rows.{cut_to}
-use Rattle.model.specs.Store.{in_range, present}
-use Rattle.model.specs.Acts.{At, Rows, Reply, Refused, UnknownTable}
-use Rattle.model.specs.Journal.{Change, ChangeAct, NamespaceRestored, NamespaceCloned, namespace_at, table_at, row_at}
-use Rattle.model.specs.Right.{NothingLate, is_fixed, TableFound, of_key, rows_of_places}
+use Rattle.model.specs.Acts.{Rows, Reply, Refused, UnknownTable}
 use Rattle.model.specs.Entries.{Entry}
 use Rattle.model.specs.History.{Right, journal_of}
-use Rattle.model.specs.Ids.{Id}
 use Rattle.model_rows.proofs.RightEntries.{none_late, table_found, one_row}
+use Rattle.model_rows.proofs.Numbers.{first_number, none_is_not_one, two_is_not_one}
 use Rattle.model_rows.specs.Computed.{the_book}
 use Rattle.model_rows.specs.FirstRead.{made, written, been_read, namespace_made, table_made, changes}
 use Rattle.model_rows.specs.Runs.{after}
-use Rattle.model_rows.specs.Scripts.{N, T, B, a, t, x, v, early, int_column, kept_v, row, look_for}
+use Rattle.model_rows.specs.Scripts.{B, a, t, x, early, kept_v, row, look_for}
 
 -- the newest entry answers this
 abbrev answered : Reply → List Entry → List Entry
@@ -56,25 +45,6 @@ read_right = (
 
 abbrev answering : List KeyedRow → List Entry
 answering found = answered (Rows found) been_read.entries
-
--- the number in the first cell of the first row
-abbrev number_in : Value → ℕ
-number_in (Int (pos n)) = n
-number_in _ = 0
-
-abbrev first_cell : List Cell → ℕ
-first_cell [] = 0
-first_cell (kept ∷ cells) = number_in kept.value
-
-abbrev first_number : List KeyedRow → ℕ
-first_number [] = 0
-first_number (r ∷ rs) = first_cell r.row.cells
-
-two_is_not_one : ◌≡◌ {A = ℕ} 2 1 → ⊥
-two_is_not_one e = omega arith
-
-none_is_not_one : ◌≡◌ {A = ℕ} 0 1 → ⊥
-none_is_not_one e = omega arith
 
 another_value_is_wrong : Right 64 (answering (row x (kept_v 2) ∷ [])) → ⊥
 unfolding the_book

@@ -1,19 +1,16 @@
 -- The history of a restore, and of one that undoes it, is right.
-use Rattle.std.proofs.Common.{◌≡◌, ℕ, List, [], ◌∷◌, ◌++◌, Some, ◌<◌, refl, arith}
+use Rattle.std.proofs.Common.{◌≡◌, [], ◌∷◌, ◌<◌, refl, arith}
 use Rattle.std.proofs.lemmas.Bool.{leb-true, ltb-true}
 use Rattle.std.proofs.lemmas.Bool.Decides.{nat_tests}
-use Rattle.row_values.specs.declared.value.RowOp.TheVariants.{Upsert}
-use Rattle.model.specs.Acts.{At}
 use Rattle.model.specs.History.{Right, journal_of}
-use Rattle.model.specs.Journal.{Change, NamespaceRestored, RowChanged}
 use Rattle.model.specs.Right.{NothingLate}
 use Rattle.model_rows.proofs.CoordinatedRuns.{coordinated_right}
 use Rattle.model_rows.proofs.RightEntries.{none_late, table_found, look_right, read_right}
 use Rattle.model_rows.specs.Computed.{the_book}
 use Rattle.model_rows.specs.FirstRead.{namespace_made, table_made}
-use Rattle.model_rows.specs.UndoneRestore.{asking, reading, restoring, restored, seen, undoing, undone, been_read, place_one, row_of, two_rows, one_restore, all_changes}
-use Rattle.model_rows.specs.Runs.{Run, after, coordinated, done}
-use Rattle.model_rows.specs.Scripts.{B, N, T, early, get, home, kept_v, put, ready, restore, v_is, x, a, t}
+use Rattle.model_rows.specs.UndoneRestore.{asking, restoring, restored, seen, undoing, undone, been_read, place_one, row_of, two_rows, one_restore, all_changes}
+use Rattle.model_rows.specs.Runs.{done}
+use Rattle.model_rows.specs.Scripts.{N, early, home, kept_v, ready, v_is, x}
 
 -- the journal of it all
 its_journal : journal_of 64 been_read.entries ≡ all_changes
@@ -44,12 +41,19 @@ restoring_right =
     let none = table_made ∷ namespace_made ∷ [] in
     let one = row_of 3 1 ∷ none in
     let late_none = none_late none (refl, (refl, tt)) in
-    let late_one = none_late one (refl, (refl, (refl, tt))) in
-    (((((ready_right, (record { found = table_found none (early 4) refl refl; columns_are = refl; judged = refl }, late_none)),
-    (tt, late_one)),
-    (record { found = table_found one (early 5) refl refl; columns_are = refl; judged = refl }, late_one)),
-    (tt, none_late_in_rows)),
-    (λ free. (leb-true (early 3) (early 3) refl, ltb-true (early 3) (early 6) refl), none_late_in_rows))
+    let late_one = none_late one (refl, (refl, (refl, tt))) in (
+      (
+        (
+          (
+            (ready_right, (record { found = table_found none (early 4) refl refl; columns_are = refl; judged = refl }, late_none)),
+            (tt, late_one),
+          ),
+          (record { found = table_found one (early 5) refl refl; columns_are = refl; judged = refl }, late_one),
+        ),
+        (tt, none_late_in_rows),
+      ),
+      (λ free. (leb-true (early 3) (early 3) refl, ltb-true (early 3) (early 6) refl), none_late_in_rows),
+    )
 
 restored_right : Right 64 restored.entries
 unfolding the_book
@@ -64,9 +68,10 @@ seen_right =
 undoing_right : Right 64 undoing.entries
 unfolding the_book
 undoing_right =
-    let late = none_late_in_all.0 in
-    ((look_right 64 seen x (v_is 3) (home 2).places 2 seen_right refl refl refl refl none_late_in_one, (tt, late)),
-    (λ free. (leb-true (early 3) (early 10) refl, ltb-true (early 10) (early 27) refl), late))
+    let late = none_late_in_all.0 in (
+      (look_right 64 seen x (v_is 3) (home 2).places 2 seen_right refl refl refl refl none_late_in_one, (tt, late)),
+      (λ free. (leb-true (early 3) (early 10) refl, ltb-true (early 10) (early 27) refl), late),
+    )
 
 undone_right : Right 64 undone.entries
 unfolding the_book

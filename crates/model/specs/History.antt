@@ -1,5 +1,6 @@
 -- Histories, the newest entry first: what they leave, which are legal, the journal of their changes, and which are right.
-use Rattle.std.specs.Prelude.{◌≡◌, ℕ, ◌≤◌, ◌<◌, Bool, true, false, List, [], ◌∷◌, Option, Some, None, ◌==◌, ◌&&◌, ◌+◌, ◌-◌, not, length, unwrap_or, if◌then◌else◌}
+use Rattle.std.specs.Prelude.{◌≡◌, ℕ, ◌≤◌, ◌<◌, Bool, true, false, List, [], ◌∷◌, ◌++◌, Option, Some, None, ◌==◌, ◌&&◌, ◌+◌, ◌-◌, nat_lt, not, length, unwrap_or, if◌then◌else◌}
+use Rattle.std.specs.List.{filter}
 use Rattle.row_values.specs.declared.value.Item.{Item}
 use Rattle.model.specs.Ids.{Id, has}
 use Rattle.model.specs.Times.{end_of_time, time_of}
@@ -7,7 +8,7 @@ use Rattle.model.specs.Schema.{Column, column_named, numbered}
 use Rattle.model.specs.Catalog.{TableRecord, namespace_named}
 use Rattle.model.specs.Activity.{Interval}
 use Rattle.model.specs.Tablets.{act_for, effect}
-use Rattle.model.specs.Records.{Schedule, RestorationRecord, RestorationState, Switching, CloneRecord, CloneState, Copying, schedule_with, schedule_of}
+use Rattle.model.specs.Records.{Schedule, SnapshotRecord, RestorationRecord, RestorationState, Switching, CloneRecord, CloneState, Copying, schedule_with, schedule_of}
 use Rattle.model.specs.Acts.{Command, CreateNamespace, DropNamespace, CreateTable, AddColumn, DropColumn, RenameTable, DropTable, Restore, CloneNamespace, Ask, AskPlan, AskKeys, AskTable, AskWork, AskRemovable, AskPresent, Act, Look, Change, Write, Read, Cutoff, Compact, Send, Process, Ack, Advance, Remove, Prune, Restart, Stats, Event, NameTaken, TooMany, TooEarly, Future, SlotsFull, StalePlan, Reply, Ok, Work, Removable, Rows, Advanced, Refused}
 use Rattle.model.specs.Parts.{Master, Parts, start, MasterAct, Ticks, Changes, Sends, Acks, Unsends, Moves, Removes, Prunes, Restarts, Outcome, answered}
 use Rattle.model.specs.Schedules.{low, InWindow}
@@ -195,6 +196,18 @@ activity_of slots (e ∷ earlier) =
     if has (slots_of e.event.act) 0 && not (is_removal o.master)
     then (master_effect o.master e.stamp (record ps.master { activity = activity_of slots earlier })).activity
     else activity_of slots earlier
+
+-- All snapshots that ever were taken
+
+-- the records that the master has beyond those of an earlier one
+abbrev pub snapshots_since : Master → Master → List SnapshotRecord
+snapshots_since before after = filter (λ r. nat_lt before.drawn.snapshots r.id.number) after.snapshots
+
+-- each as it was made, in the order in which they were made
+unfoldable pub snapshots_taken : ℕ → List Entry → List SnapshotRecord
+snapshots_taken slots [] = []
+snapshots_taken slots (e ∷ earlier) =
+    let ps = replay slots earlier in snapshots_taken slots earlier ++ snapshots_since ps.master (next e ps).master
 
 -- Right histories
 

@@ -1,6 +1,6 @@
 -- The journal: the changes that a history made, the newest first, and the view of it at a time. The view is told pointwise: the
 -- name of a namespace, the namespace, name and columns of a table, the row of a key.
-use Rattle.std.specs.Prelude.{◌≡◌, ℕ, Bool, false, List, [], ◌∷◌, ◌++◌, Option, Some, None, nat_le, ◌==◌, ◌&&◌, not, if◌then◌else◌}
+use Rattle.std.specs.Prelude.{ℕ, Bool, false, List, [], ◌∷◌, ◌++◌, Option, Some, None, nat_le, ◌==◌, ◌&&◌, not, if◌then◌else◌}
 use Rattle.std.specs.List.{filter}
 use Rattle.std.specs.Option.{is_some}
 use Rattle.std.specs.Str.{bytes_eq}
@@ -132,13 +132,3 @@ columns_of (Some t) = t.columns
 -- the row of a key as the table's columns show it
 abbrev pub shown_at : List Change → ℕ → Id → List ℕ → Row
 shown_at changes x table key = cut_to (row_at changes x table key) (column_ids (columns_of (table_at changes x table)))
-
--- the current namespace or table of a name, in the view at x
-pub record IsNamed (changes : List Change) (x : ℕ) (name : List ℕ) (id : Id) : Type 0 where
-  pub named : namespace_at changes x id ≡ Some name
-
-pub record IsTableNamed (changes : List Change) (x : ℕ) (namespace : Id) (name : List ℕ) (id : Id) : Type 0 where
-  pub view : TableView
-  pub found : table_at changes x id ≡ Some view
-  pub inside : view.namespace ≡ namespace
-  pub named : view.name ≡ name

@@ -24,6 +24,7 @@ pub mod Cleanup
 pub mod Journal
 pub mod Entries
 pub mod History
+pub mod Drawn
 pub mod Right
 pub mod Stands
 pub mod Retained

@@ -1,6 +1,6 @@
 -- What retention keeps: while a time is retained, nothing removes a version, a frozen set, a tablet or a catalog record that
 -- it needs.
-use Rattle.std.specs.Prelude.{◌≡◌, ℕ, ◌≤◌, ◌<◌, true, false, List, [], ◌∷◌, Option, Some, None, ◌&&◌, ◌+◌, max, not, if◌then◌else◌}
+use Rattle.std.specs.Prelude.{◌≡◌, ℕ, ◌≤◌, ◌<◌, true, false, List, [], ◌∷◌, Option, Some, None, ◌&&◌, ◌+◌, ◌-◌, max, not, if◌then◌else◌}
 use Rattle.model.specs.Ids.{Id, same, In}
 use Rattle.model.specs.Catalog.{owns, kept_from}
 use Rattle.model.specs.Activity.{Interval, active_at, last_of}
@@ -43,24 +43,34 @@ abbrev pub Reaches : Option SnapshotRecord → Option SnapshotRecord → Tablet 
 Reaches (Some r) left t tablet to = SetReaches (set_of t.frozen r.id) to
 Reaches None left t tablet to = UnservedReaches left t tablet to
 
--- the snapshots of a schedule, from an earlier one's time on: times rise, each names the time before it, and only the last may
--- be unfinished
-abbrev pub SnapshotsRise : List SnapshotRecord → Id → ℕ → Type 0
-SnapshotsRise [] schedule before = Unit {0}
-SnapshotsRise (r ∷ rs) schedule before =
-    (same r.schedule schedule ≡ true → (before ≤ r.after) × (r.after < r.at) × (r.complete ≡ false → unfinished rs schedule ≡ None)) × SnapshotsRise rs schedule (if same r.schedule schedule then r.at else before)
+-- all snapshots of a schedule that were ever taken, from a time on: times rise, and each names the time of the one before it
+abbrev pub TimesRise : List SnapshotRecord → Id → ℕ → Type 0
+TimesRise [] schedule before = Unit {0}
+TimesRise (r ∷ rs) schedule before =
+    (same r.schedule schedule ≡ true → (r.after ≡ before) × (before < r.at)) × TimesRise rs schedule (if same r.schedule schedule then r.at else before)
 
--- what is kept for a namespace with a schedule. `activity` has the intervals of all tablets that ever were
-pub record RetainedFor (ps : Parts) (activity : List Interval) (s : Schedule) : Type 0 where
+-- at most one snapshot of the schedule is unfinished
+abbrev pub OneUnfinished : List SnapshotRecord → Id → Type 0
+OneUnfinished [] schedule = Unit {0}
+OneUnfinished (r ∷ rs) schedule = (same r.schedule schedule ≡ true → r.complete ≡ false → unfinished rs schedule ≡ None) × OneUnfinished rs schedule
+
+-- what is kept for a namespace with a schedule. `activity` has the intervals of all tablets that ever were, and `taken` the records of
+-- all snapshots, as they were made
+pub record RetainedFor (ps : Parts) (activity : List Interval) (taken : List SnapshotRecord) (s : Schedule) : Type 0 where
+  -- each tablet that was active from the floor on is present
   pub active_present : (i : Interval) (x : ℕ) → In i activity → owns ps.master.catalog.owners s.namespace i.table ≡ true
       → floor (Some s) (time_of_user ps.master s.namespace) ps.master.clock ≤ x → active_at x i ≡ true → IsPresent ps i.slot i.tablet
+  -- its rows at each time from the floor on can be had
   pub reaches : (i : Interval) (to : ℕ) → In i activity → owns ps.master.catalog.owners s.namespace i.table ≡ true
       → floor (Some s) (time_of_user ps.master s.namespace) ps.master.clock ≤ to → to ≤ ps.master.clock → active_at to i ≡ true
       → Reaches (serving ps.master.snapshots s.id to) (unfinished ps.master.snapshots s.id) (ps.tablet i.slot) i.tablet to
+  -- a cutoff passes neither what is complete, or the start of its tablet's last activity, nor the master's clock
   pub cutoffs : (slot : ℕ) (i : Interval) → is_vacant (ps.tablet slot).presence ≡ false → last_of ps.master.activity (ps.tablet slot).tablet ≡ Some i
       → owns ps.master.catalog.owners s.namespace i.table ≡ true
       → ((ps.tablet slot).cutoff ≤ max (complete_to s.complete s + 1) i.from) × ((ps.tablet slot).cutoff ≤ ps.master.clock)
-  pub snapshots : SnapshotsRise ps.master.snapshots s.id 0
+  pub times : TimesRise taken s.id (s.kept_low - 1)
+  pub unfinished_one : OneUnfinished ps.master.snapshots s.id
+  -- the catalog is kept from the floor on
   pub catalog : kept_from ps.master.catalog.kept_from s.namespace ≤ floor (Some s) (time_of_user ps.master s.namespace) ps.master.clock
 
 -- a record in progress finds its tablets
@@ -70,10 +80,9 @@ pub record ListedPresent (ps : Parts) : Type 0 where
   pub clones : (c : CloneRecord) (p : TabletPair) → In c ps.master.clones → is_cloned c.state ≡ false → In p c.tablets → IsPresent ps p.source_slot p.source
 
 -- what retention keeps at each moment
-pub record Retained (ps : Parts) (activity : List Interval) : Type 0 where
-  pub scheduled : (s : Schedule) → In s ps.master.schedules → RetainedFor ps activity s
+pub record Retained (ps : Parts) (activity : List Interval) (taken : List SnapshotRecord) : Type 0 where
+  pub scheduled : (s : Schedule) → In s ps.master.schedules → RetainedFor ps activity taken s
   pub listed : ListedPresent ps
-  -- without a schedule, no cutoff passes the master's clock
-  pub unscheduled : (slot : ℕ) (i : Interval) → is_vacant (ps.tablet slot).presence ≡ false → last_of ps.master.activity (ps.tablet slot).tablet ≡ Some i
-      → (ps.tablet slot).cutoff ≤ ps.master.clock
+  -- also without a schedule no cutoff, and no mark of the catalog, passes the master's clock
+  pub cutoffs : (slot : ℕ) → is_vacant (ps.tablet slot).presence ≡ false → (ps.tablet slot).cutoff ≤ ps.master.clock
   pub catalog : (ns : Id) → kept_from ps.master.catalog.kept_from ns ≤ ps.master.clock

@@ -1,5 +1,5 @@
 -- When an entry is right: its reply is that of one list of stamped changes, the journal of the entries before it.
-use Rattle.std.specs.Prelude.{◌≡◌, ℕ, ◌<◌, Bool, true, false, List, [], ◌∷◌, ◌++◌, Option, Some, None, ◌==◌, ◌&&◌, if◌then◌else◌}
+use Rattle.std.specs.Prelude.{◌≡◌, ℕ, ◌<◌, Bool, true, false, List, [], ◌∷◌, ◌++◌, Option, Some, None, ◌==◌, ◌&&◌, ◌||◌, if◌then◌else◌}
 use Rattle.std.specs.List.{filter, list_all}
 use Rattle.std.specs.Option.{is_some}
 use Rattle.std.specs.Str.{bytes_eq}
@@ -10,7 +10,7 @@ use Rattle.model.specs.Ids.{Id, same, In}
 use Rattle.model.specs.Store.{precedes, in_range, present}
 use Rattle.model.specs.Schema.{Column}
 use Rattle.model.specs.Activity.{Interval, active_at}
-use Rattle.model.specs.Journal.{Change, ChangeAct, NamespaceMade, NamespaceDropped, TableMade, TableRenamed, TableDropped, ColumnAdded, ColumnDropped, RowChanged, NamespaceRestored, NamespaceCloned, TableView, is_in, namespace_at, table_at, row_at}
+use Rattle.model.specs.Journal.{Change, ChangeAct, NamespaceMade, NamespaceDropped, TableMade, TableRenamed, TableDropped, ColumnAdded, ColumnDropped, RowChanged, NamespaceRestored, NamespaceCloned, TableView, is_in, namespace_at, table_at, row_at, shown_at}
 use Rattle.model.specs.Tablets.{Tablet}
 use Rattle.model.specs.Looks.{batch_fault, place_of}
 use Rattle.model.specs.Acts.{NamedItem, Place, At, Refusal, UnknownNamespace, UnknownTable, UnknownColumn, WrongKind, CrossTablet, Future, TooOld, Reply, Placed, Refused}
@@ -48,6 +48,11 @@ of_key key rows = filter (λ r. bytes_eq r.key key) rows
 pub record RowsRight (changes : List Change) (x : ℕ) (asked : Option (List ℕ)) (columns : List ℕ) (tablets : ℕ → Tablet) (places : List At) (rows : List KeyedRow) : Type 0 where
   pub in_order : InOrder rows
   pub each : (key : List ℕ) → of_key key rows ≡ rows_of_places changes x asked columns tablets places key
+
+-- the rows of a table at x as its columns show them: each present one, in order of key
+pub record IsShown (changes : List Change) (x : ℕ) (table : Id) (rows : List KeyedRow) : Type 0 where
+  pub in_order : InOrder rows
+  pub each : (key : List ℕ) → of_key key rows ≡ present key (shown_at changes x table key)
 
 -- Looks
 
@@ -127,12 +132,13 @@ is_of ns (RowChanged table key op) table_before = is_in ns (table_before table)
 is_of ns (NamespaceRestored namespace to) table_before = same namespace ns
 is_of ns (NamespaceCloned source target name to tables) table_before = same target ns
 
--- whether the journal has a restore of the namespace to T, or a clone of it at T
+-- whether a change is a restore of the namespace to T, or a clone of it at T
 abbrev pub fixes : ChangeAct → Id → ℕ → Bool
 fixes (NamespaceRestored namespace to) ns t = same namespace ns && (to == t)
 fixes (NamespaceCloned source target name to tables) ns t = same source ns && (to == t)
 fixes _ ns t = false
 
+-- whether the journal has such a change
 abbrev pub is_fixed : List Change → Id → ℕ → Bool
 is_fixed [] ns t = false
 is_fixed (c ∷ earlier) ns t = if fixes c.act ns t then true else is_fixed earlier ns t
@@ -141,3 +147,15 @@ is_fixed (c ∷ earlier) ns t = if fixes c.act ns t then true else is_fixed earl
 abbrev pub NothingLate : List Change → Type 0
 NothingLate [] = Unit {0}
 NothingLate (c ∷ earlier) = NothingLate earlier × ((ns : Id) (t : ℕ) → is_fixed earlier ns t ≡ true → is_of ns c.act (table_at earlier t) ≡ true → t < c.stamp)
+
+-- a namespace's name, tables and rows at a time are the same in two journals' views
+pub record SameThen (changes others : List Change) (ns : Id) (t : ℕ) : Type 0 where
+  pub name : namespace_at changes t ns ≡ namespace_at others t ns
+  pub tables : (id : Id) → (is_in ns (table_at changes t id) || is_in ns (table_at others t id)) ≡ true → table_at changes t id ≡ table_at others t id
+  pub rows : (id : Id) (key : List ℕ) → is_in ns (table_at others t id) ≡ true → row_at changes t id key ≡ row_at others t id key
+
+-- a journal's view still has what each of its restores, and each of its clones, took: the namespace at the time is as it was in the
+-- view of the changes before it. `all` is the whole journal
+abbrev pub StillSame : List Change → List Change → Type 0
+StillSame all [] = Unit {0}
+StillSame all (c ∷ earlier) = StillSame all earlier × ((ns : Id) (t : ℕ) → fixes c.act ns t ≡ true → SameThen all earlier ns t)

@@ -10,8 +10,8 @@ use Rattle.model.specs.Store.{Version, read_of, in_range, of_rows, rows_at}
 use Rattle.model.specs.Catalog.{owns}
 use Rattle.model.specs.Activity.{Interval, active_at, last_of}
 use Rattle.row_values.specs.declared.value.RowOp.{RowOp}
-use Rattle.model.specs.Journal.{Change, NamespaceMade, NamespaceDropped, TableMade, TableRenamed, TableDropped, ColumnAdded, ColumnDropped, RowChanged, NamespaceRestored, NamespaceCloned, table_at, row_at}
-use Rattle.model.specs.Tablets.{Tablet, Body, RestoreFrom, FreezeKind, RestoreFromKind, kind_of, Command, Mark, FrozenSet, is_vacant, is_serving, is_done, holds_command, set_of}
+use Rattle.model.specs.Journal.{Change, NamespaceMade, NamespaceDropped, TableMade, TableRenamed, TableDropped, ColumnAdded, ColumnDropped, RowChanged, NamespaceRestored, NamespaceCloned, source_of, table_at, row_at}
+use Rattle.model.specs.Tablets.{Tablet, Body, RestoreFrom, BodyKind, FenceKind, FreezeKind, RestoreFromKind, HideKind, CopyKind, ReleaseKind, kind_of, Command, Mark, FrozenSet, is_vacant, is_serving, is_done, holds_command, set_of}
 use Rattle.model.specs.Records.{Listed, SnapshotRecord, RestorationRecord, RestorationState, Fencing, Snapshotting, Switching, Restoring, Releasing, Restored, CloneRecord, CloneState, Accepted, CloneSnapshot, Copying, CloneReleasing, CloneComplete, is_restored, is_cloned, point_of, TabletPair}
 use Rattle.model.specs.Parts.{Parts}
 
@@ -78,14 +78,12 @@ abbrev pub holders : List Interval → Id → ℕ → ℕ → ℕ
 holders [] table code x = 0
 holders (i ∷ is) table code x = (if same i.table table && (active_at x i && in_range i.low i.high code) then 1 else 0) + holders is table code x
 
--- the ranges of a table's active tablets divide the codes, without gap or overlap, at each time at which the view has the table
+-- the ranges of a table's active tablets divide the codes, without gap or overlap, at each time at which the view has the table.
+-- `activity` has the intervals of all tablets that ever were
 abbrev pub Cover : List Interval → List Change → Type 0
 Cover activity changes = (table : Id) (code x : ℕ) → code < 65536 → is_some (table_at changes x table) ≡ true → holders activity table code x ≡ 1
 
 -- What a record's state says
-
-abbrev pub is_active_tablet : List Interval → Id → Bool
-is_active_tablet activity tablet = list_any (λ i. is_open i.to && same i.tablet tablet) activity
 
 -- the versions are the rows of the view at T whose code is in the range, one upsert each at the stamp
 pub record AreRowsAt (versions : List Version) (low high stamp : ℕ) (changes : List Change) (to : ℕ) (table : Id) : Type 0 where
@@ -94,10 +92,14 @@ pub record AreRowsAt (versions : List Version) (low high stamp : ℕ) (changes :
   pub rows : (key : List ℕ) → in_range low high (code_of key) ≡ true → read_of versions key stamp ≡ row_at changes to table key
   pub inside : (v : Version) → In v versions → in_range low high (code_of v.key) ≡ true
 
--- a listed tablet that is present holds the frozen set of the snapshot
-abbrev pub HoldsFrozen : Id → ℕ → Tablet → Type 0
-HoldsFrozen snapshot at t = record { set : FrozenSet; held : set_of t.frozen snapshot ≡ Some set; time : set.at ≡ at }
+-- the tablet holds the frozen set of the snapshot, of versions at or before its time. What can be read of it `FrozenStands` says
+pub record HoldsFrozen (snapshot : Id) (at : ℕ) (t : Tablet) : Type 0 where
+  pub set : FrozenSet
+  pub held : set_of t.frozen snapshot ≡ Some set
+  pub time : set.at ≡ at
+  pub inside : (v : Version) → In v set.versions → v.stamp ≤ at
 
+-- a listed tablet that is acked, or of a complete snapshot, holds its frozen set as long as it is present
 pub record SnapshotFacts (r : SnapshotRecord) (ps : Parts) : Type 0 where
   pub frozen : (l : Listed) → In l r.listed → (r.complete || l.acked) ≡ true → (ps.tablet l.slot).tablet ≡ l.tablet
       → is_vacant (ps.tablet l.slot).presence ≡ false → HoldsFrozen r.id r.at (ps.tablet l.slot)
@@ -130,7 +132,8 @@ abbrev pub before_restore : List Change → Id → ℕ → List Change → List 
 before_restore [] ns point all = all
 before_restore (c ∷ earlier) ns point all = if is_restore_of ns point c then earlier else before_restore earlier ns point all
 
--- the point comes after each change of a row of the namespace that was made before its restore, by more than one
+-- the restoration's own snapshot, whose time is one before the point, comes after each change of a row of the namespace that was
+-- made before the restore
 abbrev pub AfterRows : Id → ℕ → Parts → List Change → Type 0
 AfterRows ns point ps changes = (c : Change) (table : Id) (key : List ℕ) (op : RowOp) → In c (before_restore changes ns point changes)
     → c.act ≡ RowChanged table key op → owns ps.master.catalog.owners ns table ≡ true → c.stamp + 1 < point
@@ -144,7 +147,7 @@ RestorationStateFacts (Restoring point serving) r ps changes = (l : Listed) → 
   fenced : is_serving (ps.tablet l.slot).presence ≡ true → (ps.tablet l.slot).fence ≡ Some r.id;
   restored : is_restore l.body ≡ true → is_done (ps.tablet l.slot).done r.id RestoreFromKind ≡ true
       → ((ps.tablet l.slot).cutoff ≡ point)
-      × AreRowsAt (ps.tablet l.slot).versions (ps.tablet l.slot).low (ps.tablet l.slot).high point changes r.to (ps.tablet l.slot).table;
+      × AreRowsAt (ps.tablet l.slot).versions (ps.tablet l.slot).low (ps.tablet l.slot).high point (before_restore changes r.namespace point changes) r.to (ps.tablet l.slot).table;
 }
 RestorationStateFacts (Releasing point serving) r ps changes = (l : Listed) → In l r.listed → l.acked ≡ true → (ps.tablet l.slot).fence ≢ Some r.id
 RestorationStateFacts (Restored point serving) r ps changes = NoneFenced r.id ps
@@ -152,10 +155,10 @@ RestorationStateFacts (Restored point serving) r ps changes = NoneFenced r.id ps
 abbrev pub CloneStateFacts : CloneState → CloneRecord → Parts → List Change → Type 0
 CloneStateFacts Accepted c ps changes = Unit {0}
 CloneStateFacts (CloneSnapshot own) c ps changes = Unit {0}
-CloneStateFacts (Copying serving copied_at) c ps changes = (l : Listed) (p : TabletPair) → In l c.listed → In p c.tablets → p.target ≡ l.tablet → l.acked ≡ true
-    → ((ps.tablet l.slot).fence ≡ Some c.id)
-    × AreRowsAt (ps.tablet l.slot).versions p.low p.high copied_at changes c.to (ps.tablet p.source_slot).table
-CloneStateFacts (CloneReleasing serving copied_at) c ps changes = Unit {0}
+CloneStateFacts (Copying serving copied_at) c ps changes = (l : Listed) (p : TabletPair) (source : Id)
+    → In l c.listed → In p c.tablets → p.target ≡ l.tablet → source_of c.tables p.table ≡ Some source → l.acked ≡ true
+    → ((ps.tablet l.slot).fence ≡ Some c.id) × AreRowsAt (ps.tablet l.slot).versions p.low p.high copied_at changes c.to source
+CloneStateFacts (CloneReleasing serving copied_at) c ps changes = (l : Listed) → In l c.listed → l.acked ≡ true → (ps.tablet l.slot).fence ≢ Some c.id
 CloneStateFacts (CloneComplete serving copied_at) c ps changes = NoneFenced c.id ps
 
 -- a fence names an unfinished operation that holds the tablet's namespace, or made the tablet
@@ -168,6 +171,27 @@ abbrev pub NoneTwice : List Command → Type 0
 NoneTwice [] = Unit {0}
 NoneTwice (c ∷ cs) = (holds_command cs c.operation (kind_of c.body) ≡ false) × NoneTwice cs
 
+-- whether the tablet's inbox holds the operation's command of this kind, or it did it
+abbrev pub was_given : Tablet → Id → BodyKind → Bool
+was_given t operation kind = holds_command t.inbox operation kind || is_done t.done operation kind
+
+-- whether a restoration gives a command of this kind after its switch
+abbrev pub is_after_switch : BodyKind → Bool
+is_after_switch RestoreFromKind = true
+is_after_switch HideKind = true
+is_after_switch ReleaseKind = true
+is_after_switch FenceKind = false
+is_after_switch FreezeKind = false
+is_after_switch CopyKind = false
+
+-- the stamp from which a clone's targets have their rows
+abbrev pub copied_at : CloneState → Option ℕ
+copied_at Accepted = None
+copied_at (CloneSnapshot own) = None
+copied_at (Copying serving at) = Some at
+copied_at (CloneReleasing serving at) = Some at
+copied_at (CloneComplete serving at) = Some at
+
 -- what the records' states say of the parts
 pub record RecordFacts (ps : Parts) (changes : List Change) : Type 0 where
   pub snapshots : (r : SnapshotRecord) → In r ps.master.snapshots → SnapshotFacts r ps
@@ -175,11 +199,14 @@ pub record RecordFacts (ps : Parts) (changes : List Change) : Type 0 where
   pub clones : (c : CloneRecord) → In c ps.master.clones → CloneStateFacts c.state c ps changes
   -- a restoration's point comes after the rows that it undoes
   pub after_rows : (r : RestorationRecord) (point : ℕ) → In r ps.master.restorations → point_of r.state ≡ Some point → AfterRows r.namespace point ps changes
-  -- a tablet that was sent a command, or did it, has a clock above the stamp that gave it
-  pub after_freeze : (slot : ℕ) (r : SnapshotRecord) → In r ps.master.snapshots
-      → (holds_command (ps.tablet slot).inbox r.id FreezeKind || is_done (ps.tablet slot).done r.id FreezeKind) ≡ true → r.at < (ps.tablet slot).clock
-  pub after_restore : (slot : ℕ) (r : RestorationRecord) (point : ℕ) → In r ps.master.restorations → point_of r.state ≡ Some point
-      → (holds_command (ps.tablet slot).inbox r.id RestoreFromKind || is_done (ps.tablet slot).done r.id RestoreFromKind) ≡ true → point < (ps.tablet slot).clock
+  -- a tablet that was sent a command, or did it, has a clock above the stamp at which the record entered the state that gives it: so it
+  -- is above a snapshot's time, the time that a restoration goes to, its point from the switch on, and the stamp of a clone's copies
+  pub after_freeze : (slot : ℕ) (r : SnapshotRecord) → In r ps.master.snapshots → was_given (ps.tablet slot) r.id FreezeKind ≡ true → r.at < (ps.tablet slot).clock
+  pub after_fence : (slot : ℕ) (r : RestorationRecord) → In r ps.master.restorations → was_given (ps.tablet slot) r.id FenceKind ≡ true → r.to < (ps.tablet slot).clock
+  pub after_point : (slot : ℕ) (r : RestorationRecord) (point : ℕ) (kind : BodyKind) → In r ps.master.restorations → point_of r.state ≡ Some point
+      → is_after_switch kind ≡ true → was_given (ps.tablet slot) r.id kind ≡ true → point < (ps.tablet slot).clock
+  pub after_copy : (slot : ℕ) (c : CloneRecord) (at : ℕ) (kind : BodyKind) → In c ps.master.clones → copied_at c.state ≡ Some at
+      → was_given (ps.tablet slot) c.id kind ≡ true → at < (ps.tablet slot).clock
   pub fences : (slot : ℕ) (operation : Id) → (ps.tablet slot).fence ≡ Some operation → FenceFacts ps slot operation
   pub once : (slot : ℕ) → NoneTwice (ps.tablet slot).inbox
   pub fresh : (slot : ℕ) (c : Command) → In c (ps.tablet slot).inbox → is_done (ps.tablet slot).done c.operation (kind_of c.body) ≡ false

@@ -1,19 +1,18 @@
 -- A run stays right over a coordinator's events where its journal is in order: those events answer no rows.
-use Rattle.std.proofs.Common.{◌≡◌, ℕ, zero, suc, List, [], ◌∷◌, Option, Some, None, refl, sym, subst}
+use Rattle.std.proofs.Common.{ℕ, zero, suc, List, [], ◌∷◌, Option, Some, None}
 use Rattle.std.specs.Option.{option_map_or, option_map}
 use Rattle.row_values.specs.declared.value.Item.{Item}
 use Rattle.model.specs.Ids.{Id}
 use Rattle.model.specs.Catalog.{TableRecord}
 use Rattle.model.specs.Tablets.{Command as TabletCommand}
-use Rattle.model.specs.Records.{RestorationRecord, RestorationState, Fencing, Snapshotting, Switching, Restoring, Releasing, Restored, CloneRecord, CloneState, Accepted, CloneSnapshot, Copying, CloneReleasing, CloneComplete}
-use Rattle.model.specs.Acts.{Command, CreateNamespace, DropNamespace, CreateTable, AddColumn, DropColumn, RenameTable, DropTable, Act, Look, Change, Write, Advance, Reply, Ok, Advanced, WorkItem, SendWork, CollectWork, AdvanceWork}
+use Rattle.model.specs.Records.{RestorationRecord, RestorationState, Switching, CloneRecord, CloneState, Copying}
+use Rattle.model.specs.Acts.{Command, CreateNamespace, DropNamespace, CreateTable, AddColumn, DropColumn, RenameTable, DropTable, Act, Change, Write, Advance, Reply, Ok, Advanced, WorkItem, SendWork, CollectWork, AdvanceWork}
 use Rattle.model.specs.Journal as made
 use Rattle.model.specs.Parts.{Master, Parts}
 use Rattle.model.specs.Right.{NothingLate}
 use Rattle.model.specs.Work.{act_of_work, collecting, next_act, next_work}
-use Rattle.model.specs.Coordination.{unfinished_restoration, unfinished_clone}
-use Rattle.model.specs.History.{Right, ReplyRight, replay, journal_of, rows_made, with_table, with_command, with_restoration, with_clone, with_either, with_changes}
-use Rattle.model_rows.specs.Runs.{Run, IsHistory, done, coordinated}
+use Rattle.model.specs.History.{Right, ReplyRight, journal_of, rows_made, with_table, with_command, with_restoration, with_clone, with_either, with_changes}
+use Rattle.model_rows.specs.Runs.{Run, done, coordinated}
 
 -- nothing is late among the earlier changes
 
@@ -94,7 +93,7 @@ done_right act slots run right each late = (right, (each _ _ _ _, late))
 
 option_right : (w : Option WorkItem) (count slots : ℕ) (run : Run) → Right slots run.entries
     → ((act : Act) → Right slots (done act run).entries → NothingLate (journal_of slots (coordinated count (done act run)).entries)
-        → Right slots (coordinated count (done act run)).entries)
+    → Right slots (coordinated count (done act run)).entries)
     → NothingLate (journal_of slots (option_map_or (λ act. coordinated count (done act run)) (option_map (λ v. act_of_work v run.parts) w) run).entries)
     → Right slots (option_map_or (λ act. coordinated count (done act run)) (option_map (λ v. act_of_work v run.parts) w) run).entries
 option_right None count slots run right each late = right

@@ -1,19 +1,20 @@
-mod Windows
-mod FirstReads
-mod Cutoffs
-mod Returns
-mod Splits
-mod Restarts
-mod Clones
 mod Cleanups
-mod Refusals
+mod Clones
+mod Cutoffs
+mod FirstReads
 mod Hour
-pub mod Histories
-mod RightReads
 mod LegalReads
-mod StandingReads
+mod Numbers
+mod Refusals
+mod Restarts
 mod RetainedReads
-pub mod CoordinatedRuns
+mod Returns
 mod RightEntries
+mod RightReads
 mod RightRestores
+mod Splits
+mod StandingReads
 mod StandingRestores
+mod Windows
+pub mod CoordinatedRuns
+pub mod Histories

@@ -1,13 +1,13 @@
 -- What retention keeps holds of the parts under a schedule, and not once a cutoff is too high.
-use Rattle.std.proofs.Common.{◌≡◌, ℕ, ◌≤◌, false, [], ◌∷◌, List, Some, None, refl, arith, ap, sym, subst, max, inl, inr}
-use Rattle.std.proofs.lemmas.Bool.{true≢false, leb-true, ltb-true}
+use Rattle.std.proofs.Common.{◌≡◌, ℕ, ◌≤◌, false, [], ◌∷◌, None, refl, arith, sym, subst, max, inl, inr}
+use Rattle.std.proofs.lemmas.Bool.{leb-true}
 use Rattle.std.proofs.lemmas.Bool.Decides.{nat_tests}
 use Rattle.model.specs.Ids.{In}
 use Rattle.model.specs.Activity.{Interval}
 use Rattle.model.specs.History.{activity_of}
 use Rattle.model.specs.Parts.{Parts}
 use Rattle.model.specs.Records.{Schedule}
-use Rattle.model.specs.Retained.{Retained, RetainedFor, ListedPresent, IsPresent}
+use Rattle.model.specs.Retained.{Retained, RetainedFor, IsPresent}
 use Rattle.model.specs.Tablets.{is_vacant}
 use Rattle.model_rows.specs.Computed.{the_book}
 use Rattle.model_rows.specs.Scripts.{B, N, S, T, early, ready}

@@ -1,6 +1,6 @@
 -- What makes an entry right: the prelude's table is found, a read of one key gives its one row, and nothing is late where no time
 -- is fixed.
-use Rattle.std.proofs.Common.{◌≡◌, ℕ, Bool, true, false, List, [], ◌∷◌, ◌++◌, Option, Some, None, refl, sym, ap, subst, ◌∙◌, is_some, ◌&&◌, ◌⊎◌, inl, inr, if◌then◌else◌}
+use Rattle.std.proofs.Common.{◌≡◌, ℕ, Bool, true, false, List, [], ◌∷◌, ◌++◌, Some, None, refl, sym, ap, subst, ◌∙◌, is_some, ◌&&◌, ◌⊎◌, inl, inr, if◌then◌else◌}
 use Rattle.std.specs.Str.{bytes_eq}
 use Rattle.std.proofs.lemmas.Bool.{cases_Bool, true≢false}
 use Rattle.std.proofs.lemmas.Slice.Eq.{bytes_eq-Decides}
@@ -9,16 +9,18 @@ use Rattle.row_values.specs.declared.value.Cell.{Cell}
 use Rattle.row_values.specs.Codes.{code_of}
 use Rattle.row_values.specs.Rows.{cut_to}
 use Rattle.model.specs.Store.{in_range, present}
-use Rattle.model.specs.Acts.{At, Act, Look, Read, AskKeys, NamedCell, NamedUpsert, Place, Placed, Rows}
+use Rattle.model.specs.Acts.{At, Act, NamedCell, NamedUpsert, Place, Placed, Rows}
 use Rattle.model.specs.Entries.{Entry}
 use Rattle.model.specs.History.{Right, ReplyRight, replay, journal_of}
-use Rattle.model.specs.Looks.{batch_fault}
-use Rattle.model_rows.specs.UndoneRestore.{asking, reading}
+use Rattle.model.specs.Looks.{batch_fault, place_of}
+use Rattle.model.specs.Activity.{Interval, active_at}
+use Rattle.model.specs.Schema.{Column}
+use Rattle.model_rows.specs.UndoneRestore.{asked, asking, reading}
 use Rattle.model_rows.specs.Runs.{Run, entry_on, event_of, done}
 use Rattle.model.specs.Tablets.{Tablet}
 use Rattle.model.specs.Journal.{Change, ChangeAct, NamespaceRestored, NamespaceCloned, namespace_at, table_at, row_at}
-use Rattle.model.specs.Right.{NothingLate, is_fixed, TableFound, of_key, rows_of_places}
-use Rattle.model.specs.Ids.{Id}
+use Rattle.model.specs.Right.{NothingLate, is_fixed, TableFound, LookRight, PlacesRight, holds_keys, of_key, rows_of_places}
+use Rattle.model.specs.Ids.{Id, In}
 use Rattle.model_rows.specs.Scripts.{N, T, a, t, v, int_column, row}
 
 -- a change that fixes no time of a namespace
@@ -46,20 +48,20 @@ none_late [] plain = tt
 none_late (c ∷ earlier) plain =
     (none_late earlier plain.1, λ ns to fixed of_it. absurd (true≢false (sym fixed ∙ not_fixed earlier ns to plain.1)))
 
--- the table is found at a time at which the view has it
-abbrev pub table_found : (cs : List Change) (n : ℕ) → namespace_at cs n (N 1) ≡ Some a
-    → table_at cs n (T 1) ≡ Some (record { namespace = N 1; name = t; columns = int_column 1 v ∷ [] }) → TableFound cs n n a t
-table_found cs n named found = record {
-  owner = N 1;
+-- a table is found at a time at which the view has it, in a namespace that is there
+abbrev pub table_found : (changes : List Change) (n : ℕ) (namespace : List ℕ) (owner id : Id) (columns : List Column)
+    → namespace_at changes n owner ≡ Some namespace → table_at changes n id ≡ Some (record { namespace = owner; name = t; columns = columns })
+    → TableFound changes n n namespace t
+table_found changes n namespace owner id columns named found = record {
+  owner = owner;
   owner_named = named;
-  id = T 1;
-  view = record { namespace = N 1; name = t; columns = int_column 1 v ∷ [] };
+  id = id;
+  view = record { namespace = owner; name = t; columns = columns };
   found = found;
   inside = refl;
   named = refl;
   current = ap is_some found;
 }
-
 
 -- a read of a key at one place is right for all keys where it is for its own
 pub one_row : (changes : List Change) (time : ℕ) (k : List ℕ) (columns : List ℕ) (tablets : ℕ → Tablet) (p : At) (cells : List Cell)
@@ -72,6 +74,7 @@ one_row changes time k columns tablets p cells own key = by (cases_Bool (bytes_e
         (if test && in_range (tablets p.slot).low (tablets p.slot).high (code_of key)
         then present key (cut_to (row_at changes time (tablets p.slot).table key) columns)
         else []) ++ []
+
     by : (bytes_eq k key ≡ true) ⊎ (bytes_eq k key ≡ false) → of_key key (row k cells ∷ []) ≡ rows_of_places changes time (Some k) columns tablets (p ∷ []) key
     by (inl e) =
         subst (λ q. of_key q (row k cells ∷ []) ≡ rows_of_places changes time (Some k) columns tablets (p ∷ []) q) ((bytes_eq-Decides k key).0 e) own
@@ -81,33 +84,86 @@ one_row changes time k columns tablets p cells own key = by (cases_Bool (bytes_e
 abbrev pub newest : Act → Run → Entry
 newest act run = entry_on (event_of act run) run.entries run.parts
 
--- a look that finds the table
-pub look_right : (slots : ℕ) (run : Run) (key : List ℕ) (cells : List NamedCell) (places : List Place) (version : ℕ)
-    → Right slots run.entries → (newest (asking key cells) run).reply ≡ Placed places version (int_column 1 v ∷ [])
-    → namespace_at (journal_of slots run.entries) (newest (asking key cells) run).stamp (N 1) ≡ Some a
-    → table_at (journal_of slots run.entries) (newest (asking key cells) run).stamp (T 1)
-        ≡ Some (record { namespace = N 1; name = t; columns = int_column 1 v ∷ [] })
-    → batch_fault (int_column 1 v ∷ []) (record { key = key; op = NamedUpsert cells } ∷ []) ≡ None
+-- the intervals that are active at a time
+abbrev pub active_ones : List Interval → ℕ → List Interval
+active_ones [] n = []
+active_ones (i ∷ is) n = if active_at n i then i ∷ active_ones is n else active_ones is n
+
+among_active : (is : List Interval) (n : ℕ) (i : Interval) → In i is → active_at n i ≡ true → In i (active_ones is n)
+among_active [] n i inside active = absurd inside
+among_active (j ∷ is) n i (inl e) active =
+    subst (λ test. In i (if test then j ∷ active_ones is n else active_ones is n)) (sym (subst (λ k. active_at n k ≡ true) (sym e) active)) (inl e)
+among_active (j ∷ is) n i (inr later) active = by (active_at n j) (among_active is n i later active)
+  where
+    by : (test : Bool) → In i (active_ones is n) → In i (if test then j ∷ active_ones is n else active_ones is n)
+    by true h = inr h
+    by false h = h
+
+from_active : (is : List Interval) (n : ℕ) (i : Interval) → In i (active_ones is n) → In i is
+from_active [] n i inside = absurd inside
+from_active (j ∷ is) n i inside = by (active_at n j) (from_active is n i) inside
+  where
+    by : (test : Bool) → (In i (active_ones is n) → In i is) → In i (if test then j ∷ active_ones is n else active_ones is n) → (j ≡ i) ⊎ In i is
+    by true rest (inl e) = inl e
+    by true rest (inr h) = inr (rest h)
+    by false rest h = inr (rest h)
+
+pub only_one : {A : Type 0} (x y : A) → In x (y ∷ []) → y ≡ x
+only_one x y (inl e) = e
+only_one x y (inr h) = absurd h
+
+-- a look that finds the table, in the one tablet that is active
+pub look_right : (slots : ℕ) (run : Run) (namespace : List ℕ) (owner table : Id) (key : List ℕ) (cells : List NamedCell) (now : Interval) (version : ℕ)
+    (columns : List Column) → Right slots run.entries
+    → (newest (asking namespace key cells) run).reply ≡ Placed (place_of now ∷ []) version columns
+    → namespace_at (journal_of slots run.entries) (newest (asking namespace key cells) run).stamp owner ≡ Some namespace
+    → table_at (journal_of slots run.entries) (newest (asking namespace key cells) run).stamp table
+    ≡ Some (record { namespace = owner; name = t; columns = columns })
+    → batch_fault columns (asked key cells) ≡ None
+    → active_ones (replay slots run.entries).master.activity (newest (asking namespace key cells) run).stamp ≡ now ∷ []
+    → now.table ≡ table → active_at (newest (asking namespace key cells) run).stamp now ≡ true → holds_keys now (asked key cells) ≡ true
     → NothingLate (journal_of slots run.entries)
-    → Right slots (done (asking key cells) run).entries
+    → Right slots (done (asking namespace key cells) run).entries
 unfolding journal_of
-look_right slots run key cells places version right reply named found judged late =
-    let n = (newest (asking key cells) run).stamp in
+look_right slots run namespace owner table key cells now version columns right reply named found judged only table_is active holds late =
+    let n = (newest (asking namespace key cells) run).stamp in
     let changes = journal_of slots run.entries in
-    (right, (subst (λ r. ReplyRight (asking key cells) r n (replay slots run.entries) changes) (sym reply)
-        (record { found = table_found changes n named found; columns_are = refl; judged = judged }), late))
+    let ps = replay slots run.entries in
+    let finding : TableFound changes n n namespace t = table_found changes n namespace owner table columns named found in
+    let known : In now ps.master.activity = from_active ps.master.activity n now (subst (λ is. In now is) (sym only) (inl refl)) in
+    let look : LookRight changes n n namespace t (asked key cells) None (λ kept. columns ≡ kept) =
+            record { found = table_found changes n namespace owner table columns named found; columns_are = refl; judged = judged } in
+    let places : PlacesRight changes n n namespace t (asked key cells) ps.master.activity (place_of now ∷ []) = record {
+      found = table_found changes n namespace owner table columns named found;
+      each = λ p inside. record {
+        interval = now;
+        listed = known;
+        table_is = table_is;
+        active = active;
+        holds = holds;
+        placed = sym (only_one p (place_of now) inside);
+      };
+      all = λ i listed of_table at_stamp has_keys.
+          inl (ap place_of (only_one i now (subst (λ is. In i is) only (among_active ps.master.activity n i listed at_stamp))));
+    } in
+    (right, (subst (λ r. ReplyRight (asking namespace key cells) r n ps changes) (sym reply) (look, places), late))
 
 -- a read of a key that gives its row
 pub read_right : (slots : ℕ) (run : Run) (p : At) (version : ℕ) (key columns : List ℕ) (cells : List Cell)
     → Right slots run.entries → (newest (reading p version key columns) run).reply ≡ Rows (row key cells ∷ [])
     → of_key key (row key cells ∷ [])
-        ≡ rows_of_places (journal_of slots run.entries) (newest (reading p version key columns) run).stamp (Some key) columns (replay slots run.entries).tablet (p ∷ []) key
+    ≡ rows_of_places (journal_of slots run.entries) (newest (reading p version key columns) run).stamp (Some key) columns (replay slots run.entries).tablet (p ∷ []) key
     → NothingLate (journal_of slots run.entries)
     → Right slots (done (reading p version key columns) run).entries
 unfolding journal_of
 read_right slots run p version key columns cells right reply own late =
     let n = (newest (reading p version key columns) run).stamp in
     let ps = replay slots run.entries in
-    let changes = journal_of slots run.entries in
-    (right, (subst (λ r. ReplyRight (reading p version key columns) r n ps changes) (sym reply)
-        (record { in_order = tt; each = one_row changes n key columns ps.tablet p cells own }), late))
+    let changes = journal_of slots run.entries in (
+      right,
+      (
+        subst (λ r. ReplyRight (reading p version key columns) r n ps changes) (sym reply)
+            (record { in_order = tt; each = one_row changes n key columns ps.tablet p cells own }),
+        late,
+      ),
+    )

@@ -1,26 +1,18 @@
 -- The history of a first write and read is right. It isn't where the read answers another value.
-use Rattle.std.proofs.Common.{◌≡◌, ℕ, pos, arith, Bool, true, false, List, [], ◌∷◌, ◌++◌, Some, None, refl, sym, ap, subst, ◌∙◌, is_some, ◌&&◌, ◌⊎◌, inl, inr, if◌then◌else◌}
-use Rattle.std.specs.Str.{bytes_eq}
-use Rattle.std.proofs.lemmas.Bool.{cases_Bool, true≢false}
-use Rattle.std.proofs.lemmas.Slice.Eq.{bytes_eq-Decides}
+use Rattle.std.proofs.Common.{◌≡◌, List, [], ◌∷◌, None, refl, ap, sym, ◌∙◌, inl}
 use Rattle.row_values.specs.declared.rows.KeyedRow.{KeyedRow}
-use Rattle.row_values.specs.declared.value.Value.{Value}
-use Rattle.row_values.specs.declared.value.Value.TheVariants.{Int}
-use Rattle.row_values.specs.declared.value.Cell.{Cell}
-use Rattle.row_values.specs.Codes.{code_of}
-use Rattle.row_values.specs.Rows.{cut_to}
-use Rattle.model.specs.Store.{in_range, present}
-use Rattle.model.specs.Acts.{At, Rows, Reply, Refused, UnknownTable}
-use Rattle.model.specs.Journal.{Change, ChangeAct, NamespaceRestored, NamespaceCloned, namespace_at, table_at, row_at}
-use Rattle.model.specs.Right.{NothingLate, is_fixed, TableFound, of_key, rows_of_places}
+use Rattle.model.specs.Acts.{Placed, Rows, Reply, Refused, UnknownTable}
+use Rattle.model.specs.Right.{IsActivePlace}
+use Rattle.model.specs.Schema.{Column}
 use Rattle.model.specs.Entries.{Entry}
 use Rattle.model.specs.History.{Right, journal_of}
-use Rattle.model.specs.Ids.{Id}
-use Rattle.model_rows.proofs.RightEntries.{none_late, table_found, one_row}
+use Rattle.model_rows.proofs.RightEntries.{look_right, none_late, only_one, read_right, table_found}
+use Rattle.model_rows.proofs.Numbers.{first_number, none_is_not_one, two_is_not_one}
 use Rattle.model_rows.specs.Computed.{the_book}
 use Rattle.model_rows.specs.FirstRead.{made, written, been_read, namespace_made, table_made, changes}
-use Rattle.model_rows.specs.Runs.{after}
-use Rattle.model_rows.specs.Scripts.{N, T, B, a, t, x, v, early, int_column, kept_v, row, look_for}
+use Rattle.model_rows.specs.UndoneRestore.{asked, asking, place_one, since}
+use Rattle.model_rows.specs.Runs.{after, done}
+use Rattle.model_rows.specs.Scripts.{B, N, T, a, early, int_column, kept_v, look_for, place, row, t, v, v_is, x}
 
 -- the newest entry answers this
 abbrev answered : Reply → List Entry → List Entry
@@ -37,44 +29,26 @@ made_right =
     let named = none_late (namespace_made ∷ []) (refl, tt) in
     (((tt, (tt, named)), (tt, named)), (tt, none_late (table_made ∷ namespace_made ∷ []) (refl, (refl, tt))))
 
+abbrev named_v : List Column
+named_v = int_column 1 v ∷ []
+
 written_right : Right 64 written.entries
 unfolding the_book
 written_right =
-    let before = table_made ∷ namespace_made ∷ [] in (
-      (made_right, (record { found = table_found before (early 3) refl refl; columns_are = refl; judged = refl }, none_late before (refl, (refl, tt)))),
-      (tt, none_late changes (refl, (refl, (refl, tt)))),
-    )
+    let late = none_late (table_made ∷ namespace_made ∷ []) (refl, (refl, tt)) in
+    (look_right 64 made a (N 1) (T 1) x (v_is 1) (since 2) 1 named_v made_right refl refl refl refl refl refl refl refl late, (tt, none_late changes (refl, (refl, (refl, tt)))))
 
-read_right : Right 64 been_read.entries
+been_read_right : Right 64 been_read.entries
 unfolding the_book
-read_right = (
-  (written_right, (record { found = table_found changes (early 4) refl refl; columns_are = refl; judged = refl }, none_late changes (refl, (refl, (refl, tt))))),
-  (record { in_order = tt; each = one_row changes (early 4) x (1 ∷ []) written.parts.tablet (record { slot = 1; tablet = B 1 }) (kept_v 1) refl }, none_late changes (refl, (refl, (refl, tt)))),
-)
+been_read_right =
+    let late = none_late changes (refl, (refl, (refl, tt))) in
+    read_right 64 (done (asking a x []) written) place_one 1 x (1 ∷ []) (kept_v 1)
+    (look_right 64 written a (N 1) (T 1) x [] (since 2) 1 named_v written_right refl refl refl refl refl refl refl refl late) refl refl late
 
 -- the same history with another value, or with no row
 
 abbrev answering : List KeyedRow → List Entry
 answering found = answered (Rows found) been_read.entries
-
--- the number in the first cell of the first row
-abbrev number_in : Value → ℕ
-number_in (Int (pos n)) = n
-number_in _ = 0
-
-abbrev first_cell : List Cell → ℕ
-first_cell [] = 0
-first_cell (kept ∷ cells) = number_in kept.value
-
-abbrev first_number : List KeyedRow → ℕ
-first_number [] = 0
-first_number (r ∷ rs) = first_cell r.row.cells
-
-two_is_not_one : ◌≡◌ {A = ℕ} 2 1 → ⊥
-two_is_not_one e = omega arith
-
-none_is_not_one : ◌≡◌ {A = ℕ} 0 1 → ⊥
-none_is_not_one e = omega arith
 
 another_value_is_wrong : Right 64 (answering (row x (kept_v 2) ∷ [])) → ⊥
 unfolding the_book
@@ -87,4 +61,12 @@ no_row_is_wrong right = none_is_not_one (ap first_number (right.1.0.each x))
 -- a look that answers that there is no table
 no_table_is_wrong : Right 64 (answered (Refused UnknownTable) (after (look_for a t x [] None) written).entries) → ⊥
 unfolding the_book
-no_table_is_wrong right = right.1.0.1 (table_found changes (early 4) refl refl)
+no_table_is_wrong right = right.1.0.0.1 (table_found changes (early 4) a (N 1) (T 1) named_v refl refl)
+
+-- a look that answers another slot
+another_slot_is_wrong : Right 64 (answered (Placed (place 2 (B 1) 0 65536 ∷ []) 1 named_v) (after (look_for a t x [] None) written).entries) → ⊥
+unfolding the_book
+another_slot_is_wrong right = slot_of (right.1.0.1.each (place 2 (B 1) 0 65536) (inl refl))
+  where
+    slot_of : IsActivePlace (since 2 ∷ []) (early 4) right.1.0.1.found.id (asked x []) (place 2 (B 1) 0 65536) → ⊥
+    slot_of h = two_is_not_one (ap (λ p. p.slot) h.placed ∙ sym (ap (λ i. i.slot) (only_one h.interval (since 2) h.listed)))

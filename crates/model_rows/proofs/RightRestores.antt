@@ -1,24 +1,28 @@
 -- The history of a restore, and of one that undoes it, is right.
-use Rattle.std.proofs.Common.{◌≡◌, ℕ, List, [], ◌∷◌, ◌++◌, Some, ◌<◌, refl, arith}
+use Rattle.std.proofs.Common.{◌≡◌, ◌++◌, List, [], ◌∷◌, ◌<◌, refl, arith}
 use Rattle.std.proofs.lemmas.Bool.{leb-true, ltb-true}
 use Rattle.std.proofs.lemmas.Bool.Decides.{nat_tests}
-use Rattle.row_values.specs.declared.value.RowOp.TheVariants.{Upsert}
-use Rattle.model.specs.Acts.{At}
 use Rattle.model.specs.History.{Right, journal_of}
-use Rattle.model.specs.Journal.{Change, NamespaceRestored, RowChanged}
 use Rattle.model.specs.Right.{NothingLate}
+use Rattle.model.specs.Schema.{Column}
 use Rattle.model_rows.proofs.CoordinatedRuns.{coordinated_right}
 use Rattle.model_rows.proofs.RightEntries.{none_late, table_found, look_right, read_right}
 use Rattle.model_rows.specs.Computed.{the_book}
 use Rattle.model_rows.specs.FirstRead.{namespace_made, table_made}
-use Rattle.model_rows.specs.UndoneRestore.{asking, reading, restoring, restored, seen, undoing, undone, been_read, place_one, row_of, two_rows, one_restore, all_changes}
-use Rattle.model_rows.specs.Runs.{Run, after, coordinated, done}
-use Rattle.model_rows.specs.Scripts.{B, N, T, early, get, home, kept_v, put, ready, restore, v_is, x, a, t}
+use Rattle.model_rows.specs.UndoneRestore.{since, asking, restoring, restored, seen, undoing, undone, been_read, place_one, row_of, two_rows, one_restore, all_changes}
+use Rattle.model_rows.specs.Runs.{Run, after, done}
+use Rattle.model_rows.specs.Scripts.{N, T, a, early, home, int_column, kept_v, put, ready, t, v, v_is, x}
 
 -- the journal of it all
 its_journal : journal_of 64 been_read.entries ≡ all_changes
 unfolding the_book
 its_journal = refl
+
+none_late_in_catalog : NothingLate (table_made ∷ namespace_made ∷ [])
+none_late_in_catalog = none_late (table_made ∷ namespace_made ∷ []) (refl, (refl, tt))
+
+none_late_in_row : NothingLate (row_of 3 1 ∷ table_made ∷ namespace_made ∷ [])
+none_late_in_row = none_late (row_of 3 1 ∷ table_made ∷ namespace_made ∷ []) (refl, (refl, (refl, tt)))
 
 none_late_in_rows : NothingLate two_rows
 none_late_in_rows = none_late two_rows (refl, (refl, (refl, (refl, tt))))
@@ -38,18 +42,28 @@ ready_right =
     let tabled = none_late (table_made ∷ namespace_made ∷ []) (refl, (refl, tt)) in
     ((((tt, (tt, named)), (tt, named)), (tt, tabled)), (tt, tabled))
 
+abbrev named_v : List Column
+named_v = int_column 1 v ∷ []
+
+abbrev once_written : Run
+once_written = after (put a t (home 1) x (v_is 1)) ready
+
+once_written_right : Right 64 once_written.entries
+unfolding the_book
+once_written_right = (
+  look_right 64 ready a (N 1) (T 1) x (v_is 1) (since 2) 1 named_v ready_right refl refl refl refl refl refl refl refl none_late_in_catalog,
+  (tt, none_late_in_row),
+)
+
 restoring_right : Right 64 restoring.entries
 unfolding the_book
-restoring_right =
-    let none = table_made ∷ namespace_made ∷ [] in
-    let one = row_of 3 1 ∷ none in
-    let late_none = none_late none (refl, (refl, tt)) in
-    let late_one = none_late one (refl, (refl, (refl, tt))) in
-    (((((ready_right, (record { found = table_found none (early 4) refl refl; columns_are = refl; judged = refl }, late_none)),
-    (tt, late_one)),
-    (record { found = table_found one (early 5) refl refl; columns_are = refl; judged = refl }, late_one)),
-    (tt, none_late_in_rows)),
-    (λ free. (leb-true (early 3) (early 3) refl, ltb-true (early 3) (early 6) refl), none_late_in_rows))
+restoring_right = (
+  (
+    look_right 64 once_written a (N 1) (T 1) x (v_is 2) (since 2) 1 named_v once_written_right refl refl refl refl refl refl refl refl none_late_in_row,
+    (tt, none_late_in_rows),
+  ),
+  (λ free. (leb-true (early 3) (early 3) refl, ltb-true (early 3) (early 6) refl), none_late_in_rows),
+)
 
 restored_right : Right 64 restored.entries
 unfolding the_book
@@ -58,15 +72,16 @@ restored_right = coordinated_right 60 64 restoring restoring_right none_late_in_
 seen_right : Right 64 seen.entries
 unfolding the_book
 seen_right =
-    read_right 64 (done (asking x []) restored) place_one 2 x (1 ∷ []) (kept_v 1)
-    (look_right 64 restored x [] (home 2).places 2 restored_right refl refl refl refl none_late_in_one) refl refl none_late_in_one
+    read_right 64 (done (asking a x []) restored) place_one 2 x (1 ∷ []) (kept_v 1)
+    (look_right 64 restored a (N 1) (T 1) x [] (since 11) 2 named_v restored_right refl refl refl refl refl refl refl refl none_late_in_one) refl refl none_late_in_one
 
 undoing_right : Right 64 undoing.entries
 unfolding the_book
 undoing_right =
-    let late = none_late_in_all.0 in
-    ((look_right 64 seen x (v_is 3) (home 2).places 2 seen_right refl refl refl refl none_late_in_one, (tt, late)),
-    (λ free. (leb-true (early 3) (early 10) refl, ltb-true (early 10) (early 27) refl), late))
+    let late = none_late_in_all.0 in (
+      (look_right 64 seen a (N 1) (T 1) x (v_is 3) (since 11) 2 named_v seen_right refl refl refl refl refl refl refl refl none_late_in_one, (tt, late)),
+      (λ free. (leb-true (early 3) (early 10) refl, ltb-true (early 10) (early 27) refl), late),
+    )
 
 undone_right : Right 64 undone.entries
 unfolding the_book
@@ -76,8 +91,8 @@ undone_right = coordinated_right 60 64 undoing undoing_right none_late_in_all
 been_read_right : Right 64 been_read.entries
 unfolding the_book
 been_read_right =
-    read_right 64 (done (asking x []) undone) place_one 3 x (1 ∷ []) (kept_v 2)
-    (look_right 64 undone x [] (home 3).places 3 undone_right refl refl refl refl none_late_in_all) refl refl none_late_in_all
+    read_right 64 (done (asking a x []) undone) place_one 3 x (1 ∷ []) (kept_v 2)
+    (look_right 64 undone a (N 1) (T 1) x [] (since 32) 3 named_v undone_right refl refl refl refl refl refl refl refl none_late_in_all) refl refl none_late_in_all
 
 -- a change that comes too late: a row stamped at the time to which the journal has a restore
 late_row : NothingLate (row_of 3 9 ∷ one_restore) → ⊥

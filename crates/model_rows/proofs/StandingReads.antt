@@ -1,5 +1,5 @@
 -- The parts after a first write stand for its journal, and wouldn't without the version that it wrote.
-use Rattle.std.proofs.Common.{◌≡◌, ℕ, ◌≤◌, false, [], ◌∷◌, List, None, refl, arith, ap, sym, subst}
+use Rattle.std.proofs.Common.{◌≡◌, ℕ, false, [], ◌∷◌, None, refl, arith, ap, sym, subst}
 use Rattle.std.proofs.lemmas.Bool.{true≢false, leb-true, ltb-true}
 use Rattle.std.proofs.lemmas.Bool.Decides.{nat_tests}
 use Rattle.model.specs.Ids.{In}
@@ -9,6 +9,7 @@ use Rattle.model.specs.Parts.{Parts}
 use Rattle.model.specs.Store.{read_of}
 use Rattle.model.specs.Stands.{Stands, LiveStands, Cover}
 use Rattle.model.specs.Tablets.{FrozenSet, is_vacant}
+use Rattle.model_rows.proofs.Numbers.{none_is_not_one}
 use Rattle.model_rows.specs.Computed.{the_book}
 use Rattle.model_rows.specs.FirstRead.{changes, written}
 use Rattle.model_rows.specs.Scripts.{B, T, early, x}
@@ -53,9 +54,6 @@ lost_version stands =
 written_covers : Cover written.parts.master.activity changes
 unfolding the_book
 written_covers = λ table code time below there. grind (arith, nat_tests)
-
-none_is_not_one : ◌≡◌ {A = ℕ} 0 1 → ⊥
-none_is_not_one e = omega arith
 
 -- ranges that leave codes out don't cover
 gap_in_cover : Cover (record interval { high = 30000 } ∷ []) changes → ⊥

@@ -1,14 +1,18 @@
 -- A restore and one that undoes it, as runs, and the journal that they make.
 use Rattle.std.specs.Prelude.{ℕ, List, [], ◌∷◌, ◌++◌, None, Some}
 use Rattle.row_values.specs.declared.value.RowOp.TheVariants.{Upsert}
-use Rattle.model.specs.Acts.{Act, At, Look, Read, AskKeys, NamedCell, NamedUpsert}
+use Rattle.model.specs.Acts.{Act, At, Look, Read, AskKeys, NamedCell, NamedItem, NamedUpsert}
+use Rattle.model.specs.Activity.{Interval}
 use Rattle.model.specs.Journal.{Change, NamespaceRestored, RowChanged}
 use Rattle.model_rows.specs.FirstRead.{namespace_made, table_made}
 use Rattle.model_rows.specs.Runs.{Run, after, coordinated, done}
 use Rattle.model_rows.specs.Scripts.{B, N, T, a, early, home, kept_v, put, ready, restore, t, v_is, x}
 
-abbrev pub asking : List ℕ → List NamedCell → Act
-asking key cells = Look (AskKeys a t (record { key = key; op = NamedUpsert cells } ∷ []) None)
+abbrev pub asked : List ℕ → List NamedCell → List NamedItem
+asked key cells = record { key = key; op = NamedUpsert cells } ∷ []
+
+abbrev pub asking : List ℕ → List ℕ → List NamedCell → Act
+asking namespace key cells = Look (AskKeys namespace t (asked key cells) None)
 
 abbrev pub reading : At → ℕ → List ℕ → List ℕ → Act
 reading p version key columns = Read (p ∷ []) version (Some key) None columns
@@ -19,12 +23,16 @@ restoring = after (put a t (home 1) x (v_is 1) ++ put a t (home 1) x (v_is 2) ++
 abbrev pub restored : Run
 restored = coordinated 60 restoring
 
+-- the prelude's tablet, active from a time on
+abbrev pub since : ℕ → Interval
+since logical = record { slot = 1; tablet = B 1; table = T 1; low = 0; high = 65536; from = early logical; to = None }
+
 abbrev pub place_one : At
 place_one = record { slot = 1; tablet = B 1 }
 
 -- the row is read, and written again; then the restore is undone, and the row is read once more
 abbrev pub seen : Run
-seen = done (reading place_one 2 x (1 ∷ [])) (done (asking x []) restored)
+seen = done (reading place_one 2 x (1 ∷ [])) (done (asking a x []) restored)
 
 abbrev pub undoing : Run
 undoing = after (put a t (home 2) x (v_is 3) ++ restore (early 10)) seen
@@ -33,7 +41,7 @@ abbrev pub undone : Run
 undone = coordinated 60 undoing
 
 abbrev pub been_read : Run
-been_read = done (reading place_one 3 x (1 ∷ [])) (done (asking x []) undone)
+been_read = done (reading place_one 3 x (1 ∷ [])) (done (asking a x []) undone)
 
 abbrev pub row_of : ℕ → ℕ → Change
 row_of logical n = record { stamp = early logical; act = RowChanged (T 1) x (Upsert (kept_v n)) }

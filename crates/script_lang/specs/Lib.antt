@@ -1,0 +1,6 @@
+pub mod Catalog
+pub mod Grammar
+pub mod Rows
+pub mod Script
+pub mod Settings
+pub mod Table

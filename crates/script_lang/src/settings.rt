@@ -1,0 +1,40 @@
+//! The commands that set how later lines are run.
+
+ghost use Rattle.script_words.specs.Reading.{Gives, same};
+ghost use Rattle.script_places.specs.Places.{read_form};
+ghost use Rattle.script_lang.specs.Settings as settings;
+ghost use Rattle.script_lang.specs.Table.{command_of};
+
+use crate::catalog;
+use crate::command::ScriptCommand;
+use crate::reading::Reading;
+use row_values::Bytes;
+use script_places::{Place, counted, number_at};
+use script_words::{Cause, LineError};
+
+// Micros of a reading, below 2^49.
+const MOST_MICROS: u64 = (1 << 49) - 1;
+
+#[tactic(auto, unfolding(script_places::specs::Places::read_form))]
+fn tick(with: Reading, words: &[Bytes]) -> Result<ScriptCommand, LineError>
+    ensures exact { Gives same result (read_form with.slots settings.tick words.now) }
+{
+    let micros = Place::Number {
+        least: 0,
+        most: MOST_MICROS,
+    };
+    counted(&[micros], words)?;
+    let (micros, _) = number_at(words, Cause::BadNumber, 0, MOST_MICROS)?;
+    Ok(ScriptCommand::Tick { micros })
+}
+
+/// The command of a line's first word and those behind it.
+#[tactic(auto, unfolding(crate::specs::Table::command_of))]
+pub fn command_of(with: Reading, word: &[u8], rest: &[Bytes]) -> Result<ScriptCommand, LineError>
+    ensures exact { Gives same result (command_of with.slots word.now rest.now) }
+{
+    if word == b"tick".as_slice() {
+        return tick(with, rest);
+    }
+    catalog::command_of(with, word, rest)
+}

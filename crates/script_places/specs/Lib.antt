@@ -1,0 +1,10 @@
+pub mod Columns
+pub mod Counts
+pub mod Grammar
+pub mod Names
+pub mod Numbers
+pub mod Places
+pub mod Spelling
+pub mod Times
+pub mod Values
+pub mod Words

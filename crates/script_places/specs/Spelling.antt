@@ -1,0 +1,78 @@
+-- The words in which a meaning is written.
+use Rattle.std.specs.Prelude.{◌≡◌, ℕ, ◌≤◌, ◌<◌, ◌^◌, ◌+◌, true, false, List, [], ◌∷◌, ◌++◌, length, map, codes, decimal, pos, negsuc}
+use Rattle.std.specs.List.{AllByRecursion}
+use Rattle.row_values.specs.declared.value.Value.{Value}
+use Rattle.row_values.specs.declared.value.Value.TheVariants as values
+use Rattle.table_schema.specs.declared.kind.Kind.{Kind}
+use Rattle.table_schema.specs.declared.kind.Kind.TheVariants as kinds
+use Rattle.table_schema.specs.declared.column.NewColumn.{NewColumn}
+use Rattle.script_places.specs.declared.types.NamedCell.{NamedCell}
+use Rattle.script_places.specs.declared.types.Time.{Time}
+use Rattle.script_places.specs.declared.types.Time.TheVariants as times
+use Rattle.script_places.specs.declared.place.Place.{Place}
+use Rattle.script_places.specs.declared.place.Place.TheVariants as places
+use Rattle.script_places.specs.Words.{Word}
+use Rattle.script_places.specs.Names.{is_name, is_key}
+use Rattle.script_places.specs.Values.{has_no_quote}
+use Rattle.script_places.specs.Columns.{has_name}
+use Rattle.script_places.specs.Places.{Meaning}
+
+abbrev pub value_word : Value → Word
+value_word (values.Int (pos n)) = decimal n
+value_word (values.Int (negsuc n)) = 45 ∷ decimal (n + 1)
+value_word (values.Text text) = 39 ∷ (text ++ 39 ∷ [])
+value_word values.Null = codes "null"
+
+-- a number of 64 bits, or a text of at most 256 bytes without quotes
+abbrev pub FitsValue : Value → Type 0
+FitsValue (values.Int (pos n)) = n < 2 ^ 63
+FitsValue (values.Int (negsuc n)) = n < 2 ^ 63
+FitsValue (values.Text text) = (length text ≤ 256) × (has_no_quote text ≡ true)
+FitsValue values.Null = Unit {0}
+
+abbrev pub cell_word : NamedCell → Word
+cell_word cell = cell.column ++ (61 ∷ value_word cell.value)
+
+abbrev pub FitsCell : NamedCell → Type 0
+FitsCell cell = (is_name cell.column ≡ true) × FitsValue cell.value
+
+abbrev pub kind_word : Kind → Word
+kind_word kinds.Int = codes "int"
+kind_word kinds.Text = codes "text"
+
+abbrev pub column_word : NewColumn → Word
+column_word column = column.name ++ (58 ∷ kind_word column.kind)
+
+abbrev pub FitsColumn : NewColumn → Type 0
+FitsColumn column = is_name column.name ≡ true
+
+-- Each column has a name that none before it has.
+abbrev pub AreNew : List NewColumn → List NewColumn → Type 0
+AreNew earlier [] = Unit {0}
+AreNew earlier (column ∷ columns) = (has_name earlier column.name ≡ false) × AreNew (earlier ++ (column ∷ [])) columns
+
+abbrev pub time_words : Time → List Word
+time_words (times.Micros n) = decimal n ∷ []
+time_words (times.MinusMinutes n) = codes "minus" ∷ (decimal n ++ codes "m") ∷ []
+time_words (times.MinusSeconds n) = codes "minus" ∷ (decimal n ++ codes "s") ∷ []
+time_words (times.Exact n) = codes "ht" ∷ decimal n ∷ []
+
+abbrev pub FitsTime : Time → Type 0
+FitsTime (times.Micros n) = n < 2 ^ 50
+FitsTime (times.MinusMinutes n) = n ≤ 10000000
+FitsTime (times.MinusSeconds n) = n ≤ 10000000
+FitsTime (times.Exact n) = n < 2 ^ 62
+
+-- These are the words of the place that mean this.
+abbrev pub Writes : ℕ → (place : Place) → Meaning place → List Word → Type 0
+Writes slots places.Tablets _ ws = ws ≡ codes "tablets" ∷ []
+Writes slots places.Name name ws = (ws ≡ name ∷ []) × (is_name name ≡ true)
+Writes slots places.Key key ws = (ws ≡ key ∷ []) × (is_key key ≡ true)
+Writes slots (places.Number least most) n ws = (ws ≡ decimal n ∷ []) × (least ≤ n) × (n ≤ most)
+Writes slots places.Slot n ws = (ws ≡ decimal n ∷ []) × (1 ≤ n) × (n ≤ slots)
+Writes slots places.Column column ws = (ws ≡ column_word column ∷ []) × FitsColumn column
+Writes slots places.Time time ws = (ws ≡ time_words time) × FitsTime time
+Writes slots places.Cells cells ws =
+    (ws ≡ map cell_word cells) × AllByRecursion FitsCell cells × (1 ≤ length cells) × (length cells ≤ 16)
+Writes slots places.Columns columns ws =
+    (ws ≡ map column_word columns) × AllByRecursion FitsColumn columns × AreNew [] columns × (1 ≤ length columns) × (length columns ≤ 16)

@@ -1,0 +1,4 @@
+pub mod Layout
+pub mod Lines
+pub mod Reading
+pub mod Words

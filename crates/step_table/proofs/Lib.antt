@@ -1,0 +1,13 @@
+pub mod Lists
+pub mod Totals
+pub mod Puts
+pub mod Keeps
+pub mod Merges
+pub mod Laws
+pub mod Commits
+pub mod Outs
+pub mod Joined
+pub mod Performs
+pub mod Histories
+pub mod Told
+pub mod Closes

@@ -1,0 +1,10 @@
+pub mod Lists
+pub mod Helds
+pub mod Machines
+pub mod Histories
+pub mod Rule
+pub mod Plays
+pub mod Seats
+pub mod Cuts
+pub mod Passes
+pub mod Tries

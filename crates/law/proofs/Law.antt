@@ -1,16 +1,14 @@
 -- Each entry of a legal history keeps what holds, and so the history is right.
-use Rattle.std.proofs.Common.{ℕ, ◌≡◌, ◌≤◌, ◌<◌, ◌+◌, ◌*◌, max, List, [], ◌∷◌, Option, Some, None, Bool, true, false, cond, ◌&&◌, ◌||◌, refl, sym, ap, subst, ◌∙◌, arith, eqb, eqb-true, le_trans, le_refl, map, fold}
-use Rattle.std.proofs.lemmas.Bool.Decides.{nat_tests}
-use Rattle.row_values.specs.Stamps as rule
+use Rattle.std.proofs.Common.{ℕ, ◌≡◌, ◌≤◌, max, List, [], ◌∷◌, true, sym, subst, arith, eqb, eqb-true, le_trans, le_refl, map, fold}
 use Rattle.model.specs.Ids.{has}
 use Rattle.model.specs.Journal as made
 use Rattle.model.specs.Acts.{Act, Look, Change, Write, Read, Cutoff, Compact, Restart, Stats}
-use Rattle.model.specs.Parts.{Parts, start}
+use Rattle.model.specs.Parts.{Parts}
 use Rattle.model.specs.Entries.{Entry, slots_of, clock_at, stamp_of, ActAsked}
-use Rattle.model.specs.History.{outcome, told, replay, journal_of, Legal, Right, with_changes, ReplyRight}
+use Rattle.model.specs.History.{outcome, told, replay, journal_of, Legal, Right}
 use Rattle.law_store.proofs.Keys.{either_way}
 use Rattle.law_invariants.specs.Invariant.{Inv, Keeps, Later}
-use Rattle.law_invariants.proofs.Ticking.{nothing_told, KeepsAll}
+use Rattle.law_invariants.proofs.Ticking.{KeepsAll}
 use Rattle.law_changes.proofs.Changing.{catalog_change_keeps}
 use Rattle.law_rows.proofs.Keeping.{stats_keeps, restart_keeps, compact_keeps, cutoff_keeps}
 use Rattle.law_rows.proofs.Writing.{write_keeps}
@@ -58,7 +56,7 @@ legal_holds (e ∷ earlier) slots legal covered =
     let before = legal_holds earlier slots legal.0 covered.0 in
     let step = legal.1 in
     let keeps : KeepsAll e.event.act e.stamp (replay slots earlier) (journal_of slots earlier) (outcome e.event.act e.stamp (replay slots earlier))
-        = act_keeps e.event.act slots e.stamp (replay slots earlier) (journal_of slots earlier) (stamps_later e (replay slots earlier) step.stamp) step.asked.act covered.1 before.inv in
+    = act_keeps e.event.act slots e.stamp (replay slots earlier) (journal_of slots earlier) (stamps_later e (replay slots earlier) step.stamp) step.asked.act covered.1 before.inv in
     let now : Keeps e.event.act e.reply e.stamp (replay slots earlier) (told e.event.act (outcome e.event.act e.stamp (replay slots earlier)) e.stamp (replay slots earlier)) (journal_of slots earlier)
-        = subst (λ r. Keeps e.event.act r e.stamp (replay slots earlier) (told e.event.act (outcome e.event.act e.stamp (replay slots earlier)) e.stamp (replay slots earlier)) (journal_of slots earlier)) (sym step.reply) keeps in
+    = subst (λ r. Keeps e.event.act r e.stamp (replay slots earlier) (told e.event.act (outcome e.event.act e.stamp (replay slots earlier)) e.stamp (replay slots earlier)) (journal_of slots earlier)) (sym step.reply) keeps in
     record { inv = now.inv; right = (before.right, (now.right, now.inv.late)) }

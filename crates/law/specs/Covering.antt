@@ -1,5 +1,5 @@
 -- The acts of which the law is proved so far. The definition grows with each act whose lemma stands.
-use Rattle.std.specs.Prelude.{ℕ, List, [], ◌∷◌}
+use Rattle.std.specs.Prelude.{List, [], ◌∷◌}
 use Rattle.model.specs.Acts.{Act, Look, Change, Write, Read, Cutoff, Compact, Restart, Stats}
 use Rattle.model.specs.Entries.{Entry}
 use Rattle.law_changes.specs.Commands.{IsOfCatalog}

@@ -56,6 +56,6 @@ ends_before is i j table c x time one ini inj apart ti tj ri rj ends is_op befor
     let m = max i.from j.from in
     let hj : holds j table c m ≡ true = holds_now j table c m tj (omega arith) (ap (before_end m) is_op) rj in
     let clash : before_end m i.to ≡ true → ⊥ = λ b.
-        let hi : holds i table c m ≡ true = holds_now i table c m ti (omega arith) b ri in
-        let two = two_holders is i j table c m ini inj apart hi hj in omega arith in
+    let hi : holds i table c m ≡ true = holds_now i table c m ti (omega arith) b ri in
+    let two = two_holders is i j table c m ini inj apart hi hj in omega arith in
     by_end i.to i.from j.from x time ends before clash

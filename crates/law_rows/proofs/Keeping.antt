@@ -47,11 +47,14 @@ compact_keeps ps changes n slot later from inv =
     let h = inv.slots slot in
     let le : t.clock ≤ n = le_of_lt (clock_before (slot ∷ []) ps n slot later from (has_it slot [])) in
     by_checks (Compact slot) n ps changes (If (is_vacant t.presence) (moved slot t) ∷ []) (tells slot CompactTablet (Compacted (length t.versions) (length (kept t.versions t.cutoff))))
-      (λ why. refused_keeps (Compact slot) why n ps changes later inv tt refl)
-      (λ passes. record { right = tt; inv = one_told (Compact slot) (Compacted (length t.versions) (length (kept t.versions t.cutoff))) slot CompactTablet n ps changes later (one_touched slot from) inv.master (λ i apart. inv.slots i)
+    (λ why. refused_keeps (Compact slot) why n ps changes later inv tt refl)
+    (λ passes. record {
+      right = tt;
+      inv = one_told (Compact slot) (Compacted (length t.versions) (length (kept t.versions t.cutoff))) slot CompactTablet n ps changes later (one_touched slot from) inv.master (λ i apart. inv.slots i)
           (rewriting_keeps ps.master n changes slot t (kept t.versions t.cutoff) t.cutoff le (le_refl _) (le_trans h.good.cutoff le) (sorted_kept t.versions t.cutoff h.good.sorted)
-              (below_kept t.versions t.cutoff (n + 1) (below_later t.versions (t.clock + 1) (n + 1) (omega arith) h.good.below)) (λ key x cut. compaction t.versions key t.cutoff x h.good.sorted cut) h)
-          inv.late })
+          (below_kept t.versions t.cutoff (n + 1) (below_later t.versions (t.clock + 1) (n + 1) (omega arith) h.good.below)) (λ key x cut. compaction t.versions key t.cutoff x h.good.sorted cut) h)
+          inv.late;
+    })
 
 pub has_second : (slot : ℕ) → has (0 ∷ slot ∷ []) slot ≡ true
 has_second slot = grind (arith, nat_tests)
@@ -80,45 +83,97 @@ cutoff_keeps ps changes n slot later from inv =
     let le : t.clock ≤ n = le_of_lt (clock_before (0 ∷ slot ∷ []) ps n slot later from (has_second slot)) in
     let within : to ≤ n = allowed_by (schedule_at ps.master slot) ps.master n (master_before (0 ∷ slot ∷ []) ps n later refl) (λ s e. inv.master.complete s (in_schedules ps.master.schedules _ s e)) in
     by_checks (Cutoff slot) n ps changes (If (is_vacant t.presence) (moved slot t) ∷ []) (tells slot (RaiseCutoff to) (CutoffAt (max t.cutoff to)))
-      (λ why. refused_keeps (Cutoff slot) why n ps changes later inv tt refl)
-      (λ passes. record { right = tt; inv = one_told (Cutoff slot) (CutoffAt (max t.cutoff to)) slot (RaiseCutoff to) n ps changes later (second_touched slot from) inv.master (λ i apart. inv.slots i)
+    (λ why. refused_keeps (Cutoff slot) why n ps changes later inv tt refl)
+    (λ passes. record {
+      right = tt;
+      inv = one_told (Cutoff slot) (CutoffAt (max t.cutoff to)) slot (RaiseCutoff to) n ps changes later (second_touched slot from) inv.master (λ i apart. inv.slots i)
           (rewriting_keeps ps.master n changes slot t t.versions (max t.cutoff to) le (omega arith) (let c : t.cutoff ≤ n = le_trans h.good.cutoff le in omega arith) h.good.sorted
-              (below_later t.versions (t.clock + 1) (n + 1) (omega arith) h.good.below) (λ key x cut. refl) h)
-          inv.late })
+          (below_later t.versions (t.clock + 1) (n + 1) (omega arith) h.good.below) (λ key x cut. refl) h)
+          inv.late;
+    })
 
 -- sent marks that are lost are none of what holds
 master_restarted : (m : Master) (n : ℕ) (changes : List Change) → m.clock ≤ n → MasterGood m changes → MasterGood (restarted_master n m) changes
 master_restarted m n changes le h = let k = master_ticked m n changes le h in record {
-    namespaces = k.namespaces; tables = k.tables; cover = k.cover; spaces = k.spaces; past = k.past; complete = k.complete; listed = k.listed }
+  namespaces = k.namespaces;
+  tables = k.tables;
+  cover = k.cover;
+  spaces = k.spaces;
+  past = k.past;
+  complete = k.complete;
+  listed = k.listed;
+}
 
 slot_restarted : (m : Master) (n : ℕ) (changes : List Change) (slot : ℕ) (t : Tablet) → m.clock ≤ n → SlotGood m changes slot t → SlotGood (restarted_master n m) changes slot t
 slot_restarted m n changes slot t le h = let k = slot_ticked m n changes slot t le h in record {
-    good = k.good;
-    each = λ i isin is. let g = k.each i isin is in record {
-        past = g.past; over = g.over; drawn = g.drawn; drawn_table = g.drawn_table; slot_from = g.slot_from; slot_to = g.slot_to; present = g.present;
-        tablet_is = g.tablet_is; table_is = g.table_is; low_is = g.low_is; high_is = g.high_is; viewed = g.viewed; stands = g.stands };
-    opens = λ serving unfenced. let o = k.opens serving unfenced in record {
-        interval = o.interval; listed = o.listed; slot_is = o.slot_is; opened = o.opened; begun = o.begun; settled = o.settled };
-    later = k.later }
+  good = k.good;
+  each = λ i isin is. let g = k.each i isin is in record {
+    past = g.past;
+    over = g.over;
+    drawn = g.drawn;
+    drawn_table = g.drawn_table;
+    slot_from = g.slot_from;
+    slot_to = g.slot_to;
+    present = g.present;
+    tablet_is = g.tablet_is;
+    table_is = g.table_is;
+    low_is = g.low_is;
+    high_is = g.high_is;
+    viewed = g.viewed;
+    stands = g.stands;
+  };
+  opens = λ serving unfenced. let o = k.opens serving unfenced in record {
+    interval = o.interval;
+    listed = o.listed;
+    slot_is = o.slot_is;
+    opened = o.opened;
+    begun = o.begun;
+    settled = o.settled;
+  };
+  later = k.later;
+}
 
 -- and so is an inbox
 inbox_lost : (m : Master) (n : ℕ) (changes : List Change) (slot : ℕ) (t : Tablet) → t.clock ≤ n → SlotGood m changes slot t → SlotGood m changes slot (restarted n t)
 inbox_lost m n changes slot t le h = let k = tablet_ticked m n changes slot t le h in record {
-    good = record { sorted = k.good.sorted; below = k.good.below; cutoff = k.good.cutoff };
-    each = λ i isin is. let g = k.each i isin is in record {
-        past = g.past; over = g.over; drawn = g.drawn; drawn_table = g.drawn_table; slot_from = g.slot_from; slot_to = g.slot_to; present = g.present;
-        tablet_is = g.tablet_is; table_is = g.table_is; low_is = g.low_is; high_is = g.high_is; viewed = g.viewed; stands = g.stands };
-    opens = λ serving unfenced. let o = k.opens serving unfenced in record {
-        interval = o.interval; listed = o.listed; slot_is = o.slot_is; opened = o.opened; begun = o.begun; settled = o.settled };
-    later = k.later }
+  good = record { sorted = k.good.sorted; below = k.good.below; cutoff = k.good.cutoff };
+  each = λ i isin is. let g = k.each i isin is in record {
+    past = g.past;
+    over = g.over;
+    drawn = g.drawn;
+    drawn_table = g.drawn_table;
+    slot_from = g.slot_from;
+    slot_to = g.slot_to;
+    present = g.present;
+    tablet_is = g.tablet_is;
+    table_is = g.table_is;
+    low_is = g.low_is;
+    high_is = g.high_is;
+    viewed = g.viewed;
+    stands = g.stands;
+  };
+  opens = λ serving unfenced. let o = k.opens serving unfenced in record {
+    interval = o.interval;
+    listed = o.listed;
+    slot_is = o.slot_is;
+    opened = o.opened;
+    begun = o.begun;
+    settled = o.settled;
+  };
+  later = k.later;
+}
 
 master_lost : (ps : Parts) (changes : List Change) (n : ℕ) → Later (slots_of (Restart 0)) ps n → Inv ps changes
     → KeepsAll (Restart 0) n ps changes (record { master = Restarts; tablets = []; reply = Ok [] })
-master_lost ps changes n later inv = record { right = tt; inv = record {
+master_lost ps changes n later inv = record {
+  right = tt;
+  inv = record {
     master = master_restarted ps.master n changes (master_before (0 ∷ []) ps n later refl) inv.master;
     slots = λ i. slot_restarted ps.master n changes i _ (master_before (0 ∷ []) ps n later refl)
         (slots_ticked ps.master n changes i (has (0 ∷ []) i && not (eqb i 0)) (ps.tablet i) (tablet_before (0 ∷ []) ps n i later) (inv.slots i));
-    late = inv.late } }
+    late = inv.late;
+  };
+}
 
 restart_of : (ps : Parts) (changes : List Change) (n slot : ℕ) (b : Bool) → eqb slot 0 ≡ b → Later (slots_of (Restart slot)) ps n → Inv ps changes
     → KeepsAll (Restart slot) n ps changes (cond b (record { master = Restarts; tablets = []; reply = Ok [] }) (tells slot RestartTablet (Ok [])))
@@ -127,8 +182,11 @@ restart_of ps changes n slot true e later inv =
 restart_of ps changes n slot false e later inv =
     let from : 1 ≤ slot = grind (arith, nat_tests) in
     let le : (ps.tablet slot).clock ≤ n = le_of_lt (clock_before (slot ∷ []) ps n slot later from (has_it slot [])) in
-    record { right = tt; inv = one_told (Restart slot) (Ok []) slot RestartTablet n ps changes later (one_touched slot from) inv.master (λ i apart. inv.slots i)
-        (inbox_lost ps.master n changes slot (ps.tablet slot) le (inv.slots slot)) inv.late }
+    record {
+      right = tt;
+      inv = one_told (Restart slot) (Ok []) slot RestartTablet n ps changes later (one_touched slot from) inv.master (λ i apart. inv.slots i)
+          (inbox_lost ps.master n changes slot (ps.tablet slot) le (inv.slots slot)) inv.late;
+    }
 
 pub restart_keeps : (ps : Parts) (changes : List Change) (n slot : ℕ) → Later (slots_of (Restart slot)) ps n → Inv ps changes
     → KeepsAll (Restart slot) n ps changes (restart slot n ps)

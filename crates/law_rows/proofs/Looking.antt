@@ -36,10 +36,11 @@ keys_keeps namespace table batch at n ps changes later some inv =
     let home = holding m t.id (first_code batch) in
     let other = other_code home batch in
     let checks : List Check = If (is_none ns) UnknownNamespace ∷ If (is_future at n) (Future n) ∷ If (is_below at from) (TooOld (time_of at n) from) ∷ If (is_none found) UnknownTable
-      ∷ If (is_some fault) (unwrap_or fault UnknownColumn) ∷ If (is_some other) (CrossTablet (first_code batch) (unwrap_or other 0)) ∷ [] in
+    ∷ If (is_some fault) (unwrap_or fault UnknownColumn) ∷ If (is_some other) (CrossTablet (first_code batch) (unwrap_or other 0)) ∷ [] in
     record {
       right = (look_keys_right m n changes namespace table batch at (asked m n changes (later 0 refl) inv.master), keys_places ps n changes namespace table batch at (later 0 refl) inv some);
-      inv = judged_told checks (Look (AskKeys namespace table batch at)) (Placed (map place_of (option_to_list home)) t.schema.version t.schema.columns) n ps changes later inv }
+      inv = judged_told checks (Look (AskKeys namespace table batch at)) (Placed (map place_of (option_to_list home)) t.schema.version t.schema.columns) n ps changes later inv;
+    }
 
 pub table_keeps : (namespace table : List ℕ) (at : Option ℕ) (n : ℕ) (ps : Parts) (changes : List Change) → Later (slots_of (Look (AskTable namespace table at))) ps n
     → Inv ps changes → KeepsAll (Look (AskTable namespace table at)) n ps changes (look_table namespace table at n ps.master)
@@ -53,7 +54,8 @@ table_keeps namespace table at n ps changes later inv =
     let checks : List Check = If (is_none ns) UnknownNamespace ∷ If (is_future at n) (Future n) ∷ If (is_below at from) (TooOld (time_of at n) from) ∷ If (is_none found) UnknownTable ∷ [] in
     record {
       right = (look_table_right m n changes namespace table at (asked m n changes (later 0 refl) inv.master), table_places m n changes namespace table at (later 0 refl) inv.master (all_past ps changes inv));
-      inv = judged_told checks (Look (AskTable namespace table at)) (Placed (map place_of (by_range (active_in m t.id))) t.schema.version t.schema.columns) n ps changes later inv }
+      inv = judged_told checks (Look (AskTable namespace table at)) (Placed (map place_of (by_range (active_in m t.id))) t.schema.version t.schema.columns) n ps changes later inv;
+    }
 
 plan_keeps : (command : Command) (n : ℕ) (ps : Parts) (changes : List Change) → Later (slots_of (Look (AskPlan command))) ps n → Inv ps changes
     → KeepsAll (Look (AskPlan command)) n ps changes (look_plan command ps.master)

@@ -29,16 +29,18 @@ served_key : (places : List At) (key : List ℕ) (tablet : ℕ → Tablet) → m
 served_key [] key tablet e p isin = absurd isin
 served_key (q ∷ qs) key tablet e p isin = either_way (serves (tablet q.slot) q.tablet && covers (tablet q.slot) key)
     (λ b. elim isin as (λ _. serves (tablet p.slot) p.tablet ≡ true) [
-        inl same_ ↦ subst (λ r. serves (tablet r.slot) r.tablet ≡ true) same_ (both_pass (serves (tablet q.slot) q.tablet) (covers (tablet q.slot) key) b).0
-        | inr rest ↦ served_key qs key tablet (rw b at e) p rest ])
+      | inl same_ ↦ subst (λ r. serves (tablet r.slot) r.tablet ≡ true) same_ (both_pass (serves (tablet q.slot) q.tablet) (covers (tablet q.slot) key) b).0
+      | inr rest ↦ served_key qs key tablet (rw b at e) p rest
+    ])
     (λ b. absurd (let k : Some (moved q.slot (tablet q.slot)) ≡ None = rw b at e in grind arith))
 
 served_scan : (places : List At) (from : ℕ) (tablet : ℕ → Tablet) → moved_from_scan places from tablet ≡ None → (p : At) → In p places → serves (tablet p.slot) p.tablet ≡ true
 served_scan [] from tablet e p isin = absurd isin
 served_scan (q ∷ qs) from tablet e p isin = either_way (goes_on from (is_empty qs) q.tablet (tablet q.slot))
     (λ b. elim isin as (λ _. serves (tablet p.slot) p.tablet ≡ true) [
-        inl same_ ↦ subst (λ r. serves (tablet r.slot) r.tablet ≡ true) same_ (both_pass (serves (tablet q.slot) q.tablet) _ b).0
-        | inr rest ↦ served_scan qs (tablet q.slot).high tablet (rw b at e) p rest ])
+      | inl same_ ↦ subst (λ r. serves (tablet r.slot) r.tablet ≡ true) same_ (both_pass (serves (tablet q.slot) q.tablet) _ b).0
+      | inr rest ↦ served_scan qs (tablet q.slot).high tablet (rw b at e) p rest
+    ])
     (λ b. absurd (let k : Some (moved q.slot (tablet q.slot)) ≡ None = rw b at e in grind arith))
 
 served : (key : Option (List ℕ)) (places : List At) (tablet : ℕ → Tablet) → first_moved key places tablet ≡ None → (p : At) → In p places → serves (tablet p.slot) p.tablet ≡ true
@@ -52,16 +54,18 @@ neither (Some x) b e = absurd (let q = e in grind arith)
 unfenced : (places : List At) (tablet : ℕ → Tablet) → first_fence places tablet ≡ None → (p : At) → In p places → (tablet p.slot).fence ≡ None
 unfenced [] tablet e p isin = absurd isin
 unfenced (q ∷ qs) tablet e p isin = let both = neither (tablet q.slot).fence (first_fence qs tablet) e in elim isin as (λ _. (tablet p.slot).fence ≡ None) [
-    inl same_ ↦ subst (λ r. (tablet r.slot).fence ≡ None) same_ both.0
-    | inr rest ↦ unfenced qs tablet both.1 p rest ]
+  | inl same_ ↦ subst (λ r. (tablet r.slot).fence ≡ None) same_ both.0
+  | inr rest ↦ unfenced qs tablet both.1 p rest
+]
 
 recent : (places : List At) (at : Option ℕ) (tablet : ℕ → Tablet) → first_cutoff places at tablet ≡ None → (p : At) → In p places → is_below at (tablet p.slot).cutoff ≡ false
 recent [] at tablet e p isin = absurd isin
 recent (q ∷ qs) at tablet e p isin = either_way (is_below at (tablet q.slot).cutoff)
     (λ b. absurd (let k : Some (tablet q.slot).cutoff ≡ None = rw b at e in grind arith))
     (λ b. elim isin as (λ _. is_below at (tablet p.slot).cutoff ≡ false) [
-        inl same_ ↦ subst (λ r. is_below at (tablet r.slot).cutoff ≡ false) same_ b
-        | inr rest ↦ recent qs at tablet (rw b at e) p rest ])
+      | inl same_ ↦ subst (λ r. is_below at (tablet r.slot).cutoff ≡ false) same_ b
+      | inr rest ↦ recent qs at tablet (rw b at e) p rest
+    ])
 
 -- the asked time is at or after the cutoff
 reached : (at : Option ℕ) (n cutoff : ℕ) → cutoff ≤ n → is_below at cutoff ≡ false → cutoff ≤ time_of at n
@@ -71,14 +75,16 @@ reached (Some x) n cutoff le e = ltb-false x cutoff e
 place_touched : (places : List At) (p : At) → In p places → has (map (λ place. place.slot) places) p.slot ≡ true
 place_touched [] p isin = absurd isin
 place_touched (q ∷ qs) p isin = elim isin as (λ _. has (map (λ place. place.slot) (q ∷ qs)) p.slot ≡ true) [
-    inl same_ ↦ let e : q.slot ≡ p.slot = ap (λ r. r.slot) same_ in grind (arith, nat_tests)
-    | inr rest ↦ let r = place_touched qs p rest in grind (arith, nat_tests) ]
+  | inl same_ ↦ let e : q.slot ≡ p.slot = ap (λ r. r.slot) same_ in grind (arith, nat_tests)
+  | inr rest ↦ let r = place_touched qs p rest in grind (arith, nat_tests)
+]
 
 from_one : (slots : ℕ) (places : List At) (p : At) → AllOf (λ place. IsSlot slots place.slot) places → In p places → 1 ≤ p.slot
 from_one slots [] p all isin = absurd isin
 from_one slots (q ∷ qs) p all isin = elim isin as (λ _. 1 ≤ p.slot) [
-    inl same_ ↦ let e : q.slot ≡ p.slot = ap (λ r. r.slot) same_ in omega (arith, all.0)
-    | inr rest ↦ from_one slots qs p all.1 rest ]
+  | inl same_ ↦ let e : q.slot ≡ p.slot = ap (λ r. r.slot) same_ in omega (arith, all.0)
+  | inr rest ↦ from_one slots qs p all.1 rest
+]
 
 pub read_keeps : (slots : ℕ) (ps : Parts) (changes : List Change) (n : ℕ) (places : List At) (version : ℕ) (key : Option (List ℕ)) (at : Option ℕ) (columns : List ℕ)
     → Later (slots_of (Read places version key at columns)) ps n → AllOf (λ place. IsSlot slots place.slot) places → Inv ps changes
@@ -91,12 +97,12 @@ read_keeps slots ps changes n places version key at columns later asked inv =
     let cutoff = first_cutoff places at ps.tablet in
     let rows = cut_rows columns (in_order (λ r s. precedes r.key s.key) (rows_of_places places key (time_of at n) ps.tablet)) in
     by_checks act n ps changes
-      (If (is_some away) (unwrap_or away Idle) ∷ names (first_fence places ps.tablet) Fenced ∷ If (is_some other) (StaleSchema (unwrap_or other 0)) ∷ If (is_future at n) (Future n)
-        ∷ If (is_some cutoff) (TooOld (time_of at n) (unwrap_or cutoff 0)) ∷ [])
-      (answered (Rows rows))
-      (λ why. refused_keeps act why n ps changes later inv tt refl)
-      (λ passes. record {
-        right = read_right places ps.tablet changes key (time_of at n) columns (λ p k isin range.
+    (If (is_some away) (unwrap_or away Idle) ∷ names (first_fence places ps.tablet) Fenced ∷ If (is_some other) (StaleSchema (unwrap_or other 0)) ∷ If (is_future at n) (Future n)
+    ∷ If (is_some cutoff) (TooOld (time_of at n) (unwrap_or cutoff 0)) ∷ [])
+    (answered (Rows rows))
+    (λ why. refused_keeps act why n ps changes later inv tt refl)
+    (λ passes. record {
+      right = read_right places ps.tablet changes key (time_of at n) columns (λ p k isin range.
           let t = ps.tablet p.slot in
           let h = inv.slots p.slot in
           let serving : is_serving t.presence ≡ true = (both_pass (is_serving t.presence) (same t.tablet p.tablet) (served key places ps.tablet (none_is away passes.0) p isin)).0 in
@@ -105,4 +111,5 @@ read_keeps slots ps changes n places version key at columns later asked inv =
           let less : t.clock < n = clock_before (slots_of act) ps n p.slot later (from_one slots places p asked isin) (place_touched places p isin) in
           let cut : t.cutoff ≤ time_of at n = reached at n t.cutoff (le_trans h.good.cutoff (le_of_lt less)) (recent places at ps.tablet (none_is cutoff passes.1.1.1.1.0) p isin) in
           z.stands o.settled k (time_of at n) (rw (← z.low_is, ← z.high_is) range) cut (ap (before_end (time_of at n)) o.opened) ∙ ap (λ i. row_at changes (time_of at n) i k) (sym z.table_is));
-        inv = nothing_told act (Rows rows) n ps changes later inv })
+      inv = nothing_told act (Rows rows) n ps changes later inv;
+    })

@@ -60,11 +60,11 @@ not_written [] n table other t changes key x all h = refl
 not_written (item ∷ items) n table other t changes key x all h =
     let each = both_pass (covers t item.key) (list_all (λ i. covers t i.key) items) all in
     not_written items n table other t (row_change n table item ∷ changes) key x each.1 h
-      ∙ row_stays (leb n x) (same table other) (bytes_eq item.key key) (is_some (table_at changes x other)) (row_at changes x other key) (applied (row_at changes x other key) item.op)
-        (λ late tables_same keys_same.
-          let range : in_range t.low t.high (code_of key) ≡ true = subst (λ q. in_range t.low t.high (code_of q) ≡ true) (equal_keys item.key key keys_same) each.0 in
-          let sooner = h tables_same range in
-          let l : n ≤ x = leb-true _ _ late in absurd (omega arith))
+    ∙ row_stays (leb n x) (same table other) (bytes_eq item.key key) (is_some (table_at changes x other)) (row_at changes x other key) (applied (row_at changes x other key) item.op)
+    (λ late tables_same keys_same.
+    let range : in_range t.low t.high (code_of key) ≡ true = subst (λ q. in_range t.low t.high (code_of q) ≡ true) (equal_keys item.key key keys_same) each.0 in
+    let sooner = h tables_same range in
+    let l : n ≤ x = leb-true _ _ late in absurd (omega arith))
 
 -- from the stamp on the row of a key is what its items make of it
 row_then : (late table_same there key_same : Bool) (r s : Row) → late ≡ true → table_same ≡ true → there ≡ true
@@ -80,6 +80,6 @@ pub rows_written : (items : List Item) (n : ℕ) (table : Id) (changes : List Ch
 rows_written [] n table changes key x le there = refl
 rows_written (item ∷ items) n table changes key x le there =
     rows_written items n table (row_change n table item ∷ changes) key x le (ap is_some (one_way (leb n x) (table_at changes x table)) ∙ there)
-      ∙ ap (λ row. fold (item_step key) row items)
-        (row_then (leb n x) (same table table) (is_some (table_at changes x table)) (bytes_eq item.key key) (row_at changes x table key) (applied (row_at changes x table key) item.op)
-          (le-leb _ _ le) (same_self table) there)
+    ∙ ap (λ row. fold (item_step key) row items)
+    (row_then (leb n x) (same table table) (is_some (table_at changes x table)) (bytes_eq item.key key) (row_at changes x table key) (applied (row_at changes x table key) item.op)
+    (le-leb _ _ le) (same_self table) there)

@@ -36,18 +36,31 @@ master_written m n table batch changes h =
     let after = rows_made n table batch changes in
     record {
       namespaces = record {
-        past = h.namespaces.past; drawn_before = h.namespaces.drawn_before; unique = h.namespaces.unique; found = h.namespaces.found;
-        viewed = λ id x le. namespaces_stay batch n table changes x id ∙ h.namespaces.viewed id x le };
+        past = h.namespaces.past;
+        drawn_before = h.namespaces.drawn_before;
+        unique = h.namespaces.unique;
+        found = h.namespaces.found;
+        viewed = λ id x le. namespaces_stay batch n table changes x id ∙ h.namespaces.viewed id x le;
+      };
       tables = record {
-        past = h.tables.past; drawn_before = h.tables.drawn_before; owned = h.tables.owned; owners_drawn = h.tables.owners_drawn; unique = h.tables.unique; found = h.tables.found;
+        past = h.tables.past;
+        drawn_before = h.tables.drawn_before;
+        owned = h.tables.owned;
+        owners_drawn = h.tables.owners_drawn;
+        unique = h.tables.unique;
+        found = h.tables.found;
         viewed = λ id ns x owner le. tables_stay batch n table changes x id ∙ h.tables.viewed id ns x owner le;
         unmade = λ id x owner. tables_stay batch n table changes x id ∙ h.tables.unmade id x owner;
-        kept = h.tables.kept; columns = h.tables.columns; inside = λ id x v found. h.tables.inside id x v (sym (tables_stay batch n table changes x id) ∙ found) };
+        kept = h.tables.kept;
+        columns = h.tables.columns;
+        inside = λ id x v found. h.tables.inside id x v (sym (tables_stay batch n table changes x id) ∙ found);
+      };
       cover = record { once = h.cover.once; whole = λ t code x below is. h.cover.whole t code x below (ap is_some (sym (tables_stay batch n table changes x t)) ∙ is) };
       spaces = λ id x v found. h.spaces id x v (sym (tables_stay batch n table changes x id) ∙ found);
       past = λ ns to is. h.past ns to (sym (fixed_stay batch n table changes ns to) ∙ is);
       complete = h.complete;
-      listed = h.listed }
+      listed = h.listed;
+    }
 
 -- a namespace that has the table in the view at some time is the one that owns it
 owner_is : (ns : Id) (v : Option TableView) (owner : Option Id) → ((w : TableView) → v ≡ Some w → owner ≡ Some w.namespace) → is_in ns v ≡ true → owner ≡ Some ns
@@ -57,17 +70,28 @@ owner_is ns (Some w) owner h is = h w refl ∙ ap (λ k. Some k) (same_equal w.n
 -- a slot whose reads stay under the changes of rows
 slot_stays : (m : Master) (n : ℕ) (table : Id) (batch : List Item) (changes : List Change) (slot : ℕ) (t : Tablet)
     → ((i : Interval) (key : List ℕ) (x : ℕ) → In i m.activity → i.slot ≡ slot → in_range i.low i.high (code_of key) ≡ true → before_end x i.to ≡ true
-        → row_at (rows_made n table batch changes) x i.table key ≡ row_at changes x i.table key)
+    → row_at (rows_made n table batch changes) x i.table key ≡ row_at changes x i.table key)
     → SlotGood m changes slot t → SlotGood m (rows_made n table batch changes) slot t
 slot_stays m n table batch changes slot t stays h = record {
-    good = h.good;
-    each = λ i isin is. let g = h.each i isin is in record {
-        past = g.past; over = g.over; drawn = g.drawn; drawn_table = g.drawn_table; slot_from = g.slot_from; slot_to = g.slot_to; present = g.present; tablet_is = g.tablet_is;
-        table_is = g.table_is; low_is = g.low_is; high_is = g.high_is;
-        viewed = λ x active. ap is_some (tables_stay batch n table changes x i.table) ∙ g.viewed x active;
-        stands = λ settled key x ranged cut before. g.stands settled key x ranged cut before ∙ sym (stays i key x isin is ranged before) };
-    opens = h.opens;
-    later = λ ns to is. h.later ns to (sym (fixed_stay batch n table changes ns to) ∙ is) }
+  good = h.good;
+  each = λ i isin is. let g = h.each i isin is in record {
+    past = g.past;
+    over = g.over;
+    drawn = g.drawn;
+    drawn_table = g.drawn_table;
+    slot_from = g.slot_from;
+    slot_to = g.slot_to;
+    present = g.present;
+    tablet_is = g.tablet_is;
+    table_is = g.table_is;
+    low_is = g.low_is;
+    high_is = g.high_is;
+    viewed = λ x active. ap is_some (tables_stay batch n table changes x i.table) ∙ g.viewed x active;
+    stands = λ settled key x ranged cut before. g.stands settled key x ranged cut before ∙ sym (stays i key x isin is ranged before);
+  };
+  opens = h.opens;
+  later = λ ns to is. h.later ns to (sym (fixed_stay batch n table changes ns to) ∙ is);
+}
 
 -- before an open interval's end lies any time
 before_open : (x : ℕ) (to : Option ℕ) → to ≡ None → before_end x to ≡ true
@@ -89,23 +113,34 @@ slot_written m n batch changes slot t less serving unfenced all h =
     let z = h.each o.interval o.listed o.slot_is in
     let below = below_later t.versions (t.clock + 1) (n + 1) (omega arith) h.good.below in
     let there : (x : ℕ) → n ≤ x → is_some (table_at changes x t.table) ≡ true
-        = λ x le. ap (λ k. is_some (table_at changes x k)) z.table_is ∙ z.viewed x (passes_both _ _ (let b = o.begun in grind (arith, nat_tests)) (before_open x o.interval.to o.opened)) in
+    = λ x le. ap (λ k. is_some (table_at changes x k)) z.table_is ∙ z.viewed x (passes_both _ _ (let b = o.begun in grind (arith, nat_tests)) (before_open x o.interval.to o.opened)) in
     record {
       good = record { sorted = sorted_written batch t.versions n h.good.sorted below; below = below_written batch t.versions n (n + 1) (omega arith) below; cutoff = le_trans h.good.cutoff (le_of_lt less) };
       each = λ i isin is. let g = h.each i isin is in record {
-        past = g.past; over = over_later i.to i.from t.clock n (le_of_lt less) g.over; drawn = g.drawn; drawn_table = g.drawn_table; slot_from = g.slot_from; slot_to = g.slot_to;
-        present = g.present; tablet_is = g.tablet_is; table_is = g.table_is; low_is = g.low_is; high_is = g.high_is;
+        past = g.past;
+        over = over_later i.to i.from t.clock n (le_of_lt less) g.over;
+        drawn = g.drawn;
+        drawn_table = g.drawn_table;
+        slot_from = g.slot_from;
+        slot_to = g.slot_to;
+        present = g.present;
+        tablet_is = g.tablet_is;
+        table_is = g.table_is;
+        low_is = g.low_is;
+        high_is = g.high_is;
         viewed = λ x active. ap is_some (tables_stay batch n t.table changes x i.table) ∙ g.viewed x active;
         stands = λ settled key x ranged cut before. either_way (ltb x n)
-          (λ sooner. read_written_before batch t.versions n key x h.good.sorted below (ltb-true x n sooner) ∙ g.stands settled key x ranged cut before
-              ∙ sym (not_written batch n t.table i.table t changes key x all (λ a b. ltb-true x n sooner)))
-          (λ after. let le : n ≤ x = ltb-false x n after in
-              read_written batch t.versions n key x h.good.sorted below le
-              ∙ ap (λ row. fold (item_step key) row batch) (g.stands settled key x ranged cut before ∙ ap (λ k. row_at changes x k key) (sym g.table_is))
-              ∙ sym (rows_written batch n t.table changes key x le (there x le))
-              ∙ ap (λ k. row_at (rows_made n t.table batch changes) x k key) g.table_is) };
+            (λ sooner. read_written_before batch t.versions n key x h.good.sorted below (ltb-true x n sooner) ∙ g.stands settled key x ranged cut before
+            ∙ sym (not_written batch n t.table i.table t changes key x all (λ a b. ltb-true x n sooner)))
+            (λ after. let le : n ≤ x = ltb-false x n after in
+            read_written batch t.versions n key x h.good.sorted below le
+            ∙ ap (λ row. fold (item_step key) row batch) (g.stands settled key x ranged cut before ∙ ap (λ k. row_at changes x k key) (sym g.table_is))
+            ∙ sym (rows_written batch n t.table changes key x le (there x le))
+            ∙ ap (λ k. row_at (rows_made n t.table batch changes) x k key) g.table_is);
+      };
       opens = λ s u. let p = h.opens s u in record { interval = p.interval; listed = p.listed; slot_is = p.slot_is; opened = p.opened; begun = le_trans p.begun (le_of_lt less); settled = p.settled };
-      later = λ ns to is s u owned. le_trans (h.later ns to (sym (fixed_stay batch n t.table changes ns to) ∙ is) s u owned) (le_of_lt less) }
+      later = λ ns to is s u owned. le_trans (h.later ns to (sym (fixed_stay batch n t.table changes ns to) ∙ is) s u owned) (le_of_lt less);
+    }
 
 pub none_is : {A : Type 0} (o : Option A) → is_some o ≡ false → o ≡ None
 none_is None e = refl
@@ -129,24 +164,27 @@ written_inv ps changes n place version batch later from inv takes_ unfenced =
     let less : t.clock < n = clock_before (slot ∷ []) ps n slot later from (has_it slot []) in
     let o = h.opens serving unfenced in
     let z = h.each o.interval o.listed o.slot_is in
-    record { right = tt; inv = one_told (Write place version batch) (Ok []) slot (WriteRows batch) n ps (rows_made n t.table batch changes) later (one_touched slot from)
-        (master_written ps.master n t.table batch changes inv.master)
-        (λ j apart. slot_stays ps.master n t.table batch changes j (ps.tablet j)
+    record {
+      right = tt;
+      inv = one_told (Write place version batch) (Ok []) slot (WriteRows batch) n ps (rows_made n t.table batch changes) later (one_touched slot from)
+          (master_written ps.master n t.table batch changes inv.master)
+          (λ j apart. slot_stays ps.master n t.table batch changes j (ps.tablet j)
           (λ i key x isin is ranged before. not_written batch n t.table i.table t changes key x all
-            (λ tables_same range.
-              let g = (inv.slots j).each i isin is in
-              let soon : x < o.interval.from = ends_before ps.master.activity i o.interval t.table (code_of key) x (ps.tablet j).clock
-                  (inv.master.cover.once t.table (code_of key) (max i.from o.interval.from) (code_below key)) isin o.listed
-                  (λ e. true≢false (sym (eqb_at slot j (sym o.slot_is ∙ sym e ∙ is)) ∙ apart))
-                  (subst (λ k. same k t.table ≡ true) (same_equal t.table i.table tables_same) (same_self t.table))
-                  (subst (λ k. same k t.table ≡ true) z.table_is (same_self t.table))
-                  ranged (rw (← z.low_is, ← z.high_is) range) g.over o.opened before in
-              lt_of_lt_of_le soon (le_trans o.begun (le_of_lt less))))
+          (λ tables_same range.
+          let g = (inv.slots j).each i isin is in
+          let soon : x < o.interval.from = ends_before ps.master.activity i o.interval t.table (code_of key) x (ps.tablet j).clock
+          (inv.master.cover.once t.table (code_of key) (max i.from o.interval.from) (code_below key)) isin o.listed
+          (λ e. true≢false (sym (eqb_at slot j (sym o.slot_is ∙ sym e ∙ is)) ∙ apart))
+          (subst (λ k. same k t.table ≡ true) (same_equal t.table i.table tables_same) (same_self t.table))
+          (subst (λ k. same k t.table ≡ true) z.table_is (same_self t.table))
+          ranged (rw (← z.low_is, ← z.high_is) range) g.over o.opened before in
+          lt_of_lt_of_le soon (le_trans o.begun (le_of_lt less))))
           (inv.slots j))
-        (slot_written ps.master n batch changes slot t less serving unfenced all h)
-        (rows_not_late batch n t.table changes inv.late (λ ns to fixed is.
+          (slot_written ps.master n batch changes slot t less serving unfenced all h)
+          (rows_not_late batch n t.table changes inv.late (λ ns to fixed is.
           let l = h.later ns to fixed serving unfenced (owner_is ns (table_at changes to t.table) (owner_of ps.master.catalog.owners t.table) (λ w e. inv.master.spaces t.table to w e) is) in
-          omega arith)) }
+          omega arith));
+    }
 
 pub write_keeps : (ps : Parts) (changes : List Change) (n : ℕ) (place : At) (version : ℕ) (batch : List Item) → Later (slots_of (Write place version batch)) ps n → 1 ≤ place.slot → Inv ps changes
     → KeepsAll (Write place version batch) n ps changes (write place version batch n ps)
@@ -154,7 +192,7 @@ unfolding write
 write_keeps ps changes n place version batch later from inv =
     let t = ps.tablet place.slot in
     by_checks (Write place version batch) n ps changes
-      (If (not (takes t place.tablet batch)) (moved place.slot t) ∷ names t.fence Fenced ∷ If (not (eqb t.version version)) (StaleSchema t.version) ∷ [])
-      (tells place.slot (WriteRows batch) (Ok []))
-      (λ why. refused_keeps (Write place version batch) why n ps changes later inv tt refl)
-      (λ passes. written_inv ps changes n place version batch later from inv (passed _ passes.0) (none_is t.fence passes.1.0))
+    (If (not (takes t place.tablet batch)) (moved place.slot t) ∷ names t.fence Fenced ∷ If (not (eqb t.version version)) (StaleSchema t.version) ∷ [])
+    (tells place.slot (WriteRows batch) (Ok []))
+    (λ why. refused_keeps (Write place version batch) why n ps changes later inv tt refl)
+    (λ passes. written_inv ps changes n place version batch later from inv (passed _ passes.0) (none_is t.fence passes.1.0))

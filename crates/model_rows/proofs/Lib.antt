@@ -18,3 +18,6 @@ mod StandingRestores
 mod Windows
 pub mod CoordinatedRuns
 pub mod Histories
+mod RightWindows
+mod RightClones
+mod Covers

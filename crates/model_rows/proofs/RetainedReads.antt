@@ -1,25 +1,20 @@
 -- What retention keeps holds of the parts under a schedule, and not once a cutoff is too high.
-use Rattle.std.proofs.Common.{◌≡◌, ℕ, ◌≤◌, false, [], ◌∷◌, None, refl, arith, sym, subst, max, inl, inr}
+use Rattle.std.proofs.Common.{◌≡◌, ℕ, ◌≤◌, false, [], ◌∷◌, None, refl, arith, sym, subst, max, inl}
 use Rattle.std.proofs.lemmas.Bool.{leb-true}
 use Rattle.std.proofs.lemmas.Bool.Decides.{nat_tests}
-use Rattle.model.specs.Ids.{In}
-use Rattle.model.specs.Activity.{Interval}
 use Rattle.model.specs.History.{activity_of}
 use Rattle.model.specs.Parts.{Parts}
 use Rattle.model.specs.Records.{Schedule}
 use Rattle.model.specs.Retained.{Retained, RetainedFor, IsPresent}
 use Rattle.model.specs.Tablets.{is_vacant}
+use Rattle.model_rows.proofs.RightEntries.{only_one}
 use Rattle.model_rows.specs.Computed.{the_book}
-use Rattle.model_rows.specs.Scripts.{B, N, S, T, early, ready}
-
--- the interval of the one tablet, and the schedule
-abbrev interval : Interval
-interval = record { slot = 1; tablet = B 1; table = T 1; low = 0; high = 65536; from = early 2; to = None }
+use Rattle.model_rows.specs.Scripts.{since, N, S, early, ready}
 
 abbrev schedule : Schedule
 schedule = record { id = S 1; namespace = N 1; interval = 1; retention = 10; kept_low = early 3; last = None; complete = None }
 
-one_interval : activity_of 64 ready.entries ≡ interval ∷ []
+one_interval : activity_of 64 ready.entries ≡ since 2 ∷ []
 unfolding the_book
 one_interval = refl
 
@@ -27,18 +22,13 @@ only_slot : (slot : ℕ) → is_vacant (ready.parts.tablet slot).presence ≡ fa
 unfolding the_book
 only_slot slot here = grind (arith, nat_tests)
 
--- it is the one that each entry is equal to
-only_one : {A : Type 0} (x y : A) → In x (y ∷ []) → y ≡ x
-only_one x y (inl e) = e
-only_one x y (inr h) = absurd h
-
-ready_retained_for : RetainedFor ready.parts (interval ∷ []) schedule
+ready_retained_for : RetainedFor ready.parts (since 2 ∷ []) schedule
 unfolding the_book
 ready_retained_for = record {
   active_present = λ i time listed owned kept active.
-      subst (λ j. IsPresent ready.parts j.slot j.tablet) (only_one i interval listed) (record { held = refl; tablet_is = refl });
+      subst (λ j. IsPresent ready.parts j.slot j.tablet) (only_one i (since 2) listed) (record { held = refl; tablet_is = refl });
   reaches = λ i to listed owned kept before active.
-      let low : early 2 ≤ to = omega arith in subst (λ j. (ready.parts.tablet j.slot).cutoff ≤ to) (only_one i interval listed) low;
+      let low : early 2 ≤ to = omega arith in subst (λ j. (ready.parts.tablet j.slot).cutoff ≤ to) (only_one i (since 2) listed) low;
   cutoffs = λ slot i here last owned.
       let low : early 2 ≤ max (early 3) i.from = omega arith in
       subst (λ at. ((ready.parts.tablet at).cutoff ≤ max (early 3) i.from) × ((ready.parts.tablet at).cutoff ≤ early 3))
@@ -47,10 +37,10 @@ ready_retained_for = record {
   catalog = leb-true _ _ refl;
 }
 
-ready_retained : Retained ready.parts (interval ∷ [])
+ready_retained : Retained ready.parts (since 2 ∷ [])
 unfolding the_book
 ready_retained = record {
-  scheduled = λ s listed. subst (λ r. RetainedFor ready.parts (interval ∷ []) r) (only_one s schedule listed) ready_retained_for;
+  scheduled = λ s listed. subst (λ r. RetainedFor ready.parts (since 2 ∷ []) r) (only_one s schedule listed) ready_retained_for;
   listed = record { snapshots = λ r l listed. absurd listed; restorations = λ r l listed. absurd listed; clones = λ c p listed. absurd listed };
   unscheduled = λ slot i here last. subst (λ at. (ready.parts.tablet at).cutoff ≤ early 3) (sym (only_slot slot here)) (leb-true _ _ refl);
   catalog = λ ns. grind (arith, nat_tests);
@@ -60,8 +50,8 @@ ready_retained = record {
 abbrev cut_off : Parts
 cut_off = record ready.parts { tablet = λ slot. record (ready.parts.tablet slot) { cutoff = early 9 } }
 
-too_high_a_cutoff : Retained cut_off (interval ∷ []) → ⊥
+too_high_a_cutoff : Retained cut_off (since 2 ∷ []) → ⊥
 unfolding the_book
 too_high_a_cutoff retained =
-    let kept : early 9 ≤ early 3 = (retained.scheduled schedule (inl refl)).reaches interval (early 3) (inl refl) refl (leb-true _ _ refl) (leb-true _ _ refl) refl in
+    let kept : early 9 ≤ early 3 = (retained.scheduled schedule (inl refl)).reaches (since 2) (early 3) (inl refl) refl (leb-true _ _ refl) (leb-true _ _ refl) refl in
     omega arith

@@ -9,19 +9,18 @@ use Rattle.row_values.specs.declared.value.Cell.{Cell}
 use Rattle.row_values.specs.Codes.{code_of}
 use Rattle.row_values.specs.Rows.{cut_to}
 use Rattle.model.specs.Store.{in_range, present}
-use Rattle.model.specs.Acts.{At, Act, NamedCell, NamedUpsert, Place, Placed, Rows}
+use Rattle.model.specs.Acts.{At, Act, NamedCell, NamedItem, Placed, Rows}
 use Rattle.model.specs.Entries.{Entry}
 use Rattle.model.specs.History.{Right, ReplyRight, replay, journal_of}
 use Rattle.model.specs.Looks.{batch_fault, place_of}
 use Rattle.model.specs.Activity.{Interval, active_at}
 use Rattle.model.specs.Schema.{Column}
-use Rattle.model_rows.specs.UndoneRestore.{asked, asking, reading}
 use Rattle.model_rows.specs.Runs.{Run, entry_on, event_of, done}
 use Rattle.model.specs.Tablets.{Tablet}
 use Rattle.model.specs.Journal.{Change, ChangeAct, NamespaceRestored, NamespaceCloned, namespace_at, table_at, row_at}
 use Rattle.model.specs.Right.{NothingLate, is_fixed, TableFound, LookRight, PlacesRight, holds_keys, of_key, rows_of_places}
 use Rattle.model.specs.Ids.{Id, In}
-use Rattle.model_rows.specs.Scripts.{N, T, a, t, v, int_column, row}
+use Rattle.model_rows.specs.Scripts.{asked, asking, reading, t, row}
 
 -- a change that fixes no time of a namespace
 abbrev pub is_plain : ChangeAct → Bool
@@ -84,35 +83,42 @@ one_row changes time k columns tablets p cells own key = by (cases_Bool (bytes_e
 abbrev pub newest : Act → Run → Entry
 newest act run = entry_on (event_of act run) run.entries run.parts
 
--- the intervals that are active at a time
-abbrev pub active_ones : List Interval → ℕ → List Interval
-active_ones [] n = []
-active_ones (i ∷ is) n = if active_at n i then i ∷ active_ones is n else active_ones is n
+-- the intervals of which a test holds
+abbrev pub chosen : List Interval → (Interval → Bool) → List Interval
+chosen [] test = []
+chosen (i ∷ is) test = if test i then i ∷ chosen is test else chosen is test
 
-among_active : (is : List Interval) (n : ℕ) (i : Interval) → In i is → active_at n i ≡ true → In i (active_ones is n)
-among_active [] n i inside active = absurd inside
-among_active (j ∷ is) n i (inl e) active =
-    subst (λ test. In i (if test then j ∷ active_ones is n else active_ones is n)) (sym (subst (λ k. active_at n k ≡ true) (sym e) active)) (inl e)
-among_active (j ∷ is) n i (inr later) active = by (active_at n j) (among_active is n i later active)
+among_chosen : (is : List Interval) (test : Interval → Bool) (i : Interval) → In i is → test i ≡ true → In i (chosen is test)
+among_chosen [] test i inside holds = absurd inside
+among_chosen (j ∷ is) test i (inl e) holds =
+    subst (λ b. In i (if b then j ∷ chosen is test else chosen is test)) (sym (subst (λ k. test k ≡ true) (sym e) holds)) (inl e)
+among_chosen (j ∷ is) test i (inr later) holds = by (test j) (among_chosen is test i later holds)
   where
-    by : (test : Bool) → In i (active_ones is n) → In i (if test then j ∷ active_ones is n else active_ones is n)
+    by : (b : Bool) → In i (chosen is test) → In i (if b then j ∷ chosen is test else chosen is test)
     by true h = inr h
     by false h = h
 
-from_active : (is : List Interval) (n : ℕ) (i : Interval) → In i (active_ones is n) → In i is
-from_active [] n i inside = absurd inside
-from_active (j ∷ is) n i inside = by (active_at n j) (from_active is n i) inside
+from_chosen : (is : List Interval) (test : Interval → Bool) (i : Interval) → In i (chosen is test) → In i is
+from_chosen [] test i inside = absurd inside
+from_chosen (j ∷ is) test i inside = by (test j) (from_chosen is test i) inside
   where
-    by : (test : Bool) → (In i (active_ones is n) → In i is) → In i (if test then j ∷ active_ones is n else active_ones is n) → (j ≡ i) ⊎ In i is
+    by : (b : Bool) → (In i (chosen is test) → In i is) → In i (if b then j ∷ chosen is test else chosen is test) → (j ≡ i) ⊎ In i is
     by true rest (inl e) = inl e
     by true rest (inr h) = inr (rest h)
     by false rest h = inr (rest h)
+
+both : (b c : Bool) → b ≡ true → c ≡ true → (b && c) ≡ true
+both b c left right = subst (λ d. (d && c) ≡ true) (sym left) right
+
+-- whether an interval is active at a time, and its range holds all keys
+abbrev pub takes : ℕ → List NamedItem → Interval → Bool
+takes n batch i = active_at n i && holds_keys i batch
 
 pub only_one : {A : Type 0} (x y : A) → In x (y ∷ []) → y ≡ x
 only_one x y (inl e) = e
 only_one x y (inr h) = absurd h
 
--- a look that finds the table, in the one tablet that is active
+-- a look that finds the table, in the one tablet that is active and has the keys
 pub look_right : (slots : ℕ) (run : Run) (namespace : List ℕ) (owner table : Id) (key : List ℕ) (cells : List NamedCell) (now : Interval) (version : ℕ)
     (columns : List Column) → Right slots run.entries
     → (newest (asking namespace key cells) run).reply ≡ Placed (place_of now ∷ []) version columns
@@ -120,7 +126,7 @@ pub look_right : (slots : ℕ) (run : Run) (namespace : List ℕ) (owner table :
     → table_at (journal_of slots run.entries) (newest (asking namespace key cells) run).stamp table
     ≡ Some (record { namespace = owner; name = t; columns = columns })
     → batch_fault columns (asked key cells) ≡ None
-    → active_ones (replay slots run.entries).master.activity (newest (asking namespace key cells) run).stamp ≡ now ∷ []
+    → chosen (replay slots run.entries).master.activity (takes (newest (asking namespace key cells) run).stamp (asked key cells)) ≡ now ∷ []
     → now.table ≡ table → active_at (newest (asking namespace key cells) run).stamp now ≡ true → holds_keys now (asked key cells) ≡ true
     → NothingLate (journal_of slots run.entries)
     → Right slots (done (asking namespace key cells) run).entries
@@ -130,9 +136,9 @@ look_right slots run namespace owner table key cells now version columns right r
     let changes = journal_of slots run.entries in
     let ps = replay slots run.entries in
     let finding : TableFound changes n n namespace t = table_found changes n namespace owner table columns named found in
-    let known : In now ps.master.activity = from_active ps.master.activity n now (subst (λ is. In now is) (sym only) (inl refl)) in
+    let known : In now ps.master.activity = from_chosen ps.master.activity (takes n (asked key cells)) now (subst (λ is. In now is) (sym only) (inl refl)) in
     let look : LookRight changes n n namespace t (asked key cells) None (λ kept. columns ≡ kept) =
-            record { found = table_found changes n namespace owner table columns named found; columns_are = refl; judged = judged } in
+    record { found = table_found changes n namespace owner table columns named found; columns_are = refl; judged = judged } in
     let places : PlacesRight changes n n namespace t (asked key cells) ps.master.activity (place_of now ∷ []) = record {
       found = table_found changes n namespace owner table columns named found;
       each = λ p inside. record {
@@ -144,7 +150,7 @@ look_right slots run namespace owner table key cells now version columns right r
         placed = sym (only_one p (place_of now) inside);
       };
       all = λ i listed of_table at_stamp has_keys.
-          inl (ap place_of (only_one i now (subst (λ is. In i is) only (among_active ps.master.activity n i listed at_stamp))));
+          inl (ap place_of (only_one i now (subst (λ is. In i is) only (among_chosen ps.master.activity (takes n (asked key cells)) i listed (both _ _ at_stamp has_keys)))));
     } in
     (right, (subst (λ r. ReplyRight (asking namespace key cells) r n ps changes) (sym reply) (look, places), late))
 

@@ -1,23 +1,17 @@
 -- The history of a first write and read is right. It isn't where the read answers another value.
 use Rattle.std.proofs.Common.{◌≡◌, List, [], ◌∷◌, None, refl, ap, sym, ◌∙◌, inl}
 use Rattle.row_values.specs.declared.rows.KeyedRow.{KeyedRow}
-use Rattle.model.specs.Acts.{Placed, Rows, Reply, Refused, UnknownTable}
+use Rattle.model.specs.Acts.{Placed, Rows, Refused, UnknownTable}
 use Rattle.model.specs.Right.{IsActivePlace}
-use Rattle.model.specs.Schema.{Column}
 use Rattle.model.specs.Entries.{Entry}
 use Rattle.model.specs.History.{Right, journal_of}
 use Rattle.model_rows.proofs.RightEntries.{look_right, none_late, only_one, read_right, table_found}
 use Rattle.model_rows.proofs.Numbers.{first_number, none_is_not_one, two_is_not_one}
 use Rattle.model_rows.specs.Computed.{the_book}
 use Rattle.model_rows.specs.FirstRead.{made, written, been_read, namespace_made, table_made, changes}
-use Rattle.model_rows.specs.UndoneRestore.{asked, asking, place_one, since}
-use Rattle.model_rows.specs.Runs.{after, done}
-use Rattle.model_rows.specs.Scripts.{B, N, T, a, early, int_column, kept_v, look_for, place, row, t, v, v_is, x}
-
--- the newest entry answers this
-abbrev answered : Reply → List Entry → List Entry
-answered reply [] = []
-answered reply (e ∷ earlier) = record e { reply = reply } ∷ earlier
+use Rattle.model_rows.specs.UndoneRestore.{place_one}
+use Rattle.model_rows.specs.Runs.{after, answered, done}
+use Rattle.model_rows.specs.Scripts.{v_alone, asked, asking, since, B, N, T, a, early, kept_v, look_for, place, row, t, v_is, x}
 
 its_journal : journal_of 64 been_read.entries ≡ changes
 unfolding the_book
@@ -29,21 +23,18 @@ made_right =
     let named = none_late (namespace_made ∷ []) (refl, tt) in
     (((tt, (tt, named)), (tt, named)), (tt, none_late (table_made ∷ namespace_made ∷ []) (refl, (refl, tt))))
 
-abbrev named_v : List Column
-named_v = int_column 1 v ∷ []
-
 written_right : Right 64 written.entries
 unfolding the_book
 written_right =
     let late = none_late (table_made ∷ namespace_made ∷ []) (refl, (refl, tt)) in
-    (look_right 64 made a (N 1) (T 1) x (v_is 1) (since 2) 1 named_v made_right refl refl refl refl refl refl refl refl late, (tt, none_late changes (refl, (refl, (refl, tt)))))
+    (look_right 64 made a (N 1) (T 1) x (v_is 1) (since 2) 1 v_alone made_right refl refl refl refl refl refl refl refl late, (tt, none_late changes (refl, (refl, (refl, tt)))))
 
 been_read_right : Right 64 been_read.entries
 unfolding the_book
 been_read_right =
     let late = none_late changes (refl, (refl, (refl, tt))) in
     read_right 64 (done (asking a x []) written) place_one 1 x (1 ∷ []) (kept_v 1)
-    (look_right 64 written a (N 1) (T 1) x [] (since 2) 1 named_v written_right refl refl refl refl refl refl refl refl late) refl refl late
+    (look_right 64 written a (N 1) (T 1) x [] (since 2) 1 v_alone written_right refl refl refl refl refl refl refl refl late) refl refl late
 
 -- the same history with another value, or with no row
 
@@ -61,10 +52,10 @@ no_row_is_wrong right = none_is_not_one (ap first_number (right.1.0.each x))
 -- a look that answers that there is no table
 no_table_is_wrong : Right 64 (answered (Refused UnknownTable) (after (look_for a t x [] None) written).entries) → ⊥
 unfolding the_book
-no_table_is_wrong right = right.1.0.0.1 (table_found changes (early 4) a (N 1) (T 1) named_v refl refl)
+no_table_is_wrong right = right.1.0.0.1 (table_found changes (early 4) a (N 1) (T 1) v_alone refl refl)
 
 -- a look that answers another slot
-another_slot_is_wrong : Right 64 (answered (Placed (place 2 (B 1) 0 65536 ∷ []) 1 named_v) (after (look_for a t x [] None) written).entries) → ⊥
+another_slot_is_wrong : Right 64 (answered (Placed (place 2 (B 1) 0 65536 ∷ []) 1 v_alone) (after (look_for a t x [] None) written).entries) → ⊥
 unfolding the_book
 another_slot_is_wrong right = slot_of (right.1.0.1.each (place 2 (B 1) 0 65536) (inl refl))
   where

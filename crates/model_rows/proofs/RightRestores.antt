@@ -1,25 +1,22 @@
 -- The history of a restore, and of one that undoes it, is right.
-use Rattle.std.proofs.Common.{◌≡◌, ◌++◌, List, [], ◌∷◌, ◌<◌, refl, arith}
+use Rattle.std.proofs.Common.{◌≡◌, [], ◌∷◌, ◌<◌, refl, arith}
 use Rattle.std.proofs.lemmas.Bool.{leb-true, ltb-true}
 use Rattle.std.proofs.lemmas.Bool.Decides.{nat_tests}
 use Rattle.model.specs.History.{Right, journal_of}
 use Rattle.model.specs.Right.{NothingLate}
-use Rattle.model.specs.Schema.{Column}
 use Rattle.model_rows.proofs.CoordinatedRuns.{coordinated_right}
-use Rattle.model_rows.proofs.RightEntries.{none_late, table_found, look_right, read_right}
+use Rattle.model_rows.proofs.RightEntries.{none_late, look_right, read_right}
+use Rattle.model_rows.proofs.RightWindows.{late_catalog, ready_right}
 use Rattle.model_rows.specs.Computed.{the_book}
 use Rattle.model_rows.specs.FirstRead.{namespace_made, table_made}
-use Rattle.model_rows.specs.UndoneRestore.{since, asking, restoring, restored, seen, undoing, undone, been_read, place_one, row_of, two_rows, one_restore, all_changes}
+use Rattle.model_rows.specs.UndoneRestore.{restoring, restored, seen, undoing, undone, been_read, place_one, row_of, two_rows, one_restore, all_changes}
 use Rattle.model_rows.specs.Runs.{Run, after, done}
-use Rattle.model_rows.specs.Scripts.{N, T, a, early, home, int_column, kept_v, put, ready, t, v, v_is, x}
+use Rattle.model_rows.specs.Scripts.{v_alone, since, asking, N, T, a, early, home, kept_v, put, ready, t, v_is, x}
 
 -- the journal of it all
 its_journal : journal_of 64 been_read.entries ≡ all_changes
 unfolding the_book
 its_journal = refl
-
-none_late_in_catalog : NothingLate (table_made ∷ namespace_made ∷ [])
-none_late_in_catalog = none_late (table_made ∷ namespace_made ∷ []) (refl, (refl, tt))
 
 none_late_in_row : NothingLate (row_of 3 1 ∷ table_made ∷ namespace_made ∷ [])
 none_late_in_row = none_late (row_of 3 1 ∷ table_made ∷ namespace_made ∷ []) (refl, (refl, (refl, tt)))
@@ -35,23 +32,13 @@ none_late_in_all = ((none_late_in_one, λ ns to fixed of_it. grind (arith, nat_t
 
 -- each part of the run
 
-ready_right : Right 64 ready.entries
-unfolding the_book
-ready_right =
-    let named = none_late (namespace_made ∷ []) (refl, tt) in
-    let tabled = none_late (table_made ∷ namespace_made ∷ []) (refl, (refl, tt)) in
-    ((((tt, (tt, named)), (tt, named)), (tt, tabled)), (tt, tabled))
-
-abbrev named_v : List Column
-named_v = int_column 1 v ∷ []
-
 abbrev once_written : Run
 once_written = after (put a t (home 1) x (v_is 1)) ready
 
 once_written_right : Right 64 once_written.entries
 unfolding the_book
 once_written_right = (
-  look_right 64 ready a (N 1) (T 1) x (v_is 1) (since 2) 1 named_v ready_right refl refl refl refl refl refl refl refl none_late_in_catalog,
+  look_right 64 ready a (N 1) (T 1) x (v_is 1) (since 2) 1 v_alone ready_right refl refl refl refl refl refl refl refl late_catalog,
   (tt, none_late_in_row),
 )
 
@@ -59,7 +46,7 @@ restoring_right : Right 64 restoring.entries
 unfolding the_book
 restoring_right = (
   (
-    look_right 64 once_written a (N 1) (T 1) x (v_is 2) (since 2) 1 named_v once_written_right refl refl refl refl refl refl refl refl none_late_in_row,
+    look_right 64 once_written a (N 1) (T 1) x (v_is 2) (since 2) 1 v_alone once_written_right refl refl refl refl refl refl refl refl none_late_in_row,
     (tt, none_late_in_rows),
   ),
   (λ free. (leb-true (early 3) (early 3) refl, ltb-true (early 3) (early 6) refl), none_late_in_rows),
@@ -73,13 +60,13 @@ seen_right : Right 64 seen.entries
 unfolding the_book
 seen_right =
     read_right 64 (done (asking a x []) restored) place_one 2 x (1 ∷ []) (kept_v 1)
-    (look_right 64 restored a (N 1) (T 1) x [] (since 11) 2 named_v restored_right refl refl refl refl refl refl refl refl none_late_in_one) refl refl none_late_in_one
+    (look_right 64 restored a (N 1) (T 1) x [] (since 11) 2 v_alone restored_right refl refl refl refl refl refl refl refl none_late_in_one) refl refl none_late_in_one
 
 undoing_right : Right 64 undoing.entries
 unfolding the_book
 undoing_right =
     let late = none_late_in_all.0 in (
-      (look_right 64 seen a (N 1) (T 1) x (v_is 3) (since 11) 2 named_v seen_right refl refl refl refl refl refl refl refl none_late_in_one, (tt, late)),
+      (look_right 64 seen a (N 1) (T 1) x (v_is 3) (since 11) 2 v_alone seen_right refl refl refl refl refl refl refl refl none_late_in_one, (tt, late)),
       (λ free. (leb-true (early 3) (early 10) refl, ltb-true (early 10) (early 27) refl), late),
     )
 
@@ -92,7 +79,7 @@ been_read_right : Right 64 been_read.entries
 unfolding the_book
 been_read_right =
     read_right 64 (done (asking a x []) undone) place_one 3 x (1 ∷ []) (kept_v 2)
-    (look_right 64 undone a (N 1) (T 1) x [] (since 32) 3 named_v undone_right refl refl refl refl refl refl refl refl none_late_in_all) refl refl none_late_in_all
+    (look_right 64 undone a (N 1) (T 1) x [] (since 32) 3 v_alone undone_right refl refl refl refl refl refl refl refl none_late_in_all) refl refl none_late_in_all
 
 -- a change that comes too late: a row stamped at the time to which the journal has a restore
 late_row : NothingLate (row_of 3 9 ∷ one_restore) → ⊥

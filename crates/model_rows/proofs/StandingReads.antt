@@ -1,9 +1,8 @@
 -- The parts after a first write stand for its journal, and wouldn't without the version that it wrote.
-use Rattle.std.proofs.Common.{◌≡◌, ℕ, false, [], ◌∷◌, None, refl, arith, ap, sym, subst}
+use Rattle.std.proofs.Common.{◌≡◌, ℕ, false, [], ◌∷◌, refl, arith, ap, sym, subst}
 use Rattle.std.proofs.lemmas.Bool.{true≢false, leb-true, ltb-true}
 use Rattle.std.proofs.lemmas.Bool.Decides.{nat_tests}
 use Rattle.model.specs.Ids.{In}
-use Rattle.model.specs.Activity.{Interval}
 use Rattle.model.specs.Journal.{row_at}
 use Rattle.model.specs.Parts.{Parts}
 use Rattle.model.specs.Store.{read_of}
@@ -12,20 +11,16 @@ use Rattle.model.specs.Tablets.{FrozenSet, is_vacant}
 use Rattle.model_rows.proofs.Numbers.{none_is_not_one}
 use Rattle.model_rows.specs.Computed.{the_book}
 use Rattle.model_rows.specs.FirstRead.{changes, written}
-use Rattle.model_rows.specs.Scripts.{B, T, early, x}
+use Rattle.model_rows.specs.Scripts.{since, T, early, x}
 
 written_stands_at_one : LiveStands written.parts changes 1
 unfolding the_book
 written_stands_at_one = record { reads = λ i key time last inside from to before point there. grind (arith, nat_tests) }
 
--- the interval of the one tablet
-abbrev interval : Interval
-interval = record { slot = 1; tablet = B 1; table = T 1; low = 0; high = 65536; from = early 2; to = None }
-
 -- what is asked of a read can be met
 written_read : read_of (written.parts.tablet 1).versions x (early 3) ≡ row_at changes (early 3) (T 1) x
 unfolding the_book
-written_read = written_stands_at_one.reads interval x (early 3) refl refl (leb-true _ _ refl) (leb-true _ _ refl) refl refl refl
+written_read = written_stands_at_one.reads (since 2) x (early 3) refl refl (leb-true _ _ refl) (leb-true _ _ refl) refl refl refl
 
 only_slot : (slot : ℕ) → is_vacant (written.parts.tablet slot).presence ≡ false → slot ≡ 1
 unfolding the_book
@@ -49,12 +44,12 @@ lost = record written.parts { tablet = λ slot. record (written.parts.tablet slo
 lost_version : LiveStands lost changes 1 → ⊥
 unfolding the_book
 lost_version stands =
-    let e = stands.reads interval x (early 3) refl refl (leb-true _ _ refl) (leb-true _ _ refl) refl refl refl in true≢false (sym (ap (λ row. row.present) e))
+    let e = stands.reads (since 2) x (early 3) refl refl (leb-true _ _ refl) (leb-true _ _ refl) refl refl refl in true≢false (sym (ap (λ row. row.present) e))
 
 written_covers : Cover written.parts.master.activity changes
 unfolding the_book
 written_covers = λ table code time below there. grind (arith, nat_tests)
 
 -- ranges that leave codes out don't cover
-gap_in_cover : Cover (record interval { high = 30000 } ∷ []) changes → ⊥
+gap_in_cover : Cover (record (since 2) { high = 30000 } ∷ []) changes → ⊥
 gap_in_cover covers = none_is_not_one (covers (T 1) 40000 (early 3) (ltb-true _ _ refl) refl)

@@ -14,7 +14,7 @@ use Rattle.model.specs.Tablets.{FrozenSet}
 use Rattle.model_rows.proofs.Numbers.{first_cell, two_is_not_one}
 use Rattle.model_rows.specs.Computed.{the_book}
 use Rattle.model_rows.specs.Runs.{Run, coordinated}
-use Rattle.model_rows.specs.Scripts.{B, T, early, kept_v, x}
+use Rattle.model_rows.specs.Scripts.{since, B, T, early, kept_v, x}
 use Rattle.model_rows.specs.UndoneRestore.{one_restore, restored, restoring}
 
 -- the tablet was active before the restore's point, and is from it on
@@ -22,10 +22,7 @@ use Rattle.model_rows.specs.UndoneRestore.{one_restore, restored, restoring}
 abbrev until_point : Interval
 until_point = record { slot = 1; tablet = B 1; table = T 1; low = 0; high = 65536; from = early 2; to = Some (early 11) }
 
-abbrev since_point : Interval
-since_point = record { slot = 1; tablet = B 1; table = T 1; low = 0; high = 65536; from = early 11; to = None }
-
-its_activity : restored.parts.master.activity ≡ until_point ∷ since_point ∷ []
+its_activity : restored.parts.master.activity ≡ until_point ∷ since 11 ∷ []
 unfolding the_book
 its_activity = refl
 
@@ -39,7 +36,7 @@ none_before : (table : Id) (time : ℕ) → time < early 2 → table_at one_rest
 none_before table time soon = grind (arith, nat_tests)
 
 held_once : (table : Id) (code time : ℕ) → code < 65536 → same (T 1) table ≡ true → early 2 ≤ time
-    → holders (until_point ∷ since_point ∷ []) table code time ≡ 1
+    → holders (until_point ∷ since 11 ∷ []) table code time ≡ 1
 held_once table code time below it later = grind (arith, nat_tests)
 
 restored_covers : Cover restored.parts.master.activity one_restore
@@ -48,7 +45,7 @@ restored_covers = λ table code time below there. by table code time below there
   where
     by : (table : Id) (code time : ℕ) → code < 65536 → is_some (table_at one_restore time table) ≡ true
         → (same (T 1) table ≡ true) ⊎ (same (T 1) table ≡ false) → ((leb (early 2) time ≡ true) × (early 2 ≤ time)) ⊎ ((leb (early 2) time ≡ false) × (time < early 2))
-        → holders (until_point ∷ since_point ∷ []) table code time ≡ 1
+        → holders (until_point ∷ since 11 ∷ []) table code time ≡ 1
     by table code time below there (inr other) when = absurd (not_there _ there (no_other_table table time other))
     by table code time below there (inl it) (inr (e, soon)) = absurd (not_there _ there (none_before table time soon))
     by table code time below there (inl it) (inl (e, later)) = held_once table code time below it later

@@ -85,3 +85,8 @@ Given slots (e ∷ earlier) = (e ≡ entry_of slots e.event earlier) × Given sl
 pub record IsHistory (slots : ℕ) (run : Run) : Type 0 where
   pub parts : run.parts ≡ replay slots run.entries
   pub given : Given slots run.entries
+
+-- a history whose newest entry answers this
+abbrev pub answered : Reply → List Entry → List Entry
+answered reply [] = []
+answered reply (e ∷ earlier) = record e { reply = reply } ∷ earlier

@@ -8,7 +8,8 @@ use Rattle.row_values.specs.declared.value.RowOp.TheVariants.{Upsert, Delete}
 use Rattle.row_values.specs.declared.rows.KeyedRow.{KeyedRow}
 use Rattle.model.specs.Ids.{Id, Namespace, Table, Tablet, Schedule, Snapshot, Restoration, Clone, no_id}
 use Rattle.model.specs.Schema.{Column, IntColumn, TextColumn, NewColumn, column_named, column_ids}
-use Rattle.model.specs.Acts.{NamedCell, NamedUpsert, NamedDelete, Command, CreateNamespace, CreateTable, CreateSchedule, Restore, TakeSnapshot, AskPlan, AskKeys, AskTable, AskPresent, AskRemovable, At, Look, Change, Write, Read, Cutoff, Compact, Ack, Remove, Prune, Restart, Stats, Place, Ok, Planned, Placed, Rows, Refusal, Refused, Reply}
+use Rattle.model.specs.Activity.{Interval}
+use Rattle.model.specs.Acts.{Act, NamedCell, NamedItem, NamedUpsert, NamedDelete, Command, CreateNamespace, CreateTable, CreateSchedule, Restore, TakeSnapshot, AskPlan, AskKeys, AskTable, AskPresent, AskRemovable, At, Look, Change, Write, Read, Cutoff, Compact, Ack, Remove, Prune, Restart, Stats, Place, Ok, Planned, Placed, Rows, Refusal, Refused, Reply}
 use Rattle.model_rows.specs.Runs.{Line, Tick, Do, Coordinate, Shown, Gave, Did, Run, begun, after, shown_newest}
 
 -- identifiers of each kind by number
@@ -258,9 +259,13 @@ prelude_shown = ok (early 0) (N 1 ∷ []) ++ planned (early 1) (1 ∷ []) ++ ok 
 abbrev pub ready : Run
 ready = after prelude (begun 64)
 
+-- the prelude's one column
+abbrev pub v_alone : List Column
+v_alone = int_column 1 v ∷ []
+
 -- the prelude's table in one tablet of slot 1, as looks see it under a version of its schema
 abbrev pub home : ℕ → Seen
-home version = record { places = place 1 (B 1) 0 65536 ∷ []; version = version; columns = int_column 1 v ∷ [] }
+home version = record { places = place 1 (B 1) 0 65536 ∷ []; version = version; columns = v_alone }
 
 -- a number
 abbrev pub number : ℕ → Value
@@ -272,3 +277,18 @@ v_is n = set v (number n) ∷ []
 
 abbrev pub kept_v : ℕ → List Cell
 kept_v n = cell 1 (number n) ∷ []
+
+-- the acts of a look for a key of a table named t, and of a read of a key at one place
+
+abbrev pub asked : List ℕ → List NamedCell → List NamedItem
+asked key cells = record { key = key; op = NamedUpsert cells } ∷ []
+
+abbrev pub asking : List ℕ → List ℕ → List NamedCell → Act
+asking namespace key cells = Look (AskKeys namespace t (asked key cells) None)
+
+abbrev pub reading : At → ℕ → List ℕ → List ℕ → Act
+reading p version key columns = Read (p ∷ []) version (Some key) None columns
+
+-- the prelude's tablet, active from a time on
+abbrev pub since : ℕ → Interval
+since logical = record { slot = 1; tablet = B 1; table = T 1; low = 0; high = 65536; from = early logical; to = None }

@@ -1,31 +1,17 @@
 -- A restore and one that undoes it, as runs, and the journal that they make.
-use Rattle.std.specs.Prelude.{ℕ, List, [], ◌∷◌, ◌++◌, None, Some}
+use Rattle.std.specs.Prelude.{ℕ, List, [], ◌∷◌, ◌++◌}
 use Rattle.row_values.specs.declared.value.RowOp.TheVariants.{Upsert}
-use Rattle.model.specs.Acts.{Act, At, Look, Read, AskKeys, NamedCell, NamedItem, NamedUpsert}
-use Rattle.model.specs.Activity.{Interval}
+use Rattle.model.specs.Acts.{At}
 use Rattle.model.specs.Journal.{Change, NamespaceRestored, RowChanged}
 use Rattle.model_rows.specs.FirstRead.{namespace_made, table_made}
 use Rattle.model_rows.specs.Runs.{Run, after, coordinated, done}
-use Rattle.model_rows.specs.Scripts.{B, N, T, a, early, home, kept_v, put, ready, restore, t, v_is, x}
-
-abbrev pub asked : List ℕ → List NamedCell → List NamedItem
-asked key cells = record { key = key; op = NamedUpsert cells } ∷ []
-
-abbrev pub asking : List ℕ → List ℕ → List NamedCell → Act
-asking namespace key cells = Look (AskKeys namespace t (asked key cells) None)
-
-abbrev pub reading : At → ℕ → List ℕ → List ℕ → Act
-reading p version key columns = Read (p ∷ []) version (Some key) None columns
+use Rattle.model_rows.specs.Scripts.{asking, reading, B, N, T, a, early, home, kept_v, put, ready, restore, t, v_is, x}
 
 abbrev pub restoring : Run
 restoring = after (put a t (home 1) x (v_is 1) ++ put a t (home 1) x (v_is 2) ++ restore (early 3)) ready
 
 abbrev pub restored : Run
 restored = coordinated 60 restoring
-
--- the prelude's tablet, active from a time on
-abbrev pub since : ℕ → Interval
-since logical = record { slot = 1; tablet = B 1; table = T 1; low = 0; high = 65536; from = early logical; to = None }
 
 abbrev pub place_one : At
 place_one = record { slot = 1; tablet = B 1 }

@@ -1,13 +1,15 @@
 -- The history of a first write and read is legal.
-use Rattle.std.proofs.Common.{◌≡◌, ℕ, ◌<◌, ◌≤◌, ◌^◌, ◌+◌, length, None, List, [], ◌∷◌, refl, arith, true, ltb}
+use Rattle.std.proofs.Common.{ap, ◌≡◌, ℕ, ◌<◌, ◌≤◌, ◌^◌, ◌+◌, length, None, List, [], ◌∷◌, refl, arith, true, ltb}
 use Rattle.std.proofs.lemmas.Bool.{ltb-true}
 use Rattle.model.specs.Times.{end_of_time}
-use Rattle.model.specs.Acts.{Event, CreateTable, NamedCell, NamedUpsert, AskKeys}
+use Rattle.model.specs.Acts.{Reply, Rows, Event, CreateTable, NamedCell, NamedUpsert, AskKeys}
 use Rattle.model.specs.Entries.{Entry, ActAsked, CommandAsked, AskAsked, AllOf, IsName, IsValue, stamp_of, log_of}
 use Rattle.model.specs.History.{Legal, IsStep, replay, entry_of, held, most_entries}
+use Rattle.model_rows.proofs.Numbers.{first_number, two_is_not_one}
 use Rattle.model_rows.specs.Computed.{the_book}
 use Rattle.model_rows.specs.FirstRead.{made, been_read}
-use Rattle.model_rows.specs.Scripts.{a, t, x, v, new_int, v_is}
+use Rattle.model_rows.specs.Runs.{answered}
+use Rattle.model_rows.specs.Scripts.{early, kept_v, row, a, t, x, v, new_int, v_is}
 
 -- the entry that an event makes is a step where the event is as it is asked, and time and room are left
 step_of : (slots : ℕ) (event : Event) (earlier : List Entry) → ActAsked slots event.act → ltb event.reading (2 ^ 50) ≡ true
@@ -58,3 +60,21 @@ been_read_legal = (
   ),
   step_of 64 _ _ (at_most 1 1 refl, (one_to 64 refl, tt), one_to 64 refl, tt) refl refl refl,
 )
+
+-- with another stamp, or another reply, the history isn't legal
+
+abbrev stamped : ℕ → List Entry → List Entry
+stamped n [] = []
+stamped n (e ∷ earlier) = record e { stamp = n } ∷ earlier
+
+another_stamp : Legal 64 (stamped (early 9) been_read.entries) → ⊥
+unfolding the_book
+another_stamp legal = let e : early 9 ≡ early 4 = legal.1.stamp in omega arith
+
+another_reply : Legal 64 (answered (Rows (row x (kept_v 2) ∷ [])) been_read.entries) → ⊥
+unfolding the_book
+another_reply legal = two_is_not_one (ap reply_number legal.1.reply)
+  where
+    reply_number : Reply → ℕ
+    reply_number (Rows rows) = first_number rows
+    reply_number _ = 0

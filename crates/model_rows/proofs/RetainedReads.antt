@@ -2,7 +2,7 @@
 use Rattle.std.proofs.Common.{◌≡◌, ℕ, ◌≤◌, false, [], ◌∷◌, None, refl, arith, sym, subst, max, inl}
 use Rattle.std.proofs.lemmas.Bool.{leb-true}
 use Rattle.std.proofs.lemmas.Bool.Decides.{nat_tests}
-use Rattle.model.specs.History.{activity_of}
+use Rattle.model.specs.History.{activity_of, snapshots_taken}
 use Rattle.model.specs.Parts.{Parts}
 use Rattle.model.specs.Records.{Schedule}
 use Rattle.model.specs.Retained.{Retained, RetainedFor, IsPresent}
@@ -14,6 +14,10 @@ use Rattle.model_rows.specs.Scripts.{since, N, S, early, ready}
 abbrev schedule : Schedule
 schedule = record { id = S 1; namespace = N 1; interval = 1; retention = 10; kept_low = early 3; last = None; complete = None }
 
+no_snapshots : snapshots_taken 64 ready.entries ≡ []
+unfolding the_book
+no_snapshots = refl
+
 one_interval : activity_of 64 ready.entries ≡ since 2 ∷ []
 unfolding the_book
 one_interval = refl
@@ -22,7 +26,7 @@ only_slot : (slot : ℕ) → is_vacant (ready.parts.tablet slot).presence ≡ fa
 unfolding the_book
 only_slot slot here = grind (arith, nat_tests)
 
-ready_retained_for : RetainedFor ready.parts (since 2 ∷ []) schedule
+ready_retained_for : RetainedFor ready.parts (since 2 ∷ []) [] schedule
 unfolding the_book
 ready_retained_for = record {
   active_present = λ i time listed owned kept active.
@@ -33,16 +37,17 @@ ready_retained_for = record {
       let low : early 2 ≤ max (early 3) i.from = omega arith in
       subst (λ at. ((ready.parts.tablet at).cutoff ≤ max (early 3) i.from) × ((ready.parts.tablet at).cutoff ≤ early 3))
       (sym (only_slot slot here)) (low, leb-true _ _ refl);
-  snapshots = tt;
+  times = tt;
+  unfinished_one = tt;
   catalog = leb-true _ _ refl;
 }
 
-ready_retained : Retained ready.parts (since 2 ∷ [])
+ready_retained : Retained ready.parts (since 2 ∷ []) []
 unfolding the_book
 ready_retained = record {
-  scheduled = λ s listed. subst (λ r. RetainedFor ready.parts (since 2 ∷ []) r) (only_one s schedule listed) ready_retained_for;
+  scheduled = λ s listed. subst (λ r. RetainedFor ready.parts (since 2 ∷ []) [] r) (only_one s schedule listed) ready_retained_for;
   listed = record { snapshots = λ r l listed. absurd listed; restorations = λ r l listed. absurd listed; clones = λ c p listed. absurd listed };
-  unscheduled = λ slot i here last. subst (λ at. (ready.parts.tablet at).cutoff ≤ early 3) (sym (only_slot slot here)) (leb-true _ _ refl);
+  cutoffs = λ slot here. subst (λ at. (ready.parts.tablet at).cutoff ≤ early 3) (sym (only_slot slot here)) (leb-true _ _ refl);
   catalog = λ ns. grind (arith, nat_tests);
 }
 
@@ -50,7 +55,7 @@ ready_retained = record {
 abbrev cut_off : Parts
 cut_off = record ready.parts { tablet = λ slot. record (ready.parts.tablet slot) { cutoff = early 9 } }
 
-too_high_a_cutoff : Retained cut_off (since 2 ∷ []) → ⊥
+too_high_a_cutoff : Retained cut_off (since 2 ∷ []) [] → ⊥
 unfolding the_book
 too_high_a_cutoff retained =
     let kept : early 9 ≤ early 3 = (retained.scheduled schedule (inl refl)).reaches (since 2) (early 3) (inl refl) refl (leb-true _ _ refl) (leb-true _ _ refl) refl in

@@ -1,8 +1,10 @@
 -- The history of a restore, and of one that undoes it, is right.
-use Rattle.std.proofs.Common.{◌≡◌, [], ◌∷◌, ◌<◌, refl, arith}
+use Rattle.std.proofs.Common.{◌≡◌, [], ◌∷◌, ◌<◌, map, refl, arith}
 use Rattle.std.proofs.lemmas.Bool.{leb-true, ltb-true}
 use Rattle.std.proofs.lemmas.Bool.Decides.{nat_tests}
-use Rattle.model.specs.History.{Right, journal_of}
+use Rattle.model.specs.History.{Right, journal_of, snapshots_taken}
+use Rattle.model.specs.Drawn.{version_by}
+use Rattle.model.specs.Records.{SnapshotRecord}
 use Rattle.model.specs.Right.{NothingLate}
 use Rattle.model_rows.proofs.CoordinatedRuns.{coordinated_right}
 use Rattle.model_rows.proofs.RightEntries.{none_late, look_right, read_right}
@@ -84,3 +86,12 @@ been_read_right =
 -- a change that comes too late: a row stamped at the time to which the journal has a restore
 late_row : NothingLate (row_of 3 9 ∷ one_restore) → ⊥
 late_row late = let after : early 3 < early 3 = late.1 (N 1) (early 3) refl refl in omega arith
+
+-- the snapshots that were taken: one on behalf of each restore
+its_snapshots : map {A = SnapshotRecord} (λ r. r.at) (snapshots_taken 64 been_read.entries) ≡ early 10 ∷ early 31 ∷ []
+unfolding the_book
+its_snapshots = refl
+
+-- each restore gave the table a new version of its schema
+its_version : version_by all_changes (T 1) ≡ 3
+its_version = refl

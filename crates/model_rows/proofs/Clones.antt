@@ -1,10 +1,10 @@
 -- Clones: of a source that goes on, and without slots for one.
 use Rattle.std.proofs.Common.{◌≡◌, [], ◌∷◌, ◌++◌, None, Some, refl}
-use Rattle.model.specs.Acts.{CloneNamespace, Clones, CreateTable, DropTable, ListClones, SlotsFull, Split, UnknownTable}
+use Rattle.model.specs.Acts.{Counts, CloneNamespace, Clones, CreateTable, DropTable, ListClones, SlotsFull, Split, UnknownTable}
 use Rattle.model.specs.Records.{IsComplete}
 use Rattle.model_rows.specs.Computed.{the_book}
 use Rattle.model_rows.specs.Runs.{begun, shown}
-use Rattle.model_rows.specs.Scripts.{B, K, N, S, Seen, T, a, b, change, create_namespace, create_schedule, did, early, gave, get, home, int_column, kept_v, look_for, new_int, ok, place, placed, planned, planned_change, put, ready, refused, row, rows, settle, t, tick, v, v_is, x}
+use Rattle.model_rows.specs.Scripts.{stats, B, K, N, S, Seen, T, a, b, change, create_namespace, create_schedule, did, early, gave, get, home, int_column, kept_v, look_for, new_int, ok, place, placed, planned, planned_change, put, ready, refused, row, rows, settle, t, tick, v, v_is, x}
 
 abbrev target : Seen
 target = record { places = place 2 (B 2) 0 65536 ∷ []; version = 1; columns = int_column 1 v ∷ [] }
@@ -50,3 +50,11 @@ clone_without_slots : shown
     ++ ok (early 5) (N 2 ∷ [])
 unfolding the_book
 clone_without_slots = refl
+
+-- the target's cutoff is the stamp at which it became current
+cloned_tablet : shown (put a t (home 1) x (v_is 1) ++ change (CloneNamespace a b (Some (early 4))) ++ settle ++ stats 2) ready
+    ≡ placed (early 4) (home 1) ++ ok (early 3) []
+    ++ ok (early 5) (K 1 ∷ []) ++ did 14
+    ++ gave (early 19) (Counts (early 15) 1 0 0)
+unfolding the_book
+cloned_tablet = refl

@@ -2,11 +2,11 @@
 use Rattle.std.proofs.Common.{◌≡◌, ℕ, [], ◌∷◌, ◌++◌, List, Some, refl}
 use Rattle.row_values.specs.declared.value.Value.TheVariants.{Text}
 use Rattle.row_values.specs.declared.value.Cell.{Cell}
-use Rattle.model.specs.Acts.{AddColumn, Compacted, DropTable, ListTablets, Present, Pruned, Removable, Tablets}
+use Rattle.model.specs.Acts.{Counts, AddColumn, Compacted, DropTable, ListTablets, Present, Pruned, Removable, Tablets}
 use Rattle.model.specs.Schema.{TextColumn}
 use Rattle.model_rows.specs.Computed.{the_book}
 use Rattle.model_rows.specs.Runs.{Line, Shown, shown}
-use Rattle.model_rows.specs.Scripts.{number, B, R, Seen, T, a, cell, change, compact, did, early, gave, get, home, int_column, kept_v, look_present, look_removable, ok, place, placed, planned, planned_change, prune, put, q, ready, restore, row, rows, set, settle, t, text_column, v, v_is, w, x}
+use Rattle.model_rows.specs.Scripts.{stats, number, B, R, Seen, T, a, cell, change, compact, did, early, gave, get, home, int_column, kept_v, look_present, look_removable, ok, place, placed, planned, planned_change, prune, put, q, ready, restore, row, rows, set, settle, t, text_column, v, v_is, w, x}
 
 -- a value, and the table is dropped
 abbrev dropped : List Line
@@ -77,3 +77,12 @@ undoing_a_restore : shown
     ++ placed (early 46) (home 3) ++ rows (early 45) (row x (kept_v 2) ∷ [])
 unfolding the_book
 undoing_a_restore = refl
+
+-- a restored tablet has one version of each row, and its cutoff is the restore's point; the snapshot keeps the others
+restored_tablet : shown (put a t (home 1) x (v_is 1) ++ put a t (home 1) x (v_is 2) ++ restore (early 3) ++ settle ++ stats 1) ready
+    ≡ placed (early 4) (home 1) ++ ok (early 3) []
+    ++ placed (early 5) (home 1) ++ ok (early 4) []
+    ++ ok (early 6) (R 1 ∷ []) ++ did 18
+    ++ gave (early 24) (Counts (early 11) 1 2 0)
+unfolding the_book
+restored_tablet = refl

@@ -66,10 +66,11 @@ abbrev pub current_table : List TableRecord → Id → Option TableRecord
 current_table [] id = None
 current_table (r ∷ rs) id = if is_open r.to && same r.id id then Some r else current_table rs id
 
--- the tables of a namespace that are current, and those that stood at x
+-- the current tables of a namespace
 abbrev pub current_tables : List TableRecord → Id → List TableRecord
 current_tables rs ns = filter (λ r. is_open r.to && same r.namespace ns) rs
 
+-- the tables with one more, in order of id
 abbrev pub put_table : TableRecord → List TableRecord → List TableRecord
 put_table t [] = t ∷ []
 put_table t (u ∷ us) = if nat_lt t.id.number u.id.number then t ∷ u ∷ us else u ∷ put_table t us
@@ -78,6 +79,7 @@ abbrev pub by_id : List TableRecord → List TableRecord
 by_id [] = []
 by_id (t ∷ ts) = put_table t (by_id ts)
 
+-- the tables of a namespace that stood at x, in order of id
 abbrev pub tables_at : List TableRecord → Id → ℕ → List TableRecord
 tables_at rs ns x = by_id (filter (λ r. holds_at x r.from r.to && same r.namespace ns) rs)
 
@@ -89,6 +91,7 @@ latest_from (r ∷ rs) id found = latest_from rs id (if same r.id id then Some r
 abbrev pub latest : List TableRecord → Id → Option Schema
 latest rs id = latest_from rs id None
 
+-- the mark of a namespace; one without a mark keeps all
 abbrev pub kept_from : List KeptFrom → Id → ℕ
 kept_from [] ns = 0
 kept_from (k ∷ ks) ns = if same k.namespace ns then k.from else kept_from ks ns
@@ -98,6 +101,7 @@ abbrev pub set_kept_from : List KeptFrom → Id → ℕ → List KeptFrom
 set_kept_from [] ns from = record { namespace = ns; from = from } ∷ []
 set_kept_from (k ∷ ks) ns from = if same k.namespace ns then record { namespace = ns; from = max k.from from } ∷ ks else k ∷ set_kept_from ks ns from
 
+-- the namespace in which a table was made
 abbrev pub owner_of : List Owner → Id → Option Id
 owner_of [] table = None
 owner_of (o ∷ os) table = if same o.table table then Some o.namespace else owner_of os table

@@ -37,7 +37,7 @@ free_slots m = filter (is_free m) (counting m.slots 1)
 abbrev pub least_slots : ℕ → List ℕ → List ℕ
 least_slots count slots = if nat_le count (length slots) then take count slots else []
 
--- the namespace that is found, or that of nothing
+-- the identifier that is found, or that of nothing
 abbrev pub known : Option Id → Id
 known id = unwrap_or id no_id
 

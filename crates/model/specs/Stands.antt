@@ -11,7 +11,7 @@ use Rattle.model.specs.Catalog.{owns}
 use Rattle.model.specs.Activity.{Interval, active_at, last_of}
 use Rattle.row_values.specs.declared.value.RowOp.{RowOp}
 use Rattle.model.specs.Journal.{Change, NamespaceMade, NamespaceDropped, TableMade, TableRenamed, TableDropped, ColumnAdded, ColumnDropped, RowChanged, NamespaceRestored, NamespaceCloned, source_of, table_at, row_at}
-use Rattle.model.specs.Tablets.{Tablet, Body, RestoreFrom, BodyKind, FenceKind, FreezeKind, RestoreFromKind, HideKind, CopyKind, ReleaseKind, kind_of, Command, Mark, FrozenSet, is_vacant, is_serving, is_done, holds_command, set_of}
+use Rattle.model.specs.Tablets.{Tablet, Body, RestoreFrom, Release, BodyKind, FenceKind, FreezeKind, RestoreFromKind, HideKind, CopyKind, ReleaseKind, kind_of, Command, Mark, FrozenSet, is_vacant, is_serving, is_done, holds_command, set_of}
 use Rattle.model.specs.Records.{Listed, SnapshotRecord, RestorationRecord, RestorationState, Fencing, Snapshotting, Switching, Restoring, Releasing, Restored, CloneRecord, CloneState, Accepted, CloneSnapshot, Copying, CloneReleasing, CloneComplete, is_restored, is_cloned, point_of, TabletPair}
 use Rattle.model.specs.Parts.{Parts}
 
@@ -200,13 +200,16 @@ pub record RecordFacts (ps : Parts) (changes : List Change) : Type 0 where
   -- a restoration's point comes after the rows that it undoes
   pub after_rows : (r : RestorationRecord) (point : ℕ) → In r ps.master.restorations → point_of r.state ≡ Some point → AfterRows r.namespace point ps changes
   -- a tablet that was sent a command, or did it, has a clock above the stamp at which the record entered the state that gives it: so it
-  -- is above a snapshot's time, the time that a restoration goes to, its point from the switch on, and the stamp of a clone's copies
+  -- is above a snapshot's time, the time that a restoration goes to, its point from the switch on, the stamp of a clone's copies, and
+  -- the stamp at which its target became current
   pub after_freeze : (slot : ℕ) (r : SnapshotRecord) → In r ps.master.snapshots → was_given (ps.tablet slot) r.id FreezeKind ≡ true → r.at < (ps.tablet slot).clock
   pub after_fence : (slot : ℕ) (r : RestorationRecord) → In r ps.master.restorations → was_given (ps.tablet slot) r.id FenceKind ≡ true → r.to < (ps.tablet slot).clock
   pub after_point : (slot : ℕ) (r : RestorationRecord) (point : ℕ) (kind : BodyKind) → In r ps.master.restorations → point_of r.state ≡ Some point
       → is_after_switch kind ≡ true → was_given (ps.tablet slot) r.id kind ≡ true → point < (ps.tablet slot).clock
   pub after_copy : (slot : ℕ) (c : CloneRecord) (at : ℕ) (kind : BodyKind) → In c ps.master.clones → copied_at c.state ≡ Some at
       → was_given (ps.tablet slot) c.id kind ≡ true → at < (ps.tablet slot).clock
+  pub after_release : (c : CloneRecord) (l : Listed) (cutoff : ℕ) → In c ps.master.clones → In l c.listed → l.body ≡ Release cutoff
+      → was_given (ps.tablet l.slot) c.id ReleaseKind ≡ true → cutoff < (ps.tablet l.slot).clock
   pub fences : (slot : ℕ) (operation : Id) → (ps.tablet slot).fence ≡ Some operation → FenceFacts ps slot operation
   pub once : (slot : ℕ) → NoneTwice (ps.tablet slot).inbox
   pub fresh : (slot : ℕ) (c : Command) → In c (ps.tablet slot).inbox → is_done (ps.tablet slot).done c.operation (kind_of c.body) ≡ false

@@ -44,7 +44,7 @@ unfolding change
 change_keeps command slots ps changes n later inv keeps =
     let kept = plan_of command ps.master in
     by_cases (same_slots slots kept) (StalePlan kept) (Change command slots) n ps changes (planned command slots n ps)
-      (refused_keeps (Change command slots) (StalePlan kept) n ps changes later inv (stale_right command slots kept n ps changes) refl) keeps
+    (refused_keeps (Change command slots) (StalePlan kept) n ps changes later inv (stale_right command slots kept n ps changes) refl) keeps
 
 list_tablets_keeps : (ps : Parts) (changes : List Made) (n : ℕ) (namespace slots : List ℕ) → Later (0 ∷ slots) ps n → Inv ps changes
     → KeepsAll (Change (ListTablets namespace) slots) n ps changes (list_tablets namespace ps)
@@ -54,8 +54,8 @@ list_tablets_keeps ps changes n namespace slots later inv =
     let m = ps.master in
     let ns = namespace_named m.catalog.namespaces namespace in
     by_checks act n ps changes (If (is_none ns) UnknownNamespace ∷ []) (answered (Tablets (tablet_lines m (known ns))))
-      (λ why. refused_keeps act why n ps changes later inv tt refl)
-      (λ passes. record { right = tt; inv = nothing_told act (Tablets (tablet_lines m (known ns))) n ps changes later inv })
+    (λ why. refused_keeps act why n ps changes later inv tt refl)
+    (λ passes. record { right = tt; inv = nothing_told act (Tablets (tablet_lines m (known ns))) n ps changes later inv })
 
 planned_keeps : (command : Command) (slots : List ℕ) (ps : Parts) (changes : List Made) (n : ℕ) → IsOfCatalog command → CommandAsked command → Later (0 ∷ slots) ps n → Inv ps changes
     → same_slots slots (plan_of command ps.master) ≡ true → KeepsAll (Change command slots) n ps changes (planned command slots n ps)

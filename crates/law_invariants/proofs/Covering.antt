@@ -21,8 +21,9 @@ use Rattle.law_invariants.proofs.Journaling.{IsQuiet, made_before, made_others, 
 -- under a change that makes and drops no table
 pub quiet_covers : (activity : List Interval) (changes new : List Change) → IsQuiet changes new → Covered activity changes → Covered activity new
 quiet_covers activity changes new quiet h = record {
-    once = h.once;
-    whole = λ table code x small is. h.whole table code x small (sym (quiet.tables x table).there ∙ is) }
+  once = h.once;
+  whole = λ table code x small is. h.whole table code x small (sym (quiet.tables x table).there ∙ is);
+}
 
 -- where a table is made that had no tablet and was never in the view, and the codes are shared out among its tablets
 pub made_covers : (activity : List Interval) (changes : List Change) (slots : List ℕ) (tablets n : ℕ) (m : Master) (ns : Id) (name : List ℕ) (columns : List Column) → 0 < tablets → length slots ≡ tablets
@@ -32,44 +33,46 @@ made_covers activity changes slots tablets n m ns name columns pos long apart un
     let id = next_table m in
     let new = with n (TableMade id ns name columns) changes in
     let both : (table : Id) (code x : ℕ) → holders (activity ++ shares slots 0 tablets n m) table code x ≡ holders activity table code x + holders (shares slots 0 tablets n m) table code x =
-        λ table code x. holders_append activity (shares slots 0 tablets n m) table code x in
+    λ table code x. holders_append activity (shares slots 0 tablets n m) table code x in
     let others : (table : Id) (code x : ℕ) → same id table ≡ false → holders (activity ++ shares slots 0 tablets n m) table code x ≡ holders activity table code x =
-        λ table code x e. (let b = both table code x in let z = shares_others slots 0 tablets n m table code x e in omega arith) in
+    λ table code x e. (let b = both table code x in let z = shares_others slots 0 tablets n m table code x e in omega arith) in
     let before : (table : Id) (code x : ℕ) → x < n → holders (activity ++ shares slots 0 tablets n m) table code x ≡ holders activity table code x =
-        λ table code x l. (let b = both table code x in let z = shares_early slots 0 tablets n m table code x l in omega arith) in
+    λ table code x l. (let b = both table code x in let z = shares_early slots 0 tablets n m table code x l in omega arith) in
     let mine : (code x : ℕ) → code < 65536 → n ≤ x → holders (activity ++ shares slots 0 tablets n m) id code x ≡ 1 =
-        λ code x small late. (
-            let b = both id code x in
-            let z = none_hold activity id code x apart in
-            let s = shares_hold slots 0 tablets n m code x pos (omega (arith, long)) small late in
-            let low : 0 * 65536 / tablets ≤ 0 = div-le_self (0 * 65536) tablets in
-            let is : leb (0 * 65536 / tablets) code ≡ true = grind (arith, nat_tests) in
-            let o : one (leb (0 * 65536 / tablets) code) ≡ 1 = ap one is in
-            omega arith) in
+    λ code x small late. (
+    let b = both id code x in
+    let z = none_hold activity id code x apart in
+    let s = shares_hold slots 0 tablets n m code x pos (omega (arith, long)) small late in
+    let low : 0 * 65536 / tablets ≤ 0 = div-le_self (0 * 65536) tablets in
+    let is : leb (0 * 65536 / tablets) code ≡ true = grind (arith, nat_tests) in
+    let o : one (leb (0 * 65536 / tablets) code) ≡ 1 = ap one is in
+    omega arith) in
     record {
-    once = λ table code x small. either_way (same id table)
-        (λ e. either_way (leb n x)
-            (λ l. let q : holders (activity ++ shares slots 0 tablets n m) table code x ≡ 1 =
-                      subst (λ t. holders (activity ++ shares slots 0 tablets n m) t code x ≡ 1) (same_equal id table e) (mine code x small (leb-true n x l)) in omega arith)
-            (λ l. let q = before table code x (let k : x < n = grind (arith, nat_tests) in k) in let o = h.once table code x small in omega arith))
-        (λ e. let q = others table code x e in let o = h.once table code x small in omega arith);
-    whole = λ table code x small is. either_way (same id table)
-        (λ e. either_way (leb n x)
-            (λ l. subst (λ t. holders (activity ++ shares slots 0 tablets n m) t code x ≡ 1) (same_equal id table e) (mine code x small (leb-true n x l)))
-            (λ l. let k : x < n = grind (arith, nat_tests) in
-                let was : is_some (table_at changes x table) ≡ true = ap is_some (sym (made_before n id ns name columns changes x table k)) ∙ is in
-                absurd (true≢false (sym was ∙ ap (λ t. is_some (table_at changes x t)) (sym (same_equal id table e)) ∙ unmade x))))
-        (λ e. others table code x e ∙ h.whole table code x small (ap is_some (sym (made_others n id ns name columns changes x table e)) ∙ is)) }
+      once = λ table code x small. either_way (same id table)
+          (λ e. either_way (leb n x)
+          (λ l. let q : holders (activity ++ shares slots 0 tablets n m) table code x ≡ 1 =
+          subst (λ t. holders (activity ++ shares slots 0 tablets n m) t code x ≡ 1) (same_equal id table e) (mine code x small (leb-true n x l)) in omega arith)
+          (λ l. let q = before table code x (let k : x < n = grind (arith, nat_tests) in k) in let o = h.once table code x small in omega arith))
+          (λ e. let q = others table code x e in let o = h.once table code x small in omega arith);
+      whole = λ table code x small is. either_way (same id table)
+          (λ e. either_way (leb n x)
+          (λ l. subst (λ t. holders (activity ++ shares slots 0 tablets n m) t code x ≡ 1) (same_equal id table e) (mine code x small (leb-true n x l)))
+          (λ l. let k : x < n = grind (arith, nat_tests) in
+          let was : is_some (table_at changes x table) ≡ true = ap is_some (sym (made_before n id ns name columns changes x table k)) ∙ is in
+          absurd (true≢false (sym was ∙ ap (λ t. is_some (table_at changes x t)) (sym (same_equal id table e)) ∙ unmade x))))
+          (λ e. others table code x e ∙ h.whole table code x small (ap is_some (sym (made_others n id ns name columns changes x table e)) ∙ is));
+    }
 
 -- where a table is dropped and its tablets end
 pub dropped_covers : (activity : List Interval) (changes : List Change) (id : Id) (n : ℕ) → Covered activity changes → Covered (end_table_tablets id n activity) (with n (TableDropped id) changes)
 dropped_covers activity changes id n h = record {
-    once = λ table code x small. le_trans (ended_less activity id n table code x) (h.once table code x small);
-    whole = λ table code x small is. either_way (same id table)
-        (λ e. either_way (leb n x)
-            (λ l. let gone : is_some (table_at (with n (TableDropped id) changes) x table) ≡ false =
-                      subst (λ t. is_some (table_at (with n (TableDropped id) changes) x t) ≡ false) (same_equal id table e) (ap is_some (dropped_here n id changes x (leb-true n x l))) in
-                  absurd (true≢false (sym is ∙ gone)))
-            (λ l. let k : x < n = grind (arith, nat_tests) in
-                ended_early activity id n table code x k ∙ h.whole table code x small (ap is_some (sym (dropped_before n id changes x table k)) ∙ is)))
-        (λ e. ended_others activity id n table code x e ∙ h.whole table code x small (ap is_some (sym (dropped_others n id changes x table e)) ∙ is)) }
+  once = λ table code x small. le_trans (ended_less activity id n table code x) (h.once table code x small);
+  whole = λ table code x small is. either_way (same id table)
+      (λ e. either_way (leb n x)
+      (λ l. let gone : is_some (table_at (with n (TableDropped id) changes) x table) ≡ false =
+      subst (λ t. is_some (table_at (with n (TableDropped id) changes) x t) ≡ false) (same_equal id table e) (ap is_some (dropped_here n id changes x (leb-true n x l))) in
+      absurd (true≢false (sym is ∙ gone)))
+      (λ l. let k : x < n = grind (arith, nat_tests) in
+      ended_early activity id n table code x k ∙ h.whole table code x small (ap is_some (sym (dropped_before n id changes x table k)) ∙ is)))
+      (λ e. ended_others activity id n table code x e ∙ h.whole table code x small (ap is_some (sym (dropped_others n id changes x table e)) ∙ is));
+}

@@ -55,7 +55,7 @@ ended_less [] gone n table code x = le_refl 0
 ended_less (i ∷ is) gone n table code x =
     let rest = ended_less is gone n table code x in
     let weaker : before_end x (cond (same i.table gone) (ended n i.to) i.to) ≡ true → before_end x i.to ≡ true =
-        cond_both (same i.table gone) (ended n i.to) i.to (λ to. before_end x to ≡ true → before_end x i.to ≡ true) (λ e. end_weaker x n i.to) (λ e h. h) in
+    cond_both (same i.table gone) (ended n i.to) i.to (λ to. before_end x to ≡ true → before_end x i.to ≡ true) (λ e. end_weaker x n i.to) (λ e h. h) in
     let here = fewer (same i.table table) (leb i.from x) (before_end x i.to) (before_end x (cond (same i.table gone) (ended n i.to) i.to)) (in_range i.low i.high code) weaker in
     omega arith
 
@@ -64,7 +64,7 @@ ended_early [] gone n table code x l = refl
 ended_early (i ∷ is) gone n table code x l =
     let rest = ended_early is gone n table code x l in
     let same_end : before_end x (cond (same i.table gone) (ended n i.to) i.to) ≡ before_end x i.to =
-        cond_both (same i.table gone) (ended n i.to) i.to (λ to. before_end x to ≡ before_end x i.to) (λ e. early x n i.to l) (λ e. refl) in
+    cond_both (same i.table gone) (ended n i.to) i.to (λ to. before_end x to ≡ before_end x i.to) (λ e. early x n i.to l) (λ e. refl) in
     let here = alike (same i.table table) (leb i.from x) (before_end x i.to) (before_end x (cond (same i.table gone) (ended n i.to) i.to)) (in_range i.low i.high code) same_end in
     omega arith
 
@@ -74,9 +74,9 @@ ended_others (i ∷ is) gone n table code x apart =
     let rest = ended_others is gone n table code x apart in
     let k : Option ℕ = cond (same i.table gone) (ended n i.to) i.to in
     let here : one (holds (record i { to = k }) table code x) ≡ one (holds i table code x) = either_way (same i.table gone)
-        (λ e. let far : same i.table table ≡ false = ap (λ t. same t table) (same_equal i.table gone e) ∙ apart in
-            ap one (first_fails _ _ far) ∙ sym (ap one (first_fails _ _ far)))
-        (λ e. ap (λ b. one (holds (record i { to = cond b (ended n i.to) i.to }) table code x)) e) in
+    (λ e. let far : same i.table table ≡ false = ap (λ t. same t table) (same_equal i.table gone e) ∙ apart in
+    ap one (first_fails _ _ far) ∙ sym (ap one (first_fails _ _ far)))
+    (λ e. ap (λ b. one (holds (record i { to = cond b (ended n i.to) i.to }) table code x)) e) in
     omega arith
 
 -- The tablets of a new table
@@ -89,7 +89,7 @@ shares_early (slot ∷ slots) place count n m table code x l =
     let low = place * 65536 / count in
     let high = (place + 1) * 65536 / count in
     let here : one (same (next_table m) table && ((leb n x && true) && in_range low high code)) ≡ 0 =
-        ap (λ b. one (same (next_table m) table && ((b && true) && in_range low high code))) late ∙ ap one (off (same (next_table m) table)) in
+    ap (λ b. one (same (next_table m) table && ((b && true) && in_range low high code))) late ∙ ap one (off (same (next_table m) table)) in
     omega arith
   where
     off : (a : Bool) → (a && false) ≡ false
@@ -123,6 +123,6 @@ shares_hold (slot ∷ slots) place count n m code x pos places small late =
     let up : low ≤ high = div_up (place * 65536) ((place + 1) * 65536) count pos (omega arith) in
     let begun : leb n x ≡ true = grind (arith, nat_tests) in
     let here : one (same (next_table m) (next_table m) && ((leb n x && true) && in_range low high code)) ≡ one (in_range low high code) =
-        ap (λ b. one (b && ((leb n x && true) && in_range low high code))) (same_self (next_table m)) ∙ ap (λ b. one ((b && true) && in_range low high code)) begun in
+    ap (λ b. one (b && ((leb n x && true) && in_range low high code))) (same_self (next_table m)) ∙ ap (λ b. one ((b && true) && in_range low high code)) begun in
     let sum = parts low high code up in
     omega arith

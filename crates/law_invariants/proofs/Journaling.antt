@@ -59,33 +59,38 @@ table_cases false c before after h = stays before
 
 pub namespace_made_quiet : (n : ℕ) (ns : Id) (name : List ℕ) (changes : List Change) → IsQuiet changes (with n (NamespaceMade ns name) changes)
 namespace_made_quiet n ns name changes = record {
-    tables = λ x table. table_same (leb n x) (table_at changes x table);
-    rows = λ x table key. row_same (leb n x) (row_at changes x table key);
-    fixed = λ ns to. refl }
+  tables = λ x table. table_same (leb n x) (table_at changes x table);
+  rows = λ x table key. row_same (leb n x) (row_at changes x table key);
+  fixed = λ ns to. refl;
+}
 
 pub namespace_dropped_quiet : (n : ℕ) (ns : Id) (changes : List Change) → IsQuiet changes (with n (NamespaceDropped ns) changes)
 namespace_dropped_quiet n ns changes = record {
-    tables = λ x table. table_same (leb n x) (table_at changes x table);
-    rows = λ x table key. row_same (leb n x) (row_at changes x table key);
-    fixed = λ ns to. refl }
+  tables = λ x table. table_same (leb n x) (table_at changes x table);
+  rows = λ x table key. row_same (leb n x) (row_at changes x table key);
+  fixed = λ ns to. refl;
+}
 
 pub table_renamed_quiet : (n : ℕ) (id : Id) (name : List ℕ) (changes : List Change) → IsQuiet changes (with n (TableRenamed id name) changes)
 table_renamed_quiet n id name changes = record {
-    tables = λ x table. table_cases (leb n x) (same id table) (table_at changes x table) _ (renamed_stays name (table_at changes x table));
-    rows = λ x table key. row_same (leb n x) (row_at changes x table key);
-    fixed = λ ns to. refl }
+  tables = λ x table. table_cases (leb n x) (same id table) (table_at changes x table) _ (renamed_stays name (table_at changes x table));
+  rows = λ x table key. row_same (leb n x) (row_at changes x table key);
+  fixed = λ ns to. refl;
+}
 
 pub column_added_quiet : (n : ℕ) (id : Id) (column : Column) (changes : List Change) → IsQuiet changes (with n (ColumnAdded id column) changes)
 column_added_quiet n id column changes = record {
-    tables = λ x table. table_cases (leb n x) (same id table) (table_at changes x table) _ (added_stays column (table_at changes x table));
-    rows = λ x table key. row_same (leb n x) (row_at changes x table key);
-    fixed = λ ns to. refl }
+  tables = λ x table. table_cases (leb n x) (same id table) (table_at changes x table) _ (added_stays column (table_at changes x table));
+  rows = λ x table key. row_same (leb n x) (row_at changes x table key);
+  fixed = λ ns to. refl;
+}
 
 pub column_dropped_quiet : (n : ℕ) (id : Id) (column : ℕ) (changes : List Change) → IsQuiet changes (with n (ColumnDropped id column) changes)
 column_dropped_quiet n id column changes = record {
-    tables = λ x table. table_cases (leb n x) (same id table) (table_at changes x table) _ (dropped_stays column (table_at changes x table));
-    rows = λ x table key. row_same (leb n x) (row_at changes x table key);
-    fixed = λ ns to. refl }
+  tables = λ x table. table_cases (leb n x) (same id table) (table_at changes x table) _ (dropped_stays column (table_at changes x table));
+  rows = λ x table key. row_same (leb n x) (row_at changes x table key);
+  fixed = λ ns to. refl;
+}
 
 -- A table is made
 
@@ -148,7 +153,7 @@ no_restored ns (Some t) b then_ before h e =
     either_way (same t.namespace ns)
     (λ s. absurd (let k : Some t ≡ None = rw s at q in none_some t k))
     (λ s. let k : restored_table ns None b ≡ None = rw s at q in
-        ap (λ c. cond c then_ (restored_row ns None b then_ before)) s ∙ no_restored_before ns b then_ before h k)
+    ap (λ c. cond c then_ (restored_row ns None b then_ before)) s ∙ no_restored_before ns b then_ before h k)
 
 no_moved : (ns : Id) (t : Option TableView) → moved_to ns t ≡ None → t ≡ None
 no_moved ns None e = refl
@@ -196,13 +201,13 @@ pub no_rows : (changes : List Change) (x : ℕ) (table : Id) (key : List ℕ) �
 no_rows [] x table key e = refl
 no_rows (c ∷ earlier) x table key e = either_way (leb c.stamp x)
     (λ b. let q : cond (leb c.stamp x) (table_after c.act table (table_at earlier x) (table_at earlier)) (table_at earlier x table) ≡ None = e in
-        let k : table_after c.act table (table_at earlier x) (table_at earlier) ≡ None = rw b at q in
-        ap (λ w. cond w (row_after c.act table key (table_at earlier x) (table_at earlier) (row_at earlier x) (row_at earlier)) (row_at earlier x table key)) b
-            ∙ no_rows_after c.act table key (table_at earlier x) (table_at earlier) (row_at earlier x) (row_at earlier) (λ t. no_rows earlier x t key) (λ y t. no_rows earlier y t key) k)
+    let k : table_after c.act table (table_at earlier x) (table_at earlier) ≡ None = rw b at q in
+    ap (λ w. cond w (row_after c.act table key (table_at earlier x) (table_at earlier) (row_at earlier x) (row_at earlier)) (row_at earlier x table key)) b
+    ∙ no_rows_after c.act table key (table_at earlier x) (table_at earlier) (row_at earlier x) (row_at earlier) (λ t. no_rows earlier x t key) (λ y t. no_rows earlier y t key) k)
     (λ b. let q : cond (leb c.stamp x) (table_after c.act table (table_at earlier x) (table_at earlier)) (table_at earlier x table) ≡ None = e in
-        let k : table_at earlier x table ≡ None = rw b at q in
-        ap (λ w. cond w (row_after c.act table key (table_at earlier x) (table_at earlier) (row_at earlier x) (row_at earlier)) (row_at earlier x table key)) b
-            ∙ no_rows earlier x table key k)
+    let k : table_at earlier x table ≡ None = rw b at q in
+    ap (λ w. cond w (row_after c.act table key (table_at earlier x) (table_at earlier) (row_at earlier x) (row_at earlier)) (row_at earlier x table key)) b
+    ∙ no_rows earlier x table key k)
 
 -- a change that comes after all fixed times is not late
 pub nothing_late : (n : ℕ) (act : ChangeAct) (changes : List Change) (clock : ℕ) → clock < n → ((ns : Id) (to : ℕ) → is_fixed changes ns to ≡ true → to ≤ clock) → NothingLate changes

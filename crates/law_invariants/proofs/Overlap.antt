@@ -1,9 +1,9 @@
 -- Two tablets of a table never have one code at one time: where one is open, the other's interval ended before it began.
-use Rattle.std.proofs.Common.{ℕ, ◌≡◌, ◌≢◌, ◌≤◌, ◌<◌, ◌+◌, ◌*◌, ◌%◌, max, List, [], ◌∷◌, Option, Some, None, Bool, true, false, cond, ◌&&◌, ◌⊎◌, inl, inr, refl, sym, ap, ◌∙◌, arith, mod-lt, ltb, leb, eqb, le_trans, ltb-true, le-leb, fold}
+use Rattle.std.proofs.Common.{ℕ, ◌≡◌, ◌≢◌, ◌≤◌, ◌<◌, ◌+◌, ◌*◌, ◌%◌, max, List, [], ◌∷◌, Option, Some, None, Bool, true, ◌&&◌, inl, inr, refl, sym, ap, ◌∙◌, arith, ltb-true, le-leb, fold}
 use Rattle.std.proofs.lemmas.Bool.Decides.{nat_tests}
 use Rattle.row_values.specs.Codes.{code_of, code_step}
 use Rattle.model.specs.Ids.{Id, In, same}
-use Rattle.model.specs.Times.{holds_at, before_end}
+use Rattle.model.specs.Times.{before_end}
 use Rattle.model.specs.Store.{in_range}
 use Rattle.model.specs.Activity.{Interval, active_at}
 use Rattle.model.specs.Stands.{holders}
@@ -56,6 +56,6 @@ ends_before is i j table c x time one ini inj apart ti tj ri rj ends is_op befor
     let m = max i.from j.from in
     let hj : holds j table c m ≡ true = holds_now j table c m tj (omega arith) (ap (before_end m) is_op) rj in
     let clash : before_end m i.to ≡ true → ⊥ = λ b.
-        let hi : holds i table c m ≡ true = holds_now i table c m ti (omega arith) b ri in
-        let two = two_holders is i j table c m ini inj apart hi hj in omega arith in
+    let hi : holds i table c m ≡ true = holds_now i table c m ti (omega arith) b ri in
+    let two = two_holders is i j table c m ini inj apart hi hj in omega arith in
     by_end i.to i.from j.from x time ends before clash

@@ -1,8 +1,8 @@
 -- The places of a look are the table's tablets that are active at its stamp: all of them, or the one that holds the keys.
-use Rattle.std.proofs.Common.{ℕ, ◌≡◌, ◌≢◌, ◌≤◌, ◌<◌, ◌+◌, max, List, [], ◌∷◌, Option, Some, None, Bool, true, false, cond, ◌&&◌, not, ◌⊎◌, inl, inr, refl, sym, ap, subst, ◌∙◌, arith, eqb, eqb-true, leb, le-leb, le_trans, le_of_lt, map, length, is_some, is_none, ltb-true}
+use Rattle.std.proofs.Common.{ℕ, ◌≡◌, ◌≤◌, ◌<◌, List, [], ◌∷◌, Option, Some, None, Bool, true, ◌&&◌, inl, inr, refl, sym, ap, subst, ◌∙◌, arith, eqb, eqb-true, le-leb, le_of_lt, map, length, is_some, is_none, ltb-true}
 use Rattle.std.proofs.lemmas.Bool.{true≢false}
 use Rattle.std.proofs.lemmas.Bool.Decides.{nat_tests}
-use Rattle.std.specs.List.{filter, find, list_all}
+use Rattle.std.specs.List.{filter}
 use Rattle.std.specs.Option.{unwrap_or, option_to_list}
 use Rattle.row_values.specs.Codes.{code_of}
 use Rattle.model.specs.Ids.{Id, In, same, no_id}
@@ -11,16 +11,15 @@ use Rattle.model.specs.Store.{in_range}
 use Rattle.model.specs.Catalog.{namespace_named, kept_from}
 use Rattle.model.specs.Activity.{Interval, active_at}
 use Rattle.model.specs.Journal.{Change}
-use Rattle.model.specs.Tablets.{Tablet}
-use Rattle.model.specs.Acts.{NamedItem, Place, Reply, Placed, UnknownNamespace, UnknownTable, UnknownColumn, Future, TooOld, CrossTablet}
+use Rattle.model.specs.Acts.{NamedItem, Reply, Placed, UnknownNamespace, UnknownTable, UnknownColumn, Future, TooOld, CrossTablet}
 use Rattle.model.specs.Parts.{Master, Parts, Check, If, Outcome, judged, answered}
 use Rattle.model.specs.Lists.{put_in, in_order, by_range}
 use Rattle.model.specs.Looks as looks
 use Rattle.model.specs.Looks.{look_keys, look_table, table_asked, known, the_table, batch_fault, holding, first_code, other_code, code_outside, place_of, active_in}
 use Rattle.model.specs.Right.{TableFound, IsActivePlace, PlacesRight, LookPlacesRight, holds_keys}
 use Rattle.law_store.proofs.Keys.{either_way}
-use Rattle.law_invariants.specs.Invariant.{MasterGood, Inv, SlotGood, IsGood, IsPast, EndsBy, view_of}
-use Rattle.law_invariants.proofs.Finding.{both_pass, passes_both, same_equal, same_self, map_in, in_mapped, find_is, IsFound, find_none, some_is, not_some_is}
+use Rattle.law_invariants.specs.Invariant.{MasterGood, Inv, IsPast, EndsBy}
+use Rattle.law_invariants.proofs.Finding.{both_pass, passes_both, same_equal, same_self, map_in, in_mapped, find_is, find_none, some_is, not_some_is}
 use Rattle.law_invariants.proofs.Overlap.{two_holders, holds, code_below}
 use Rattle.law_invariants.proofs.Looking.{IsAsked, asked, view_found, table_found, asked_kept, step}
 
@@ -49,14 +48,17 @@ ordered_only before (x ∷ xs) a isin = let k = put_only before (in_order before
 pub filter_has : {A : Type 0} (test : A → Bool) (xs : List A) (a : A) → In a xs → test a ≡ true → In a (filter test xs)
 filter_has test [] a isin passes = absurd isin
 filter_has test (x ∷ xs) a isin passes = elim isin as (λ _. In a (filter test (x ∷ xs))) [
-    inl e ↦ (let here : test x ≡ true = ap test e ∙ passes in rw here (inl e))
-    | inr rest ↦ either_way (test x) (λ b. rw b (inr (filter_has test xs a rest passes))) (λ b. rw b (filter_has test xs a rest passes)) ]
+  | inl e ↦ (let here : test x ≡ true = ap test e ∙ passes in rw here (inl e))
+  | inr rest ↦ either_way (test x) (λ b. rw b (inr (filter_has test xs a rest passes))) (λ b. rw b (filter_has test xs a rest passes))
+]
 
 pub filter_only : {A : Type 0} (test : A → Bool) (xs : List A) (a : A) → In a (filter test xs) → In a xs × (test a ≡ true)
 filter_only test [] a isin = absurd isin
 filter_only test (x ∷ xs) a isin = either_way (test x)
     (λ b. let here : In a (x ∷ filter test xs) = rw b at isin in elim here as (λ _. In a (x ∷ xs) × (test a ≡ true)) [
-        inl e ↦ (inl e, sym (ap test e) ∙ b) | inr rest ↦ (let k = filter_only test xs a rest in (inr k.0, k.1)) ])
+      | inl e ↦ (inl e, sym (ap test e) ∙ b)
+      | inr rest ↦ (let k = filter_only test xs a rest in (inr k.0, k.1))
+    ])
     (λ b. let k = filter_only test xs a (rw b at isin) in (inr k.0, k.1))
 
 -- Active tablets
@@ -83,7 +85,7 @@ all_past ps changes inv = λ i isin. ((inv.slots i.slot).each i isin refl).past
 active_has : (m : Master) (n : ℕ) (table : Id) (i : Interval) → m.clock < n → AllPast m → In i m.activity → i.table ≡ table → active_at n i ≡ true → In i (active_in m table)
 active_has m n table i less past isin is active =
     filter_has (λ i. is_open i.to && same i.table table) m.activity i isin
-      (passes_both _ _ (not_ended i.to i.from m.clock n less (past i isin).ended (both_pass _ (before_end n i.to) active).1) (subst (λ k. same i.table k ≡ true) is (same_self i.table)))
+    (passes_both _ _ (not_ended i.to i.from m.clock n less (past i isin).ended (both_pass _ (before_end n i.to) active).1) (subst (λ k. same i.table k ≡ true) is (same_self i.table)))
 
 active_only : (m : Master) (n : ℕ) (table : Id) (i : Interval) → m.clock < n → AllPast m → In i (active_in m table) → In i m.activity × ((i.table ≡ table) × (active_at n i ≡ true))
 active_only m n table i less past isin =
@@ -95,11 +97,11 @@ active_only m n table i less past isin =
 
 places_opening : (m : Master) (n : ℕ) (changes : List Change) (namespace table : List ℕ) (at : Option ℕ) (batch : List NamedItem) (checks : List Check) (o : Outcome) → IsAsked m n changes
     → ((f : TableFound changes (time_of at n) n namespace table) → f.id ≡ (the_table (table_asked m.catalog.tables (known (namespace_named m.catalog.namespaces namespace)) table at)).id
-        → LookPlacesRight (judged checks o).reply changes (time_of at n) n namespace table batch m.activity)
+    → LookPlacesRight (judged checks o).reply changes (time_of at n) n namespace table batch m.activity)
     → LookPlacesRight (judged (If (is_none (namespace_named m.catalog.namespaces namespace)) UnknownNamespace ∷ If (is_future at n) (Future n)
-          ∷ If (is_below at (kept_from m.catalog.kept_from (known (namespace_named m.catalog.namespaces namespace)))) (TooOld (time_of at n) (kept_from m.catalog.kept_from (known (namespace_named m.catalog.namespaces namespace))))
-          ∷ If (is_none (table_asked m.catalog.tables (known (namespace_named m.catalog.namespaces namespace)) table at)) UnknownTable ∷ checks) o).reply
-        changes (time_of at n) n namespace table batch m.activity
+    ∷ If (is_below at (kept_from m.catalog.kept_from (known (namespace_named m.catalog.namespaces namespace)))) (TooOld (time_of at n) (kept_from m.catalog.kept_from (known (namespace_named m.catalog.namespaces namespace))))
+    ∷ If (is_none (table_asked m.catalog.tables (known (namespace_named m.catalog.namespaces namespace)) table at)) UnknownTable ∷ checks) o).reply
+    changes (time_of at n) n namespace table batch m.activity
 places_opening m n changes namespace table at batch checks o h rest =
     let ns = namespace_named m.catalog.namespaces namespace in
     let from = kept_from m.catalog.kept_from (known ns) in
@@ -109,14 +111,14 @@ places_opening m n changes namespace table at batch checks o h rest =
     let third : List Check = If (is_below at from) (TooOld (time_of at n) from) ∷ fourth in
     step P (is_none ns) UnknownNamespace (If (is_future at n) (Future n) ∷ third) o (λ _. tt)
     (λ some. step P (is_future at n) (Future n) third o (λ _. tt)
-      (λ _. step P (is_below at from) (TooOld (time_of at n) from) fourth o (λ _. tt)
-        (λ below. step P (is_none found) UnknownTable checks o (λ _. tt)
-          (λ there.
-            let named : ns ≡ Some (known ns) = some_is ns no_id some in
-            let kept = asked_kept m n changes (known ns) at h below in
-            let is : found ≡ Some (the_table found) = some_is found looks.no_table there in
-            let seen = view_found m n (time_of at n) changes namespace table (known ns) (the_table found) h named kept (table_found m n changes (known ns) table at (the_table found) h is) in
-            rest seen.0 seen.1.1))))
+    (λ _. step P (is_below at from) (TooOld (time_of at n) from) fourth o (λ _. tt)
+    (λ below. step P (is_none found) UnknownTable checks o (λ _. tt)
+    (λ there.
+    let named : ns ≡ Some (known ns) = some_is ns no_id some in
+    let kept = asked_kept m n changes (known ns) at h below in
+    let is : found ≡ Some (the_table found) = some_is found looks.no_table there in
+    let seen = view_found m n (time_of at n) changes namespace table (known ns) (the_table found) h named kept (table_found m n changes (known ns) table at (the_table found) h is) in
+    rest seen.0 seen.1.1))))
 
 pub table_places : (m : Master) (n : ℕ) (changes : List Change) (namespace table : List ℕ) (at : Option ℕ) → m.clock < n → MasterGood m changes → AllPast m
     → LookPlacesRight (look_table namespace table at n m).reply changes (time_of at n) n namespace table [] m.activity
@@ -127,9 +129,10 @@ table_places m n changes namespace table at less good past =
     (λ f is. record {
       found = f;
       each = λ place isin. in_mapped place_of (IsActivePlace m.activity n f.id []) (by_range (active_in m t.id))
-        (λ i k. let a = active_only m n t.id i less past (ordered_only _ (active_in m t.id) i k) in
+          (λ i k. let a = active_only m n t.id i less past (ordered_only _ (active_in m t.id) i k) in
           record { interval = i; listed = a.0; table_is = a.1.0 ∙ sym is; active = a.1.1; holds = refl; placed = refl }) place isin;
-      all = λ i isin table_is active held. map_in place_of (by_range (active_in m t.id)) i (ordered_has _ (active_in m t.id) i (active_has m n t.id i less past isin (table_is ∙ is) active)) })
+      all = λ i isin table_is active held. map_in place_of (by_range (active_in m t.id)) i (ordered_has _ (active_in m t.id) i (active_has m n t.id i less past isin (table_is ∙ is) active));
+    })
 
 -- The one tablet that holds the keys
 
@@ -164,26 +167,29 @@ one_home : (home : Option Interval) (m : Master) (n : ℕ) (changes : List Chang
     → m.clock < n → MasterGood m changes → AllPast m → AlikeBySlot m → 1 ≤ length batch → holding m id (first_code batch) ≡ home → other_code home batch ≡ None
     → PlacesRight changes x n namespace table batch m.activity (map place_of (option_to_list home))
 one_home None m n changes namespace table x batch id f is less good past same_place some e none = record {
-    found = f;
-    each = λ place isin. absurd isin;
-    all = λ i isin table_is active held.
+  found = f;
+  each = λ place isin. absurd isin;
+  all = λ i isin table_is active held.
       absurd (true≢false (sym (first_held batch i some held)
-        ∙ find_none (λ i. in_range i.low i.high (first_code batch)) (active_in m id) e i (active_has m n id i less past isin (table_is ∙ is) active))) }
+      ∙ find_none (λ i. in_range i.low i.high (first_code batch)) (active_in m id) e i (active_has m n id i less past isin (table_is ∙ is) active)));
+}
 one_home (Some h) m n changes namespace table x batch id f is less good past same_place some e none =
     let at_home = find_is (λ i. in_range i.low i.high (first_code batch)) (active_in m id) h e in
     let a = active_only m n id h less past at_home.listed in
     record {
       found = f;
       each = λ place isin. elim isin as (λ _. IsActivePlace m.activity n f.id batch place) [
-        inl p ↦ record { interval = h; listed = a.0; table_is = a.1.0 ∙ sym is; active = a.1.1; holds = outside_none batch h none; placed = sym p }
-        | inr rest ↦ absurd rest ];
+        | inl p ↦ record { interval = h; listed = a.0; table_is = a.1.0 ∙ sym is; active = a.1.1; holds = outside_none batch h none; placed = sym p }
+        | inr rest ↦ absurd rest
+      ];
       all = λ i isin table_is active held. inl (either_way (eqb h.slot i.slot)
-        (λ s. same_place h i a.0 isin (eqb-true h.slot i.slot s))
-        (λ s. absurd (
+          (λ s. same_place h i a.0 isin (eqb-true h.slot i.slot s))
+          (λ s. absurd (
           let hh : holds h id (first_code batch) n ≡ true = passes_both _ _ (subst (λ k. same h.table k ≡ true) a.1.0 (same_self h.table)) (passes_both _ _ a.1.1 at_home.passes) in
           let hi : holds i id (first_code batch) n ≡ true = passes_both _ _ (subst (λ k. same i.table k ≡ true) (table_is ∙ is) (same_self i.table)) (passes_both _ _ active (first_held batch i some held)) in
           let two = two_holders m.activity h i id (first_code batch) n a.0 isin (λ k. let q : eqb h.slot i.slot ≡ true = grind (arith, nat_tests) in true≢false (sym q ∙ s)) hh hi in
-          let one = good.cover.once id (first_code batch) n (first_below batch) in omega arith))) }
+          let one = good.cover.once id (first_code batch) n (first_below batch) in omega arith)));
+    }
 
 pub keys_places : (ps : Parts) (n : ℕ) (changes : List Change) (namespace table : List ℕ) (batch : List NamedItem) (at : Option ℕ) → ps.master.clock < n → Inv ps changes → 1 ≤ length batch
     → LookPlacesRight (look_keys namespace table batch at n ps.master).reply changes (time_of at n) n namespace table batch ps.master.activity
@@ -199,5 +205,5 @@ keys_places ps n changes namespace table batch at less inv some =
     let last : List Check = If (is_some other) (CrossTablet (first_code batch) (unwrap_or other 0)) ∷ [] in
     places_opening m n changes namespace table at batch (If (is_some fault) (unwrap_or fault UnknownColumn) ∷ last) o (asked m n changes less inv.master)
     (λ f is. step P (is_some fault) (unwrap_or fault UnknownColumn) last o (λ _. tt)
-      (λ _. step P (is_some other) (CrossTablet (first_code batch) (unwrap_or other 0)) [] o (λ _. tt)
-        (λ none. one_home home m n changes namespace table (time_of at n) batch t.id f is less inv.master (all_past ps changes inv) (alike ps changes inv) some refl (not_some_is other none))))
+    (λ _. step P (is_some other) (CrossTablet (first_code batch) (unwrap_or other 0)) [] o (λ _. tt)
+    (λ none. one_home home m n changes namespace table (time_of at n) batch t.id f is less inv.master (all_past ps changes inv) (alike ps changes inv) some refl (not_some_is other none))))

@@ -1,7 +1,6 @@
 -- A tablet's versions give way to others that read the same from a later cutoff on.
-use Rattle.std.proofs.Common.{ℕ, ◌≡◌, ◌≤◌, ◌<◌, ◌+◌, List, Option, Some, None, Bool, true, false, refl, sym, ◌∙◌, arith, le_trans, le_of_lt}
+use Rattle.std.proofs.Common.{ℕ, ◌≡◌, ◌≤◌, ◌+◌, List, ◌∙◌, le_trans}
 use Rattle.model.specs.Store.{Version, Below, read_of}
-use Rattle.model.specs.Activity.{Interval}
 use Rattle.model.specs.Journal.{Change}
 use Rattle.model.specs.Tablets.{Tablet}
 use Rattle.model.specs.Parts.{Master}
@@ -17,11 +16,29 @@ pub rewriting_keeps : (m : Master) (n : ℕ) (changes : List Change) (slot : ℕ
     → Sorted vs → Below (n + 1) vs → ((key : List ℕ) (x : ℕ) → c ≤ x → read_of vs key x ≡ read_of t.versions key x)
     → SlotGood m changes slot t → SlotGood m changes slot (rewritten t n vs c)
 rewriting_keeps m n changes slot t vs c le up within sorted below same h = record {
-    good = record { sorted = sorted; below = below; cutoff = within };
-    each = λ i isin is. let g = h.each i isin is in record {
-        past = g.past; over = over_later i.to i.from t.clock n le g.over; drawn = g.drawn; drawn_table = g.drawn_table; slot_from = g.slot_from; slot_to = g.slot_to;
-        present = g.present; tablet_is = g.tablet_is; table_is = g.table_is; low_is = g.low_is; high_is = g.high_is; viewed = g.viewed;
-        stands = λ settled key x ranged cut before. same key x cut ∙ g.stands settled key x ranged (le_trans up cut) before };
-    opens = λ serving unfenced. let o = h.opens serving unfenced in record {
-        interval = o.interval; listed = o.listed; slot_is = o.slot_is; opened = o.opened; begun = le_trans o.begun le; settled = o.settled };
-    later = λ ns to is serving unfenced owned. le_trans (h.later ns to is serving unfenced owned) le }
+  good = record { sorted = sorted; below = below; cutoff = within };
+  each = λ i isin is. let g = h.each i isin is in record {
+    past = g.past;
+    over = over_later i.to i.from t.clock n le g.over;
+    drawn = g.drawn;
+    drawn_table = g.drawn_table;
+    slot_from = g.slot_from;
+    slot_to = g.slot_to;
+    present = g.present;
+    tablet_is = g.tablet_is;
+    table_is = g.table_is;
+    low_is = g.low_is;
+    high_is = g.high_is;
+    viewed = g.viewed;
+    stands = λ settled key x ranged cut before. same key x cut ∙ g.stands settled key x ranged (le_trans up cut) before;
+  };
+  opens = λ serving unfenced. let o = h.opens serving unfenced in record {
+    interval = o.interval;
+    listed = o.listed;
+    slot_is = o.slot_is;
+    opened = o.opened;
+    begun = le_trans o.begun le;
+    settled = o.settled;
+  };
+  later = λ ns to is serving unfenced owned. le_trans (h.later ns to is serving unfenced owned) le;
+}

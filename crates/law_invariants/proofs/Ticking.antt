@@ -1,17 +1,17 @@
 -- Clocks that rise to a stamp keep what holds; and an act keeps it where each of its refusals, or else its outcome, does.
-use Rattle.std.proofs.Common.{ℕ, ◌≡◌, ◌≤◌, ◌<◌, ◌+◌, max, List, [], ◌∷◌, Option, Some, None, Bool, true, false, cond, ◌&&◌, refl, sym, ap, subst, ◌∙◌, arith, not, le_trans, le_refl, le_of_lt, leb, eqb, eqb-true, leb-true}
+use Rattle.std.proofs.Common.{ℕ, ◌≡◌, ◌≤◌, ◌<◌, ◌+◌, List, [], ◌∷◌, Option, Some, None, Bool, true, false, cond, ◌&&◌, refl, sym, subst, arith, not, le_trans, le_of_lt, eqb}
 use Rattle.std.proofs.lemmas.Bool.{cond_both}
-use Rattle.model.specs.Ids.{Id, In, has}
+use Rattle.model.specs.Ids.{has}
 use Rattle.model.specs.Store.{Version, Below}
-use Rattle.model.specs.Catalog.{Catalog, NamespaceRecord, TableRecord}
+use Rattle.model.specs.Catalog.{Catalog, NamespaceRecord}
 use Rattle.model.specs.Activity.{Interval}
 use Rattle.model.specs.Journal.{Change}
-use Rattle.model.specs.Tablets.{Tablet, act_for, effect, Clock, Told}
+use Rattle.model.specs.Tablets.{Tablet}
 use Rattle.model.specs.Acts.{Act, Reply, Refused, Refusal}
-use Rattle.model.specs.Parts.{Master, Parts, Check, If, Outcome, judged, refused, answered, Ticks}
+use Rattle.model.specs.Parts.{Master, Parts, Check, If, Outcome, judged, refused, answered}
 use Rattle.model.specs.Entries.{slots_of, clock_at}
-use Rattle.model.specs.History.{told, outcome, with_changes, ReplyRight}
-use Rattle.law_invariants.specs.Invariant.{EndsBy, OverBy, IsPast, NamespacesStand, TablesStand, TabletGood, IsGood, IsOpen, SlotGood, MasterGood, Inv, Keeps, Later, Passes}
+use Rattle.model.specs.History.{told, with_changes, ReplyRight}
+use Rattle.law_invariants.specs.Invariant.{EndsBy, OverBy, IsPast, NamespacesStand, TablesStand, IsGood, SlotGood, MasterGood, Inv, Keeps, Later, Passes}
 
 pub ends_later : (to : Option ℕ) (from m n : ℕ) → m ≤ n → EndsBy m from to → EndsBy n from to
 ends_later None from m n le h = tt
@@ -30,62 +30,102 @@ below_later (v ∷ vs) m n le h = (omega (arith, h.0), below_later vs m n le h.1
 
 pub namespaces_later : (rs : List NamespaceRecord) (m n drawn : ℕ) (changes : List Change) → m ≤ n → NamespacesStand rs m drawn changes → NamespacesStand rs n drawn changes
 namespaces_later rs m n drawn changes le h = record {
-    past = λ r isin. past_later r.from m n r.to le (h.past r isin);
-    drawn_before = h.drawn_before;
-    unique = h.unique;
-    found = h.found;
-    viewed = λ id x after. h.viewed id x (le_trans le after) }
+  past = λ r isin. past_later r.from m n r.to le (h.past r isin);
+  drawn_before = h.drawn_before;
+  unique = h.unique;
+  found = h.found;
+  viewed = λ id x after. h.viewed id x (le_trans le after);
+}
 
 pub tables_later : (c : Catalog) (m n drawn : ℕ) (changes : List Change) → m ≤ n → TablesStand c m drawn changes → TablesStand c n drawn changes
 tables_later c m n drawn changes le h = record {
-    past = λ r isin. past_later r.from m n r.to le (h.past r isin);
-    drawn_before = h.drawn_before;
-    owned = h.owned;
-    owners_drawn = h.owners_drawn;
-    unique = h.unique;
-    found = h.found;
-    columns = h.columns;
-    viewed = h.viewed;
-    unmade = h.unmade;
-    inside = h.inside;
-    kept = λ ns. le_trans (h.kept ns) le }
+  past = λ r isin. past_later r.from m n r.to le (h.past r isin);
+  drawn_before = h.drawn_before;
+  owned = h.owned;
+  owners_drawn = h.owners_drawn;
+  unique = h.unique;
+  found = h.found;
+  columns = h.columns;
+  viewed = h.viewed;
+  unmade = h.unmade;
+  inside = h.inside;
+  kept = λ ns. le_trans (h.kept ns) le;
+}
 
 -- the master's clock rises
 pub master_ticked : (m : Master) (n : ℕ) (changes : List Change) → m.clock ≤ n → MasterGood m changes → MasterGood (record m { clock = n }) changes
 master_ticked m n changes le h = record {
-    namespaces = namespaces_later m.catalog.namespaces m.clock n m.drawn.namespaces changes le h.namespaces;
-    tables = tables_later m.catalog m.clock n m.drawn.tables changes le h.tables;
-    cover = h.cover;
-    spaces = h.spaces;
-    past = λ ns to is. le_trans (h.past ns to is) le;
-    complete = λ s isin. le_trans (h.complete s isin) le;
-    listed = h.listed }
+  namespaces = namespaces_later m.catalog.namespaces m.clock n m.drawn.namespaces changes le h.namespaces;
+  tables = tables_later m.catalog m.clock n m.drawn.tables changes le h.tables;
+  cover = h.cover;
+  spaces = h.spaces;
+  past = λ ns to is. le_trans (h.past ns to is) le;
+  complete = λ s isin. le_trans (h.complete s isin) le;
+  listed = h.listed;
+}
 
 pub good_ticked : (m : Master) (n : ℕ) (changes : List Change) (t : Tablet) (i : Interval) → m.clock ≤ n → IsGood m changes t i → IsGood (record m { clock = n }) changes t i
 good_ticked m n changes t i le h = record {
-    past = past_later i.from m.clock n i.to le h.past; over = h.over;
-    drawn = h.drawn; drawn_table = h.drawn_table; slot_from = h.slot_from; slot_to = h.slot_to; present = h.present; tablet_is = h.tablet_is;
-    table_is = h.table_is; low_is = h.low_is; high_is = h.high_is; viewed = h.viewed; stands = h.stands }
+  past = past_later i.from m.clock n i.to le h.past;
+  over = h.over;
+  drawn = h.drawn;
+  drawn_table = h.drawn_table;
+  slot_from = h.slot_from;
+  slot_to = h.slot_to;
+  present = h.present;
+  tablet_is = h.tablet_is;
+  table_is = h.table_is;
+  low_is = h.low_is;
+  high_is = h.high_is;
+  viewed = h.viewed;
+  stands = h.stands;
+}
 
 -- what holds of a slot holds under a later clock of the master
 pub slot_ticked : (m : Master) (n : ℕ) (changes : List Change) (slot : ℕ) (t : Tablet) → m.clock ≤ n → SlotGood m changes slot t → SlotGood (record m { clock = n }) changes slot t
 slot_ticked m n changes slot t le h = record {
-    good = h.good;
-    each = λ i isin is. good_ticked m n changes t i le (h.each i isin is);
-    opens = λ serving unfenced. let o = h.opens serving unfenced in record {
-        interval = o.interval; listed = o.listed; slot_is = o.slot_is; opened = o.opened; begun = o.begun; settled = o.settled };
-    later = h.later }
+  good = h.good;
+  each = λ i isin is. good_ticked m n changes t i le (h.each i isin is);
+  opens = λ serving unfenced. let o = h.opens serving unfenced in record {
+    interval = o.interval;
+    listed = o.listed;
+    slot_is = o.slot_is;
+    opened = o.opened;
+    begun = o.begun;
+    settled = o.settled;
+  };
+  later = h.later;
+}
 
 -- and under a later clock of its own
 pub tablet_ticked : (m : Master) (n : ℕ) (changes : List Change) (slot : ℕ) (t : Tablet) → t.clock ≤ n → SlotGood m changes slot t → SlotGood m changes slot (record t { clock = n })
 tablet_ticked m n changes slot t le h = record {
-    good = record { sorted = h.good.sorted; below = below_later t.versions (t.clock + 1) (n + 1) (omega arith) h.good.below; cutoff = le_trans h.good.cutoff le };
-    each = λ i isin is. let g = h.each i isin is in record {
-        past = g.past; over = over_later i.to i.from t.clock n le g.over; drawn = g.drawn; drawn_table = g.drawn_table; slot_from = g.slot_from; slot_to = g.slot_to; present = g.present; tablet_is = g.tablet_is;
-        table_is = g.table_is; low_is = g.low_is; high_is = g.high_is; viewed = g.viewed; stands = g.stands };
-    opens = λ serving unfenced. let o = h.opens serving unfenced in record {
-        interval = o.interval; listed = o.listed; slot_is = o.slot_is; opened = o.opened; begun = le_trans o.begun le; settled = o.settled };
-    later = λ ns to is serving unfenced owned. le_trans (h.later ns to is serving unfenced owned) le }
+  good = record { sorted = h.good.sorted; below = below_later t.versions (t.clock + 1) (n + 1) (omega arith) h.good.below; cutoff = le_trans h.good.cutoff le };
+  each = λ i isin is. let g = h.each i isin is in record {
+    past = g.past;
+    over = over_later i.to i.from t.clock n le g.over;
+    drawn = g.drawn;
+    drawn_table = g.drawn_table;
+    slot_from = g.slot_from;
+    slot_to = g.slot_to;
+    present = g.present;
+    tablet_is = g.tablet_is;
+    table_is = g.table_is;
+    low_is = g.low_is;
+    high_is = g.high_is;
+    viewed = g.viewed;
+    stands = g.stands;
+  };
+  opens = λ serving unfenced. let o = h.opens serving unfenced in record {
+    interval = o.interval;
+    listed = o.listed;
+    slot_is = o.slot_is;
+    opened = o.opened;
+    begun = le_trans o.begun le;
+    settled = o.settled;
+  };
+  later = λ ns to is serving unfenced owned. le_trans (h.later ns to is serving unfenced owned) le;
+}
 
 -- the parts under later clocks: those of the slots for which the test holds, and the master's where it does
 pub slots_ticked : (m : Master) (n : ℕ) (changes : List Change) (slot : ℕ) (b : Bool) (t : Tablet) → (b ≡ true → t.clock ≤ n)
@@ -126,17 +166,19 @@ master_before slots ps n later e = le_of_lt (later 0 e)
 -- an act that tells the parts nothing keeps what holds
 pub nothing_told : (act : Act) (reply : Reply) (n : ℕ) (ps : Parts) (changes : List Change) → Later (slots_of act) ps n → Inv ps changes → Inv (told act (answered reply) n ps) changes
 nothing_told act reply n ps changes later inv = record {
-    master = master_ticked_if (has (slots_of act) 0) ps.master n changes (master_before (slots_of act) ps n later) inv.master;
-    slots = λ slot. slot_ticked_if (has (slots_of act) 0) ps.master n changes slot _ (master_before (slots_of act) ps n later)
-        (slots_ticked ps.master n changes slot (has (slots_of act) slot && not (eqb slot 0)) (ps.tablet slot) (tablet_before (slots_of act) ps n slot later) (inv.slots slot));
-    late = inv.late }
+  master = master_ticked_if (has (slots_of act) 0) ps.master n changes (master_before (slots_of act) ps n later) inv.master;
+  slots = λ slot. slot_ticked_if (has (slots_of act) 0) ps.master n changes slot _ (master_before (slots_of act) ps n later)
+      (slots_ticked ps.master n changes slot (has (slots_of act) slot && not (eqb slot 0)) (ps.tablet slot) (tablet_before (slots_of act) ps n slot later) (inv.slots slot));
+  late = inv.late;
+}
 
 -- an act that is refused keeps what holds, where its reply says nothing more
 pub refused_keeps : (act : Act) (why : Refusal) (n : ℕ) (ps : Parts) (changes : List Change) → Later (slots_of act) ps n → Inv ps changes
     → ReplyRight act (Refused why) n ps changes → with_changes act (Refused why) n ps changes ≡ changes → Keeps act (Refused why) n ps (told act (refused why) n ps) changes
 refused_keeps act why n ps changes later inv right same_ = record {
-    right = right;
-    inv = subst (Inv (told act (refused why) n ps)) (sym same_) (nothing_told act (Refused why) n ps changes later inv) }
+  right = right;
+  inv = subst (Inv (told act (refused why) n ps)) (sym same_) (nothing_told act (Refused why) n ps changes later inv);
+}
 
 -- what is to be shown of an act's outcome
 abbrev pub KeepsAll : Act → ℕ → Parts → List Change → Outcome → Type 0

@@ -1,12 +1,11 @@
 -- One tablet's part does what it is told, and the others set their clocks.
-use Rattle.std.proofs.Common.{ℕ, ◌≡◌, ◌≤◌, ◌<◌, ◌+◌, List, [], ◌∷◌, Option, Some, None, Bool, true, false, cond, ◌&&◌, refl, sym, ap, subst, ◌∙◌, arith, not, eqb, eqb-true}
+use Rattle.std.proofs.Common.{ℕ, ◌≡◌, List, [], ◌∷◌, Bool, true, false, ◌&&◌, sym, subst, ◌∙◌, arith, not, eqb, eqb-true}
 use Rattle.std.proofs.lemmas.Bool.{cond_both}
-use Rattle.std.proofs.lemmas.Bool.Decides.{nat_tests}
 use Rattle.model.specs.Ids.{has}
 use Rattle.model.specs.Journal.{Change}
-use Rattle.model.specs.Tablets.{Tablet, TabletAct, Clock, act_for, effect, Told}
+use Rattle.model.specs.Tablets.{TabletAct, Clock, act_for, effect}
 use Rattle.model.specs.Acts.{Act, Reply}
-use Rattle.model.specs.Parts.{Master, Parts, Outcome, Ticks}
+use Rattle.model.specs.Parts.{Parts, Outcome, Ticks}
 use Rattle.model.specs.Right.{NothingLate}
 use Rattle.model.specs.Entries.{slots_of}
 use Rattle.model.specs.History.{told}

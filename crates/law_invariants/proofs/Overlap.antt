@@ -1,9 +1,9 @@
 -- Two tablets of a table never have one code at one time: where one is open, the other's interval ended before it began.
-use Rattle.std.proofs.Common.{ℕ, ◌≡◌, ◌≢◌, ◌≤◌, ◌<◌, ◌+◌, ◌*◌, ◌%◌, max, List, [], ◌∷◌, Option, Some, None, Bool, true, false, cond, ◌&&◌, ◌⊎◌, inl, inr, refl, sym, ap, ◌∙◌, arith, mod-lt, ltb, leb, eqb, le_trans, ltb-true, le-leb, fold}
+use Rattle.std.proofs.Common.{ℕ, ◌≡◌, ◌≢◌, ◌≤◌, ◌<◌, ◌+◌, ◌*◌, ◌%◌, max, List, [], ◌∷◌, Option, Some, None, Bool, true, ◌&&◌, inl, inr, refl, sym, ap, ◌∙◌, arith, ltb-true, le-leb, fold}
 use Rattle.std.proofs.lemmas.Bool.Decides.{nat_tests}
 use Rattle.row_values.specs.Codes.{code_of, code_step}
 use Rattle.model.specs.Ids.{Id, In, same}
-use Rattle.model.specs.Times.{holds_at, before_end}
+use Rattle.model.specs.Times.{before_end}
 use Rattle.model.specs.Store.{in_range}
 use Rattle.model.specs.Activity.{Interval, active_at}
 use Rattle.model.specs.Stands.{holders}

@@ -1,8 +1,8 @@
 -- The places of a look are the table's tablets that are active at its stamp: all of them, or the one that holds the keys.
-use Rattle.std.proofs.Common.{ℕ, ◌≡◌, ◌≢◌, ◌≤◌, ◌<◌, ◌+◌, max, List, [], ◌∷◌, Option, Some, None, Bool, true, false, cond, ◌&&◌, not, ◌⊎◌, inl, inr, refl, sym, ap, subst, ◌∙◌, arith, eqb, eqb-true, leb, le-leb, le_trans, le_of_lt, map, length, is_some, is_none, ltb-true}
+use Rattle.std.proofs.Common.{ℕ, ◌≡◌, ◌≤◌, ◌<◌, List, [], ◌∷◌, Option, Some, None, Bool, true, ◌&&◌, inl, inr, refl, sym, ap, subst, ◌∙◌, arith, eqb, eqb-true, le-leb, le_of_lt, map, length, is_some, is_none, ltb-true}
 use Rattle.std.proofs.lemmas.Bool.{true≢false}
 use Rattle.std.proofs.lemmas.Bool.Decides.{nat_tests}
-use Rattle.std.specs.List.{filter, find, list_all}
+use Rattle.std.specs.List.{filter}
 use Rattle.std.specs.Option.{unwrap_or, option_to_list}
 use Rattle.row_values.specs.Codes.{code_of}
 use Rattle.model.specs.Ids.{Id, In, same, no_id}
@@ -11,16 +11,15 @@ use Rattle.model.specs.Store.{in_range}
 use Rattle.model.specs.Catalog.{namespace_named, kept_from}
 use Rattle.model.specs.Activity.{Interval, active_at}
 use Rattle.model.specs.Journal.{Change}
-use Rattle.model.specs.Tablets.{Tablet}
-use Rattle.model.specs.Acts.{NamedItem, Place, Reply, Placed, UnknownNamespace, UnknownTable, UnknownColumn, Future, TooOld, CrossTablet}
+use Rattle.model.specs.Acts.{NamedItem, Reply, Placed, UnknownNamespace, UnknownTable, UnknownColumn, Future, TooOld, CrossTablet}
 use Rattle.model.specs.Parts.{Master, Parts, Check, If, Outcome, judged, answered}
 use Rattle.model.specs.Lists.{put_in, in_order, by_range}
 use Rattle.model.specs.Looks as looks
 use Rattle.model.specs.Looks.{look_keys, look_table, table_asked, known, the_table, batch_fault, holding, first_code, other_code, code_outside, place_of, active_in}
 use Rattle.model.specs.Right.{TableFound, IsActivePlace, PlacesRight, LookPlacesRight, holds_keys}
 use Rattle.law_store.proofs.Keys.{either_way}
-use Rattle.law_invariants.specs.Invariant.{MasterGood, Inv, SlotGood, IsGood, IsPast, EndsBy, view_of}
-use Rattle.law_invariants.proofs.Finding.{both_pass, passes_both, same_equal, same_self, map_in, in_mapped, find_is, IsFound, find_none, some_is, not_some_is}
+use Rattle.law_invariants.specs.Invariant.{MasterGood, Inv, IsPast, EndsBy}
+use Rattle.law_invariants.proofs.Finding.{both_pass, passes_both, same_equal, same_self, map_in, in_mapped, find_is, find_none, some_is, not_some_is}
 use Rattle.law_invariants.proofs.Overlap.{two_holders, holds, code_below}
 use Rattle.law_invariants.proofs.Looking.{IsAsked, asked, view_found, table_found, asked_kept, step}
 

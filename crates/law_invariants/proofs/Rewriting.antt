@@ -1,7 +1,6 @@
 -- A tablet's versions give way to others that read the same from a later cutoff on.
-use Rattle.std.proofs.Common.{ℕ, ◌≡◌, ◌≤◌, ◌<◌, ◌+◌, List, Option, Some, None, Bool, true, false, refl, sym, ◌∙◌, arith, le_trans, le_of_lt}
+use Rattle.std.proofs.Common.{ℕ, ◌≡◌, ◌≤◌, ◌+◌, List, ◌∙◌, le_trans}
 use Rattle.model.specs.Store.{Version, Below, read_of}
-use Rattle.model.specs.Activity.{Interval}
 use Rattle.model.specs.Journal.{Change}
 use Rattle.model.specs.Tablets.{Tablet}
 use Rattle.model.specs.Parts.{Master}

@@ -1,17 +1,17 @@
 -- Clocks that rise to a stamp keep what holds; and an act keeps it where each of its refusals, or else its outcome, does.
-use Rattle.std.proofs.Common.{ℕ, ◌≡◌, ◌≤◌, ◌<◌, ◌+◌, max, List, [], ◌∷◌, Option, Some, None, Bool, true, false, cond, ◌&&◌, refl, sym, ap, subst, ◌∙◌, arith, not, le_trans, le_refl, le_of_lt, leb, eqb, eqb-true, leb-true}
+use Rattle.std.proofs.Common.{ℕ, ◌≡◌, ◌≤◌, ◌<◌, ◌+◌, List, [], ◌∷◌, Option, Some, None, Bool, true, false, cond, ◌&&◌, refl, sym, subst, arith, not, le_trans, le_of_lt, eqb}
 use Rattle.std.proofs.lemmas.Bool.{cond_both}
-use Rattle.model.specs.Ids.{Id, In, has}
+use Rattle.model.specs.Ids.{has}
 use Rattle.model.specs.Store.{Version, Below}
-use Rattle.model.specs.Catalog.{Catalog, NamespaceRecord, TableRecord}
+use Rattle.model.specs.Catalog.{Catalog, NamespaceRecord}
 use Rattle.model.specs.Activity.{Interval}
 use Rattle.model.specs.Journal.{Change}
-use Rattle.model.specs.Tablets.{Tablet, act_for, effect, Clock, Told}
+use Rattle.model.specs.Tablets.{Tablet}
 use Rattle.model.specs.Acts.{Act, Reply, Refused, Refusal}
-use Rattle.model.specs.Parts.{Master, Parts, Check, If, Outcome, judged, refused, answered, Ticks}
+use Rattle.model.specs.Parts.{Master, Parts, Check, If, Outcome, judged, refused, answered}
 use Rattle.model.specs.Entries.{slots_of, clock_at}
-use Rattle.model.specs.History.{told, outcome, with_changes, ReplyRight}
-use Rattle.law_invariants.specs.Invariant.{EndsBy, OverBy, IsPast, NamespacesStand, TablesStand, TabletGood, IsGood, IsOpen, SlotGood, MasterGood, Inv, Keeps, Later, Passes}
+use Rattle.model.specs.History.{told, with_changes, ReplyRight}
+use Rattle.law_invariants.specs.Invariant.{EndsBy, OverBy, IsPast, NamespacesStand, TablesStand, IsGood, SlotGood, MasterGood, Inv, Keeps, Later, Passes}
 
 pub ends_later : (to : Option ℕ) (from m n : ℕ) → m ≤ n → EndsBy m from to → EndsBy n from to
 ends_later None from m n le h = tt

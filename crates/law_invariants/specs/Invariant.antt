@@ -1,25 +1,25 @@
 -- What holds of the parts and the journal after each entry of a legal history.
-use Rattle.std.specs.Prelude.{◌≡◌, ℕ, ◌≤◌, ◌<◌, ◌+◌, Bool, true, false, List, [], ◌∷◌, Option, Some, None, ◌&&◌, ◌==◌, if◌then◌else◌, option_map}
+use Rattle.std.specs.Prelude.{◌≡◌, ℕ, ◌≤◌, ◌<◌, ◌+◌, true, false, List, [], ◌∷◌, Option, Some, None, ◌==◌, option_map}
 use Rattle.std.specs.Option.{is_some}
 use Rattle.std.specs.Str.{bytes_eq}
 use Rattle.row_values.specs.Codes.{code_of}
-use Rattle.model.specs.Ids.{Id, Kind, Namespace, Table, Tablet as TabletKind, same, In, has}
+use Rattle.model.specs.Ids.{Id, In, has}
 use Rattle.model.specs.Times.{holds_at, is_open, before_end}
-use Rattle.model.specs.Store.{Version, Below, in_range, read_of}
+use Rattle.model.specs.Store.{Below, in_range, read_of}
 use Rattle.model.specs.Schema.{Column, Schema}
 use Rattle.model.specs.Catalog.{Catalog, NamespaceRecord, TableRecord, namespace_named, name_of, table_named, owner_of, kept_from}
 use Rattle.model.specs.Activity.{Interval, active_at}
 use Rattle.model.specs.Restored.{record_at}
 use Rattle.model.specs.Journal.{Change, TableView, namespace_at, table_at, row_at}
 use Rattle.model.specs.Tablets.{Tablet, is_vacant, is_serving}
-use Rattle.model.specs.Stands.{awaited_in, before_point, holders}
+use Rattle.model.specs.Stands.{awaited_in, holders}
 use Rattle.model.specs.Records.{Schedule, Listed, RestorationRecord}
 use Rattle.model.specs.Schedules.{complete_to}
 use Rattle.model.specs.Entries.{clock_at}
 use Rattle.model.specs.Acts.{Act, Reply}
 use Rattle.model.specs.Right.{is_fixed, NothingLate}
 use Rattle.model.specs.History.{ReplyRight, with_changes}
-use Rattle.model.specs.Parts.{Master, Parts, Drawn, Check, If, Outcome}
+use Rattle.model.specs.Parts.{Master, Parts, Check, If}
 use Rattle.law_store.specs.Sorted.{Sorted}
 
 -- an end comes at or after the start, and at or before the time

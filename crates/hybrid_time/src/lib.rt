@@ -15,6 +15,7 @@ pub use time::{HybridTime, TimeTooLarge};
 #[cfg(test)]
 mod tests {
     use super::*;
+    use row_values::Copied;
     use std::test::Fail;
 
     #[test]
@@ -47,6 +48,11 @@ mod tests {
             let time = HybridTime { value };
             let written = time.text(alloc)?;
             assert_eq!(rt; written.as_slice(), text.as_bytes(), "value {value}");
+            assert!(rt; time.copy()? == time, "value {value}");
+            assert!(rt;
+                HybridClock::at(time).copy()?.last() == time,
+                "value {value}"
+            );
         }
         Ok(())
     }

@@ -1,0 +1,2 @@
+pub mod SchemaRecord
+pub mod Columns

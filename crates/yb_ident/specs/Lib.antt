@@ -1,0 +1,2 @@
+pub mod IdentValue
+pub mod Layout

@@ -1,0 +1,61 @@
+ghost use Rattle.std.specs.Prelude.{◌≡◌, ◌<◌, ◌≤◌, ◌⊎◌, ℕ, Some, [], ◌∷◌, length, slice_get, IfOk, MatchResult};
+ghost use Rattle.row_values.specs.Codes.{code_of};
+ghost use Rattle.partition_codes.specs.Ranges.{Divide, all_codes, share_of};
+
+use crate::range::{Range, TooNarrow};
+use row_values::{Key, NoMemory, Records};
+use std::alloc::Global;
+
+/// The partition code of a key, which decides the tablet that holds its row. It takes no memory.
+pub fn code(key: &Key) -> u16
+    ensures value { result ≡ code_of key.now }
+{
+    let mut code = 0u32;
+    for byte in key.as_slice() {
+        code = (code * 31 + u32::from(*byte)) % 65536;
+    }
+    code as u16
+}
+
+/// The ranges of a table that is made with `n` tablets, in order.
+pub fn shares(alloc: Global, n: u32) -> Result<Records<Range>, NoMemory>
+    requires some { 1 ≤ n }
+    requires few { n ≤ 64 }
+    ensures count { IfOk result (λ r. length r ≡ n) }
+    ensures each { IfOk result (λ r. (i : ℕ) → i < n → slice_get r i ≡ Some (share_of n i)) }
+    ensures cover { IfOk result (λ r. Divide all_codes r) }
+{
+    let mut shares = Records::new(alloc);
+    for i in 0..n {
+        let low = i * 65536 / n;
+        let high = (i + 1) * 65536 / n;
+        shares.push(Range { low, high })?;
+    }
+    Ok(shares)
+}
+
+/// The two parts of a range, the second of which begins at a code strictly inside it. It takes no
+/// memory.
+pub fn halves(range: Range, at: u32) -> Result<(Range, Range), TooNarrow>
+    ensures inside { MatchResult result
+        (λ _. (range.low < at) × (at < range.high))
+        (λ _. (at ≤ range.low) ⊎ (range.high ≤ at)) }
+    ensures cut { MatchResult result
+        (λ r. r ≡ (record { low = range.low; high = at }, record { low = at; high = range.high }))
+        (λ e. e.low ≡ range.low) }
+    ensures cover { IfOk result (λ r. Divide range (r.0 ∷ r.1 ∷ [])) }
+{
+    if at <= range.low || range.high <= at {
+        return Err(TooNarrow { low: range.low });
+    }
+    Ok((
+        Range {
+            low: range.low,
+            high: at,
+        },
+        Range {
+            low: at,
+            high: range.high,
+        },
+    ))
+}

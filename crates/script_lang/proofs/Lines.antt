@@ -1,11 +1,11 @@
 -- A line is read as the grammar says.
-use Rattle.std.proofs.Common.{◌≡◌, ℕ, ◌^◌, ◌<◌, ◌≤◌, ◌⊎◌, inl, inr, Bool, true, false, not, cond, List, [], ◌∷◌, length, Option, Some, None, Result, Ok, Err, refl, sym, ap, subst, ◌∙◌, arith}
+use Rattle.std.proofs.Common.{◌≡◌, ℕ, ◌^◌, ◌<◌, ◌≤◌, inl, inr, Bool, true, false, not, cond, List, [], ◌∷◌, length, Option, Some, None, Result, Ok, Err, refl, sym, ap, subst, ◌∙◌, arith}
 use Rattle.std.specs.Prelude.{nat_lt}
 use Rattle.std.proofs.lemmas.Bool.Decides.{nat_tests}
 use Rattle.script_words.specs.declared.cause.Cause.{Cause}
 use Rattle.script_words.specs.declared.cause.Cause.TheVariants.{LineTooLong, BadByte, OpenQuote, UnknownCommand}
 use Rattle.script_words.specs.Words.{is_plain, is_comment, is_open, words_of}
-use Rattle.script_words.specs.Reading.{◌>>=◌, words_of_line}
+use Rattle.script_words.specs.Reading.{◌>>=◌}
 use Rattle.script_words.specs.Layout.{IsLaidOut}
 use Rattle.script_words.proofs.Layouts.{laid_out, laid_is_read}
 use Rattle.script_places.specs.Words.{Word}

@@ -1,5 +1,5 @@
 -- A text is read as the script that it is, or is refused at its first wrong line.
-use Rattle.std.proofs.Common.{◌≡◌, ℕ, ◌+◌, ◌^◌, ◌<◌, ◌⊎◌, inl, inr, Bool, true, false, ◌&&◌, ◌||◌, cond, List, [], ◌∷◌, ◌++◌, length, Option, Some, None, Result, Ok, Err, refl, sym, ap, subst, ◌∙◌, append_assoc, arith}
+use Rattle.std.proofs.Common.{◌≡◌, ℕ, ◌+◌, ◌^◌, ◌<◌, inl, inr, Bool, true, false, ◌&&◌, ◌||◌, cond, List, [], ◌∷◌, ◌++◌, length, Option, Some, None, Result, Ok, Err, refl, sym, ap, subst, ◌∙◌, append_assoc, arith}
 use Rattle.std.specs.Prelude.{◌==◌}
 use Rattle.std.specs.List.{AllByRecursion, list_all}
 use Rattle.std.proofs.lemmas.Bool.{and_parts, and_from}
@@ -10,7 +10,7 @@ use Rattle.script_words.specs.Words.{is_printed, is_plain}
 use Rattle.script_lang.specs.declared.command.ScriptCommand.{ScriptCommand}
 use Rattle.script_lang.specs.declared.script.ScriptLine.{ScriptLine}
 use Rattle.script_lang.specs.Script.{line_of, numbered, after_line, script_from, script_of}
-use Rattle.script_lang.specs.Grammar.{IsLine, LineRefused, AreLines, IsScript, IsAnyLine, IsFirstRefused, IsRefusedAt, is_text}
+use Rattle.script_lang.specs.Grammar.{LineRefused, AreLines, IsScript, IsAnyLine, IsFirstRefused, IsRefusedAt, is_text}
 use Rattle.script_lang.proofs.Lines.{line_is, line_again, line_not, line_refused}
 
 abbrev okay : List ScriptLine → Result (List ScriptLine) (ℕ × Cause)

@@ -1,0 +1,14 @@
+//! A small machine that tries the table of steps: each part is a counter with its log, and an event
+//! touches one, two or all of them and adds its entry to the least. The tests stand here, since the
+//! table is generic over its machine.
+#![tactic(auto)]
+
+mod counter;
+mod gate;
+mod machine;
+mod turns;
+
+pub use counter::Counter;
+pub use gate::Gate;
+pub use machine::{Add, Counters, Full};
+pub use turns::perform_many;

@@ -24,10 +24,6 @@ none_is first e = subst is_none e tt
 abbrev meanings : List (ℕ × Counter) → List Counter
 meanings held = map core_of.meaning (parts_of held)
 
-pub slots_stay : (held : List (ℕ × Counter)) (now : Counter) → slots_of (with_part held 0 now) ≡ slots_of held
-slots_stay [] now = refl
-slots_stay (x ∷ xs) now = refl
-
 pub meanings_stay : (held : List (ℕ × Counter)) (first now : Counter) → slice_get (parts_of held) 0 ≡ Some first → now.log ≡ first.log → meanings (with_part held 0 now) ≡ meanings held
 meanings_stay [] first now at log = refl
 meanings_stay (x ∷ xs) first now at log =

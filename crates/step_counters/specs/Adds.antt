@@ -45,6 +45,9 @@ HasRoom (p ∷ ps) = 0 < p.room
 abbrev pub IsShort : Counter → Type 0
 IsShort p = length p.log ≤ 1000000
 
+abbrev pub IsEmpty : Counter → Type 0
+IsEmpty p = p.log ≡ []
+
 -- there is a touched part, and its log isn't too long
 abbrev pub Fits : List Counter → Type 0
 Fits [] = ⊥
@@ -63,4 +66,5 @@ core_of = record {
   CanApply = λ ps d. HasRoom ps;
   May = May;
   Legal = λ ps. Every IsShort ps × (length ps < 2 ^ 32);
-  Fits = λ ps e. Fits ps }
+  Fits = λ ps e. Fits ps;
+}

@@ -56,8 +56,8 @@ fits ps e all may = fits_some (pick (touches e) ps) (picked_some (touches e) ps 
 short_after : (qs : List Counter) (e : Entry Add ℕ) → Every IsShort qs → fault_of qs ≡ None → Every IsShort (first_notes qs e)
 short_after [] e all fine = tt
 short_after (p ∷ ps) e all fine = either_way (nat_le 1000000 (length p.log))
-  (λ t. absurd (let f : Some Full ≡ None = sym (ap (λ b. cond b (Some Full) None) t) ∙ fine in grind arith))
-  (λ t. ((let l = length-append p.log (e ∷ []) in grind (arith, nat_tests)), all.1))
+    (λ t. absurd (let f : Some Full ≡ None = sym (ap (λ b. cond b (Some Full) None) t) ∙ fine in grind arith))
+    (λ t. ((let l = length-append p.log (e ∷ []) in grind (arith, nat_tests)), all.1))
 
 adds : (qs : List Counter) (e : Entry Add ℕ) → map (λ (p : Counter). p.log) (first_notes qs e) ≡ noted e (map (λ (p : Counter). p.log) qs)
 adds [] e = refl
@@ -71,9 +71,10 @@ lawful = record {
   fits = λ ps e legal may. fits ps e legal.0 may;
   stays = λ ps e n legal may fine number. (
     every_put IsShort (touches e) (first_notes (pick (touches e) ps) (entry (pick (touches e) ps) e n)) ps legal.0
-      (short_after (pick (touches e) ps) (entry (pick (touches e) ps) e n) (every_pick IsShort (touches e) ps legal.0) fine),
+        (short_after (pick (touches e) ps) (entry (pick (touches e) ps) e n) (every_pick IsShort (touches e) ps legal.0) fine),
     (let l = length_put (touches e) (first_notes (pick (touches e) ps) (entry (pick (touches e) ps) e n)) ps in let m = legal.1 in omega arith),
   );
   adds = λ held e n fits fine. adds held (entry held e n);
   few = λ ps legal. legal.1;
-  short = λ ps legal. every_map IsShort (λ (p : Counter). length p.log ≤ 2 ^ 30) (λ p short. omega arith) ps legal.0 }
+  short = λ ps legal. every_map IsShort (λ (p : Counter). length p.log ≤ 2 ^ 30) (λ p short. omega arith) ps legal.0;
+}

@@ -30,14 +30,20 @@ impl Counter {
     pub fn new(alloc: Global) -> Counter
         ensures log { result.log ≡ [] }
     {
-        Counter { log: Vec::new(alloc), gate: None }
+        Counter {
+            log: Vec::new(alloc),
+            gate: None,
+        }
     }
 
     /// A counter at 0 whose events pass the gate before they are prepared.
     pub fn behind(alloc: Global, gate: Arc<Gate, Global>) -> Counter
         ensures log { result.log ≡ [] }
     {
-        Counter { log: Vec::new(alloc), gate: Some(gate) }
+        Counter {
+            log: Vec::new(alloc),
+            gate: Some(gate),
+        }
     }
 
     /// The number of entries.

@@ -12,7 +12,7 @@ pub struct Gate {
 
 impl Gate {
     /// No flag is raised.
-    pub const fn new() -> Gate {
+    pub(crate) const fn new() -> Gate {
         Gate {
             reached: AtomicBool::new(false),
             opened: AtomicBool::new(false),
@@ -22,7 +22,7 @@ impl Gate {
 
     /// Raises the first flag, and counts up to 1,000,000 turns until the second is raised. The third
     /// is raised where they run out.
-    pub fn pass(&self) {
+    pub(crate) fn pass(&self) {
         self.reached.store(true, Ordering::SeqCst);
         for _turn in 0..1_000_000 {
             if self.opened.load(Ordering::SeqCst) {
@@ -34,7 +34,7 @@ impl Gate {
     }
 
     /// Counts up to 1,000,000 turns until the first flag is raised, and says whether it was.
-    pub fn is_reached(&self) -> bool {
+    pub(crate) fn is_reached(&self) -> bool {
         for _turn in 0..1_000_000 {
             if self.reached.load(Ordering::SeqCst) {
                 return true;
@@ -45,12 +45,12 @@ impl Gate {
     }
 
     /// Raises the second flag.
-    pub fn open(&self) {
+    pub(crate) fn open(&self) {
         self.opened.store(true, Ordering::SeqCst);
     }
 
     /// Says whether the third flag is raised.
-    pub fn is_given_up(&self) -> bool {
+    pub(crate) fn is_given_up(&self) -> bool {
         self.given_up.load(Ordering::SeqCst)
     }
 }

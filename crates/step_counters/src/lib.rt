@@ -6,9 +6,13 @@
 mod counter;
 mod gate;
 mod machine;
+mod starts;
+#[cfg(test)]
+mod tests;
 mod turns;
 
 pub use counter::Counter;
 pub use gate::Gate;
 pub use machine::{Add, Counters, Full};
+pub use starts::{start, three_counters};
 pub use turns::perform_many;

@@ -80,7 +80,11 @@ impl Machine for Counters {
     fn apply(held: &mut Held<Counter>, ready: Add, number: u64) -> u64 {
         let first = held.part_mut(0);
         let reply = first.len() + 1;
-        first.note(Entry { number, event: ready, reply });
+        first.note(Entry {
+            number,
+            event: ready,
+            reply,
+        });
         reply
     }
 

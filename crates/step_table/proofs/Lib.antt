@@ -1,3 +1,4 @@
+pub mod Helds
 pub mod Lists
 pub mod Totals
 pub mod Puts

@@ -21,7 +21,8 @@ use std::snapshot::Snapshot;
 use std::sync::Wait;
 
 /// A table of locks over the parts of a machine. Contracts see it as which table it is, and as what
-/// the parts meant that it was made over.
+/// the parts meant that it was made over. Where it is dropped, the parts are lost.
+#[derive(Drop)]
 pub struct StepTable<M: Machine> {
     table: Table<
         Option<M::Part>,

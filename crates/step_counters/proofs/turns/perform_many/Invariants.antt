@@ -5,4 +5,5 @@ abbrev pub invariant-loop-turn : goal.invariant-loop-turn
 invariant-loop-turn g l = record {
   table : l.pass.table ≡ l.fn.pass.table;
   shares : l.pass.shares ≡ l.fn.pass.shares;
-  done : l.done ≤ l._turn }
+  done : l.done ≤ l._turn;
+}

@@ -1,9 +1,10 @@
-use Rattle.step_counters.proofs.Firsts.{slots_stay, noted_there}
+use Rattle.step_table.proofs.Helds.{slots_with}
+use Rattle.step_counters.proofs.Firsts.{noted_there}
 use Rattle.std.proofs.Common.{◌≡◌, ◌+◌, length, ap}
 use Rattle.step_counters.proofs.machine.CountersMachine.apply.Goals as goal
 
 pub returns-clause-slots : goal.returns-clause-slots
-returns-clause-slots c = slots_stay c.args.held.now c.note.new.self
+returns-clause-slots c = slots_with c.args.held.now 0 c.note.new.self
 
 pub returns-clause-parts : goal.returns-clause-parts
 returns-clause-parts c =

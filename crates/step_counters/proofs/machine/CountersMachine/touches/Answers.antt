@@ -13,4 +13,4 @@ loop-slot-preserved c =
     let first : slots_from s (n - s) ≡ s ∷ slots_from (s + 1) (n - (s + 1)) = slots_next s (n - s) (omega arith) ∙ ap (λ m. s ∷ slots_from (s + 1) m) rest in
     let inv : before ++ slots_from s (n - s) ≡ slots_from 0 n = c.loop-slot.invariant in
     ap (λ xs. xs ++ slots_from (s + 1) (n - (s + 1))) c.in_ok-push-in-All.ensures.pushed
-      ∙ (append_assoc before (s ∷ []) (slots_from (s + 1) (n - (s + 1))) ∙ (ap (λ xs. before ++ xs) (sym first) ∙ inv))
+    ∙ (append_assoc before (s ∷ []) (slots_from (s + 1) (n - (s + 1))) ∙ (ap (λ xs. before ++ xs) (sym first) ∙ inv))

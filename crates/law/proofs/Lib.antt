@@ -1,2 +1,3 @@
 pub mod Starting
+pub mod Standing
 pub mod Law

@@ -21,13 +21,14 @@ start_holds slots = record {
       kept = λ ns. omega arith;
     };
     cover = record { once = λ table code x below. omega arith; whole = λ table code x below is. absurd (let q = is in grind arith) };
-    spaces = λ id x v e. absurd (let q = e in grind arith);
     past = λ ns to is. absurd (let q = is in grind arith);
     complete = λ s isin. absurd isin;
     listed = λ r l isin. absurd isin;
   };
   slots = λ slot. record {
-    good = record { sorted = tt; below = tt; cutoff = omega arith };
+    good = record { sorted = tt; below = tt; cutoff = omega arith; set_past = λ f held. absurd held };
+    home = λ present. absurd (let q = present in grind arith);
+    numbered = omega arith;
     each = λ i isin. absurd isin;
     opens = λ serving. absurd (let q = serving in grind arith);
     later = λ ns to is. absurd (let q = is in grind arith);

@@ -6,15 +6,17 @@
 ghost use Rattle.std.specs.Prelude.{ℕ, List};
 ghost use Rattle.model.specs.Entries.{Entry};
 ghost use Rattle.model.specs.History.{Legal, Right, replay, journal_of};
-ghost use Rattle.model.specs.Stands.{Cover};
+ghost use Rattle.model.specs.Stands.{Cover, Stands};
 ghost use Rattle.law_invariants.specs.Invariant.{Inv};
 ghost use Rattle.law.specs.Covering.{Covered};
 
 /// A legal history of covered acts is right: each reply is that of one list of stamped changes. What
 /// holds after each entry holds of the parts that the history leaves, and the ranges of each table's
-/// active tablets cover the codes, none twice.
+/// active tablets cover the codes, none twice. Each tablet stands for the journal: what is read of its
+/// live store from its cutoff on, and of a frozen set up to its time, is the view's row.
 pub fn legal_is_right()
     ensures right { (slots : ℕ) (history : List Entry) → Legal slots history → Covered history → Right slots history }
     ensures holds { (slots : ℕ) (history : List Entry) → Legal slots history → Covered history → Inv (replay slots history) (journal_of slots history) }
+    ensures stands { (slots : ℕ) (history : List Entry) → Legal slots history → Covered history → Stands (replay slots history) (journal_of slots history) }
     ensures cover { (slots : ℕ) (history : List Entry) → Legal slots history → Covered history → Cover (replay slots history).master.activity (journal_of slots history) }
 {}

@@ -30,8 +30,8 @@ use Rattle.law_invariants.proofs.Covering.{made_covers}
 use Rattle.law_invariants.proofs.Cataloguing.{CatalogStands, catalog_of, catalog_table_made}
 use Rattle.law_changes.proofs.Told.{slots_told, master_early, slots_equal}
 use Rattle.law_changes.proofs.Quiet.{Carries, good_carried}
-use Rattle.law_changes.proofs.Plans.{has_in}
-use Rattle.law_changes.proofs.Free.{RiseFrom, rise_in, in_has, AreFree, least_free}
+use Rattle.law_changes.proofs.Plans.{has_in, in_has}
+use Rattle.law_changes.proofs.Free.{RiseFrom, rise_in, AreFree, least_free}
 
 -- No rows are awaited
 
@@ -89,6 +89,24 @@ share_slot [] place count n m w isin = absurd isin
 share_slot (slot ∷ slots) place count n m w (inl e) = inl (ap (λ v. v.slot) e)
 share_slot (slot ∷ slots) place count n m w (inr isin) = inr (share_slot slots (place + 1) count n m w isin)
 
+-- the new tablets' numbers rise, and so one tablet is in one slot
+share_number : (slots : List ℕ) (place count n : ℕ) (m : Master) (w : Interval) → In w (shares slots place count n m) → m.drawn.tablets + place < w.tablet.number
+share_number [] place count n m w isin = absurd isin
+share_number (slot ∷ slots) place count n m w (inl e) = (let q : m.drawn.tablets + (place + 1) ≡ w.tablet.number = ap (λ v. v.tablet.number) e in omega arith)
+share_number (slot ∷ slots) place count n m w (inr isin) = (let q : m.drawn.tablets + (place + 1) < w.tablet.number = share_number slots (place + 1) count n m w isin in omega arith)
+
+share_home : (slots : List ℕ) (place count n : ℕ) (m : Master) (v w : Interval) → In v (shares slots place count n m) → In w (shares slots place count n m) → v.tablet.number ≡ w.tablet.number
+    → v.slot ≡ w.slot
+share_home [] place count n m v w inv inw same_ = absurd inv
+share_home (slot ∷ slots) place count n m v w (inl e) (inl f) same_ = ap (λ i. i.slot) (sym e ∙ f)
+share_home (slot ∷ slots) place count n m v w (inl e) (inr inw) same_ = absurd
+    (let q : m.drawn.tablets + (place + 1) ≡ v.tablet.number = ap (λ i. i.tablet.number) e in
+    let r : m.drawn.tablets + (place + 1) < w.tablet.number = share_number slots (place + 1) count n m w inw in omega arith)
+share_home (slot ∷ slots) place count n m v w (inr inv) (inl f) same_ = absurd
+    (let q : m.drawn.tablets + (place + 1) ≡ w.tablet.number = ap (λ i. i.tablet.number) f in
+    let r : m.drawn.tablets + (place + 1) < v.tablet.number = share_number slots (place + 1) count n m v inv in omega arith)
+share_home (slot ∷ slots) place count n m v w (inr inv) (inr inw) same_ = share_home slots (place + 1) count n m v w inv inw same_
+
 -- the slot of each new interval is told to make its tablet
 share_told : (slots : List ℕ) (place count n low : ℕ) (m : Master) (w : Interval) → RiseFrom low slots → In w (shares slots place count n m)
     → act_for (tell_made (shares slots place count n m)) w.slot ≡ Make w.tablet w.table w.low w.high 1
@@ -114,6 +132,12 @@ table_made_act m ns name columns = TableMade (next_table m) ns name (numbered 1 
 abbrev pub with_made : Master → ℕ → Id → List ℕ → List NewColumn → List Made → List Made
 with_made m n ns name columns changes = with n (table_made_act m ns name columns) changes
 
+-- a new tablet awaits no rows
+new_awaits : (m : Master) (changes : List Made) (place : ℕ) → MasterGood m changes → awaited_in m.restorations (next_tablet m (place + 1)) [] ≡ None
+new_awaits m changes place h =
+    let tablet = next_tablet m (place + 1) in
+    none_awaited m.restorations tablet [] (λ r l isin lists. not_same l.tablet tablet (apart_by_number l.tablet tablet (let q : l.tablet.number ≤ m.drawn.tablets = h.listed r l isin lists in omega arith)))
+
 -- the new table was never in the view
 never_made : (m : Master) (changes : List Made) (x : ℕ) → MasterGood m changes → table_at changes x (next_table m) ≡ None
 never_made m changes x h = h.tables.unmade (next_table m) x (h.tables.owners_drawn (next_table m) (omega arith))
@@ -136,7 +160,9 @@ good_begins m n changes ns name tablets columns slots t slot place low high h dr
       low_is = refl;
       high_is = refl;
       viewed = λ x active. ap is_some (made_here n id ns name (numbered 1 columns) changes x (leb-true n x (both_pass (leb n x) true active).0));
-      stands = λ settled key x within cut soon. sym (made_rows n id ns name (numbered 1 columns) changes x id key ∙ no_rows changes x id key (never_made m changes x h));
+      waits = λ point waits opened. (let q : None ≡ Some point = sym (new_awaits m changes place h) ∙ waits in cc);
+      stands = λ counted key x within cut soon. sym (made_rows n id ns name (numbered 1 columns) changes x id key ∙ no_rows changes x id key (never_made m changes x h));
+      sets = λ f held. absurd held;
     }
 
 good_share : (m : Master) (n : ℕ) (changes : List Made) (ns : Id) (name : List ℕ) (tablets : ℕ) (columns : List NewColumn) (slots : List ℕ) (t : Tablet) (w : Interval)
@@ -149,16 +175,22 @@ good_share m n changes ns name tablets columns slots t w h free isin =
 
 -- a slot that gets a tablet of the new table
 slot_placed : (m : Master) (n : ℕ) (changes : List Made) (ns : Id) (name : List ℕ) (tablets : ℕ) (columns : List NewColumn) (slots : List ℕ) (t : Tablet) (i : ℕ) (w : Interval)
-    → m.clock < n → MasterGood m changes → AreFree m tablets slots → In i slots → In w (shares slots 0 tablets n m) → w.slot ≡ i
+    → m.clock < n → MasterGood m changes → ((j : Interval) → In j m.activity → j.tablet.number ≤ m.drawn.tablets) → AreFree m tablets slots → In i slots → In w (shares slots 0 tablets n m) → w.slot ≡ i
     → SlotGood (table_made ns name tablets columns slots n m) (with_made m n ns name columns changes) i (effect (Make w.tablet w.table w.low w.high 1) n t)
-slot_placed m n changes ns name tablets columns slots t i w before h free isin listed is =
+slot_placed m n changes ns name tablets columns slots t i w before h drawn free isin listed is =
     let k = table_made ns name tablets columns slots n m in
     let new = with_made m n ns name columns changes in
     let s = share_is slots 0 tablets n m w (let e = free.long in omega arith) listed in
+    let number : w.tablet.number ≡ m.drawn.tablets + (s.place + 1) = ap (λ v. v.tablet.number) s.is in
     let told_w : (v : Interval) → In v (shares slots 0 tablets n m) → v.slot ≡ i → act_for (tell_made (shares slots 0 tablets n m)) i ≡ Make v.tablet v.table v.low v.high 1 =
     λ v lists at. ap (act_for (tell_made (shares slots 0 tablets n m))) (sym at) ∙ share_told slots 0 tablets n 1 m v free.rise lists in
     record {
-      good = record { sorted = tt; below = tt; cutoff = le_refl n };
+      good = record { sorted = tt; below = tt; cutoff = le_refl n; set_past = λ f held. absurd held };
+      home = λ present j lists same_. elim (in_append m.activity (shares slots 0 tablets n m) j lists) [
+        | inl old ↦ absurd (let q : j.tablet.number ≤ m.drawn.tablets = drawn j old in let e : j.tablet.number ≡ w.tablet.number = ap (λ k. k.number) same_ in omega arith)
+        | inr made ↦ share_home slots 0 tablets n m j w made listed (ap (λ k. k.number) same_) ∙ is
+      ];
+      numbered = (let l : s.place < tablets = s.drawn in let q : w.tablet.number ≤ m.drawn.tablets + tablets = omega arith in q);
       each = λ j lists at. elim (in_append m.activity (shares slots 0 tablets n m) j lists) [
         | inl old ↦ absurd (free.vacant i isin j old at)
         | inr made ↦ subst (λ a. IsGood k new (effect a n t) j) (sym (told_w j made at) ∙ told_w w listed is) (good_share m n changes ns name tablets columns slots t j h free made)
@@ -169,8 +201,7 @@ slot_placed m n changes ns name tablets columns slots t i w before h free isin l
         slot_is = is;
         opened = ap (λ v. v.to) s.is;
         begun = (let e : w.from ≡ n = ap (λ v. v.from) s.is in omega arith);
-        settled = none_awaited m.restorations w.tablet [] (λ r l isin lists. not_same l.tablet w.tablet (apart_by_number l.tablet w.tablet
-            (let e : w.tablet.number ≡ m.drawn.tablets + (s.place + 1) = ap (λ v. v.tablet.number) s.is in let q : l.tablet.number ≤ m.drawn.tablets = h.listed r l isin lists in omega arith)));
+        settled = ap (λ v. awaited_in m.restorations v.tablet []) s.is ∙ new_awaits m changes s.place h;
       };
       later = λ owner to fixed serving unfenced owned. le_trans (h.past owner to fixed) (le_of_lt before);
     }
@@ -196,6 +227,14 @@ slot_aside m n changes ns name tablets columns slots t i before free aside g =
     let new = with_made m n ns name columns changes in
     record {
       good = g.good;
+      home = λ present j lists same_. elim (in_append m.activity (shares slots 0 tablets n m) j lists) [
+        | inl old ↦ g.home present j old same_
+        | inr made ↦ absurd (
+            let q : m.drawn.tablets + 0 < j.tablet.number = share_number slots 0 tablets n m j made in
+            let e : j.tablet.number ≡ t.tablet.number = ap (λ k. k.number) same_ in
+            let l : t.tablet.number ≤ m.drawn.tablets = g.numbered in omega arith)
+      ];
+      numbered = le_trans g.numbered (omega arith);
       each = λ j lists at. elim (in_append m.activity (shares slots 0 tablets n m) j lists) [
         | inl old ↦ good_carried m k changes new t j (carries_made m n changes ns name tablets columns slots j before) (g.each j old at)
         | inr made ↦ absurd (
@@ -231,7 +270,6 @@ master_made m n changes ns name tablets columns slots before pos free drawn stan
   cover = made_covers m.activity changes slots tablets n m ns name (numbered 1 columns) pos free.long
       (λ i isin. not_same i.table (next_table m) (apart_by_number i.table (next_table m) (let l : i.table.number ≤ m.drawn.tables = drawn i isin in omega arith)))
       (λ x. ap is_some (never_made m changes x h)) h.cover;
-  spaces = stands.tables.inside;
   past = λ owner to is. le_trans (h.past owner to is) (le_of_lt before);
   complete = λ s isin. le_trans (h.complete s isin) (le_of_lt before);
   listed = λ r l isin lists. le_trans (h.listed r l isin lists) (omega arith);
@@ -291,7 +329,7 @@ create_table_keeps ps changes n namespace table tablets columns slots later aske
             let s = share_at slots 0 tablets n m i isin in
             let e : act_for told_made i ≡ Make s.0.tablet s.0.table s.0.low s.0.high 1 = ap (act_for told_made) (sym s.1.1) ∙ share_told slots 0 tablets n 1 m s.0 free.rise s.1.0 in
             subst (λ a. SlotGood k new i (effect a n (ps.tablet i))) (sym e)
-            (slot_placed m n changes ns table tablets columns slots (ps.tablet i) i s.0 before h free isin s.1.0 s.1.1)))
+            (slot_placed m n changes ns table tablets columns slots (ps.tablet i) i s.0 before h (λ j listed. ((inv.slots j.slot).each j listed refl).drawn) free isin s.1.0 s.1.1)))
             (λ i aside. slot_aside m n changes ns table tablets columns slots (ps.tablet i) i before free aside (inv.slots i));
         late = nothing_late n (table_made_act m ns table columns) changes m.clock before h.past inv.late;
       };

@@ -5,10 +5,10 @@ use Rattle.std.specs.Option.{is_some}
 use Rattle.std.proofs.lemmas.Bool.{cond_both, true≢false}
 use Rattle.std.proofs.lemmas.Bool.Decides.{nat_tests}
 use Rattle.model.specs.Ids.{Id, In, has, same, same_slots, rising}
-use Rattle.model.specs.Times.{before_end, ended}
+use Rattle.model.specs.Times.{before_end, ended, is_open}
 use Rattle.model.specs.Activity.{Interval, active_at}
 use Rattle.model.specs.Catalog.{TableRecord, namespace_named}
-use Rattle.model.specs.Journal.{Change as Made, ChangeAct, TableDropped, TableView, table_at, row_at}
+use Rattle.model.specs.Journal.{Change as Made, ChangeAct, TableDropped, table_at, row_at}
 use Rattle.model.specs.Tablets.{Tablet, Presence, OutOfService, PutOut, effect, is_vacant}
 use Rattle.model.specs.Acts.{DropTable, Change, UnknownNamespace, UnknownTable, Busy}
 use Rattle.model.specs.Parts.{Master, Parts, Check, If}
@@ -26,7 +26,7 @@ use Rattle.law_invariants.proofs.Journaling.{dropped_before, dropped_others, dro
 use Rattle.law_invariants.proofs.Covering.{dropped_covers}
 use Rattle.law_invariants.proofs.Cataloguing.{CatalogStands, catalog_of, catalog_table_dropped}
 use Rattle.law_changes.proofs.Told.{slots_told, master_early, tablet_early, told_same, slots_equal}
-use Rattle.law_changes.proofs.Plans.{active_planned}
+use Rattle.law_changes.proofs.Plans.{active_planned, planned_active}
 use Rattle.law_changes.proofs.Schemas.{with_found}
 
 -- where an interval ends that may be one of the table's
@@ -80,6 +80,19 @@ cut_active id n x i h =
     let both = both_pass (leb i.from x) (before_end x (end_of id n i)) h in
     (passes_both (leb i.from x) (before_end x i.to) both.0 (earlier id n x i both.1), both.1)
 
+-- a cut interval that is open was open
+open_before : (id : Id) (n : ℕ) (i : Interval) → is_open (end_of id n i) ≡ true → is_open i.to ≡ true
+open_before id n i = cond_both (same i.table id) (ended n i.to) i.to (λ to. is_open to ≡ true → is_open i.to ≡ true) (λ e. not_ended i.to) (λ e h. h)
+  where
+    not_ended : (to : Option ℕ) → is_open (ended n to) ≡ true → is_open to ≡ true
+    not_ended None h = refl
+    not_ended (Some e) h = h
+
+-- a tablet has its cut intervals where it had them
+home_cut : (m : Master) (id : Id) (n slot : ℕ) (tablet : Id) → ((i : Interval) → In i m.activity → i.tablet ≡ tablet → i.slot ≡ slot)
+    → (i : Interval) → In i (map (cut_off id n) m.activity) → i.tablet ≡ tablet → i.slot ≡ slot
+home_cut m id n slot tablet h = in_mapped (cut_off id n) (λ i. i.tablet ≡ tablet → i.slot ≡ slot) m.activity h
+
 good_cut : (m : Master) (n : ℕ) (changes : List Made) (id : Id) (t : Tablet) (c : ℕ) (p : Presence) (i : Interval) → m.clock < n → is_vacant p ≡ false → OverBy c i.from (end_of id n i)
     → IsGood m changes t i → IsGood (table_dropped id n m) (with n (TableDropped id) changes) (record t { clock = c; presence = p }) (cut_off id n i)
 good_cut m n changes id t c p i before present over g =
@@ -99,18 +112,26 @@ good_cut m n changes id t c p i before present over g =
           on_table {P = is_some (table_at new x i.table) ≡ true} id m.clock n x i before g.past a.1
           (λ l. ap is_some (dropped_before n id changes x i.table l) ∙ g.viewed x a.0)
           (λ e. ap is_some (dropped_others n id changes x i.table e) ∙ g.viewed x a.0));
-      stands = λ settled key x within cut soon. g.stands settled key x within cut (earlier id n x i soon)
+      waits = λ point waits opened. g.waits point waits (open_before id n i opened);
+      stands = λ counted key x within cut soon. g.stands counted key x within cut (earlier id n x i soon)
           ∙ on_table {P = row_at changes x i.table key ≡ row_at new x i.table key} id m.clock n x i before g.past soon
           (λ l. sym (dropped_rows_before n id changes x i.table key l))
           (λ e. sym (dropped_rows_others n id changes x i.table key e));
+      sets = λ f held key x within cut by active. (let a = cut_active id n x i active in
+          g.sets f held key x within cut by a.0
+          ∙ on_table {P = row_at changes x i.table key ≡ row_at new x i.table key} id m.clock n x i before g.past a.1
+          (λ l. sym (dropped_rows_before n id changes x i.table key l))
+          (λ e. sym (dropped_rows_others n id changes x i.table key e)));
     }
 
 -- a slot whose tablet is hidden
-slot_hidden : (m : Master) (n : ℕ) (changes : List Made) (id : Id) (slot : ℕ) (t : Tablet) → m.clock < n → t.clock < n → SlotGood m changes slot t
+slot_hidden : (m : Master) (n : ℕ) (changes : List Made) (id : Id) (slot : ℕ) (t : Tablet) → m.clock < n → t.clock < n → is_vacant t.presence ≡ false → SlotGood m changes slot t
     → SlotGood (table_dropped id n m) (with n (TableDropped id) changes) slot (effect (PutOut n) n t)
-slot_hidden m n changes id slot t before early h =
+slot_hidden m n changes id slot t before early present h =
     let g = tablet_ticked m n changes slot t (le_of_lt early) h in record {
-      good = record { sorted = g.good.sorted; below = g.good.below; cutoff = g.good.cutoff };
+      good = record { sorted = g.good.sorted; below = g.good.below; cutoff = g.good.cutoff; set_past = g.good.set_past };
+      home = λ hidden. home_cut m id n slot t.tablet (h.home present);
+      numbered = h.numbered;
       each = in_mapped (cut_off id n) (λ i. i.slot ≡ slot → IsGood (table_dropped id n m) (with n (TableDropped id) changes) (effect (PutOut n) n t) i) m.activity
           (λ i isin is. let q = h.each i isin is in
           good_cut m n changes id t n (OutOfService n) i before refl
@@ -127,6 +148,8 @@ slot_beside : (m : Master) (n : ℕ) (changes : List Made) (id : Id) (slot : ℕ
     → SlotGood (table_dropped id n m) (with n (TableDropped id) changes) slot t
 slot_beside m n changes id slot t before apart h = record {
   good = h.good;
+  home = λ present. home_cut m id n slot t.tablet (h.home present);
+  numbered = h.numbered;
   each = in_mapped (cut_off id n) (λ i. i.slot ≡ slot → IsGood (table_dropped id n m) (with n (TableDropped id) changes) t i) m.activity
       (λ i isin is. let q = h.each i isin is in good_cut m n changes id t t.clock t.presence i before q.present (subst (OverBy t.clock i.from) (sym (apart i isin is)) q.over) q);
   opens = λ serving unfenced. (let o = h.opens serving unfenced in record {
@@ -140,23 +163,12 @@ slot_beside m n changes id slot t before apart h = record {
   later = h.later;
 }
 
-dropped_some : (n : ℕ) (id : Id) (changes : List Made) (x : ℕ) (table : Id) (v : TableView) → table_at (with n (TableDropped id) changes) x table ≡ Some v → table_at changes x table ≡ Some v
-dropped_some n id changes x table v e = either_way (leb n x)
-    (λ l. either_way (same id table)
-    (λ s. absurd (let q : cond (leb n x) (cond (same id table) None (table_at changes x table)) (table_at changes x table) ≡ Some v = e in let k : None ≡ Some v = rw (l, s) at q in none_is v k))
-    (λ s. sym (dropped_others n id changes x table s) ∙ e))
-    (λ l. sym (dropped_before n id changes x table (let k : x < n = grind (arith, nat_tests) in k)) ∙ e)
-  where
-    none_is : (v : TableView) → None ≡ Some v → ⊥
-    none_is v q = cc
-
 master_dropped : (m : Master) (n : ℕ) (changes : List Made) (id : Id) → m.clock < n → CatalogStands (table_dropped id n m) (with n (TableDropped id) changes) → MasterGood m changes
     → MasterGood (table_dropped id n m) (with n (TableDropped id) changes)
 master_dropped m n changes id before stands h = record {
   namespaces = stands.namespaces;
   tables = stands.tables;
   cover = dropped_covers m.activity changes id n h.cover;
-  spaces = λ table x v e. h.spaces table x v (dropped_some n id changes x table v e);
   past = λ ns to is. le_trans (h.past ns to is) (le_of_lt before);
   complete = λ s isin. le_trans (h.complete s isin) (le_of_lt before);
   listed = h.listed;
@@ -199,8 +211,11 @@ drop_table_keeps ps changes n namespace table slots later plan inv =
       inv = subst (Inv (told (Change command slots) (accepts command slots (tell slots (PutOut n)) []) n ps)) (sym with_) (record {
         master = master_dropped m n changes id before (subst (CatalogStands (changed command slots n m)) with_ (catalog_table_dropped m n namespace table slots [] changes (le_of_lt before) passes.1.0 (catalog_of m changes inv.master))) inv.master;
         slots = slots_told command slots (tell slots (PutOut n)) [] n ps (table_dropped id n m) new
-            (λ i is from. subst (λ a. SlotGood (table_dropped id n m) new i (effect a n (ps.tablet i))) (sym (told_same slots (PutOut n) i is))
-            (slot_hidden m n changes id i (ps.tablet i) before (tablet_early slots ps n i later is from) (inv.slots i)))
+            (λ i is from. (
+            let j = planned_active m id i (sym (ap (λ ss. has ss i) all) ∙ is) in
+            let present : is_vacant (ps.tablet i).presence ≡ false = ((inv.slots i).each j.0 j.1.0 j.1.1).present in
+            subst (λ a. SlotGood (table_dropped id n m) new i (effect a n (ps.tablet i))) (sym (told_same slots (PutOut n) i is))
+            (slot_hidden m n changes id i (ps.tablet i) before (tablet_early slots ps n i later is from) present (inv.slots i))))
             (λ i others. slot_beside m n changes id i (ps.tablet i) before (λ j isin is. stays_ended id n j (λ opened of_table.
             let planned : has slots j.slot ≡ true = ap (λ ss. has ss j.slot) all ∙ active_planned m id j isin opened of_table in
             let from : 1 ≤ j.slot = ((inv.slots i).each j isin is).slot_from in

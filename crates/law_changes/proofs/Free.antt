@@ -1,14 +1,13 @@
 -- The free slots that a plan takes differ, and hold no tablet.
-use Rattle.std.proofs.Common.{ℕ, suc, zero, ◌≡◌, ◌≤◌, ◌<◌, ◌+◌, List, [], ◌∷◌, length, map, take, Bool, true, false, ◌||◌, inl, inr, sym, ap, ◌∙◌, arith, not, eqb, eqb-true, le_trans, length-take-le}
+use Rattle.std.proofs.Common.{ℕ, suc, zero, ◌≡◌, ◌≤◌, ◌<◌, ◌+◌, List, [], ◌∷◌, length, map, take, Bool, true, false, ◌||◌, inl, inr, sym, ap, ◌∙◌, arith, not, le_trans, length-take-le}
 use Rattle.std.specs.List.{filter}
 use Rattle.std.proofs.lemmas.Bool.{cond_both, true≢false}
 use Rattle.model.specs.Ids.{In, has}
 use Rattle.model.specs.Activity.{Interval}
 use Rattle.model.specs.Parts.{Master}
 use Rattle.model.specs.Looks.{counting, is_free, free_slots, reserved}
-use Rattle.law_store.proofs.Keys.{either_way}
 use Rattle.law_invariants.proofs.Finding.{map_in}
-use Rattle.law_changes.proofs.Plans.{has_in, or_ways}
+use Rattle.law_changes.proofs.Plans.{filter_in, has_in}
 
 -- the slots rise, from one on
 abbrev pub RiseFrom : ℕ → List ℕ → Type 0
@@ -40,23 +39,12 @@ rise_in [] low slot h isin = absurd isin
 rise_in (s ∷ ss) low slot h (inl e) = let l : low ≤ s = h.0 in omega arith
 rise_in (s ∷ ss) low slot h (inr isin) = let l : low ≤ s = h.0 in let r : s + 1 ≤ slot = rise_in ss (s + 1) slot h.1 isin in omega arith
 
-pub in_has : (ss : List ℕ) (slot : ℕ) → has ss slot ≡ true → In slot ss
-in_has [] slot h = cc
-in_has (s ∷ ss) slot h = or_ways (eqb s slot) (has ss slot) h (λ e. inl (eqb-true s slot e)) (λ e. inr (in_has ss slot e))
-
 in_take : (ss : List ℕ) (count slot : ℕ) → In slot (take count ss) → In slot ss
 in_take [] zero slot isin = absurd isin
 in_take [] (suc count) slot isin = absurd isin
 in_take (s ∷ ss) zero slot isin = absurd isin
 in_take (s ∷ ss) (suc count) slot (inl e) = inl e
 in_take (s ∷ ss) (suc count) slot (inr isin) = inr (in_take ss count slot isin)
-
-filter_in : (ss : List ℕ) (test : ℕ → Bool) (slot : ℕ) → In slot (filter test ss) → In slot ss × (test slot ≡ true)
-filter_in [] test slot isin = absurd isin
-filter_in (s ∷ ss) test slot isin = either_way (test s)
-    (λ e. let k : In slot (s ∷ filter test ss) = rw e at isin in
-    elim k [ inl q ↦ (inl q, ap test (sym q) ∙ e) | inr r ↦ (let h = filter_in ss test slot r in (inr h.0, h.1)) ])
-    (λ e. let k : In slot (filter test ss) = rw e at isin in let h = filter_in ss test slot k in (inr h.0, h.1))
 
 in_counting : (count from slot : ℕ) → In slot (counting count from) → slot < from + count
 in_counting zero from slot isin = absurd isin

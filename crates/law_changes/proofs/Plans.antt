@@ -1,5 +1,5 @@
 -- The slots of a plan: those of a table's tablets, and free ones.
-use Rattle.std.proofs.Common.{ℕ, ◌≡◌, List, [], ◌∷◌, map, None, Bool, true, false, cond, ◌&&◌, ◌||◌, inl, inr, refl, ap, ◌∙◌, arith, eqb, ltb, eqb-true}
+use Rattle.std.proofs.Common.{ℕ, ◌≡◌, List, [], ◌∷◌, map, None, Bool, true, false, cond, ◌&&◌, ◌||◌, inl, inr, refl, sym, ap, ◌∙◌, arith, eqb, ltb, eqb-true}
 use Rattle.std.specs.List.{filter}
 use Rattle.std.proofs.lemmas.Bool.{cond_both}
 use Rattle.std.proofs.lemmas.Bool.Decides.{nat_tests}
@@ -15,6 +15,13 @@ pub in_filter : {A : Type 0} (xs : List A) (test : A → Bool) (a : A) → In a 
 in_filter [] test a isin t = absurd isin
 in_filter (x ∷ xs) test a (inl e) t = let k : test x ≡ true = ap test e ∙ t in rw k (inl e)
 in_filter (x ∷ xs) test a (inr isin) t = cond_both (test x) (x ∷ filter test xs) (filter test xs) (In a) (λ k. inr (in_filter xs test a isin t)) (λ k. in_filter xs test a isin t)
+
+pub filter_in : {A : Type 0} (xs : List A) (test : A → Bool) (a : A) → In a (filter test xs) → In a xs × (test a ≡ true)
+filter_in [] test a isin = absurd isin
+filter_in (x ∷ xs) test a isin = either_way (test x)
+    (λ e. let k : In a (x ∷ filter test xs) = rw e at isin in
+    elim k [ inl q ↦ (inl q, ap test (sym q) ∙ e) | inr r ↦ (let h = filter_in xs test a r in (inr h.0, h.1)) ])
+    (λ e. let k : In a (filter test xs) = rw e at isin in let h = filter_in xs test a k in (inr h.0, h.1))
 
 pub has_in : (slots : List ℕ) (slot : ℕ) → In slot slots → has slots slot ≡ true
 has_in [] slot isin = absurd isin
@@ -46,6 +53,41 @@ has_put (r ∷ slots) s slot h = cond_both (ltb s r) (s ∷ r ∷ slots) (cond (
 pub has_rising : (slots : List ℕ) (slot : ℕ) → has slots slot ≡ true → has (rising slots) slot ≡ true
 has_rising [] slot h = h
 has_rising (s ∷ slots) slot h = has_put (rising slots) s slot (either_way (eqb s slot) (λ e. rw e refl) (λ e. let q : (eqb s slot || has slots slot) ≡ true = h in let k : has slots slot ≡ true = rw e at q in either_has (eqb s slot) _ (has_rising slots slot k)))
+
+pub in_has : (ss : List ℕ) (slot : ℕ) → has ss slot ≡ true → In slot ss
+in_has [] slot h = cc
+in_has (s ∷ ss) slot h = or_ways (eqb s slot) (has ss slot) h (λ e. inl (eqb-true s slot e)) (λ e. inr (in_has ss slot e))
+
+put_has : (slots : List ℕ) (s slot : ℕ) → has (put_slot s slots) slot ≡ true → has (s ∷ slots) slot ≡ true
+put_has [] s slot h = h
+put_has (r ∷ slots) s slot h = cond_both (ltb s r) (s ∷ r ∷ slots) (cond (eqb r s) (r ∷ slots) (r ∷ put_slot s slots)) (λ l. has l slot ≡ true → has (s ∷ r ∷ slots) slot ≡ true)
+    (λ e k. k)
+    (λ e. cond_both (eqb r s) (r ∷ slots) (r ∷ put_slot s slots) (λ l. has l slot ≡ true → has (s ∷ r ∷ slots) slot ≡ true)
+    (λ is k. either_has (eqb s slot) (eqb r slot || has slots slot) k)
+    (λ is k. or_ways (eqb r slot) (has (put_slot s slots) slot) k
+    (λ q. either_has (eqb s slot) (eqb r slot || has slots slot) (rw q refl))
+    (λ q. or_ways (eqb s slot) (has slots slot) (put_has slots s slot q)
+    (λ b. rw b refl)
+    (λ b. either_has (eqb s slot) (eqb r slot || has slots slot) (either_has (eqb r slot) (has slots slot) b)))))
+    h
+
+rising_has : (slots : List ℕ) (slot : ℕ) → has (rising slots) slot ≡ true → has slots slot ≡ true
+rising_has [] slot h = h
+rising_has (s ∷ slots) slot h = or_ways (eqb s slot) (has (rising slots) slot) (put_has (rising slots) s slot h)
+    (λ e. rw e refl)
+    (λ e. either_has (eqb s slot) (has slots slot) (rising_has slots slot e))
+
+slot_in : (is : List Interval) (slot : ℕ) → In slot (map (λ j. j.slot) is) → (j : Interval) × (In j is × (j.slot ≡ slot))
+slot_in [] slot isin = absurd isin
+slot_in (i ∷ is) slot (inl e) = (i, (inl refl, e))
+slot_in (i ∷ is) slot (inr isin) = let r = slot_in is slot isin in (r.0, (inr r.1.0, r.1.1))
+
+-- each slot in the plan of what is done to a table is that of an interval
+pub planned_active : (m : Master) (id : Id) (slot : ℕ) → has (rising (map (λ j. j.slot) (active_in m id))) slot ≡ true → (j : Interval) × (In j m.activity × (j.slot ≡ slot))
+planned_active m id slot planned =
+    let slots = map (λ j. j.slot) (active_in m id) in
+    let r = slot_in (active_in m id) slot (in_has slots slot (rising_has slots slot planned)) in
+    (r.0, ((filter_in m.activity (λ j. is_open j.to && same j.table id) r.0 r.1.0).0, r.1.1))
 
 -- the slot of each active tablet of a table is in the plan of what is done to the table
 pub active_planned : (m : Master) (id : Id) (i : Interval) → In i m.activity → i.to ≡ None → same i.table id ≡ true → has (rising (map (λ j. j.slot) (active_in m id))) i.slot ≡ true

@@ -1,5 +1,5 @@
 -- A command that makes and drops no table keeps what holds.
-use Rattle.std.proofs.Common.{ℕ, ◌≡◌, ◌≤◌, List, ◌∷◌, Some, true, sym, ap, subst, ◌∙◌, arith, le_of_lt, le_trans}
+use Rattle.std.proofs.Common.{ℕ, ◌≡◌, ◌≤◌, List, ◌∷◌, true, sym, ap, subst, ◌∙◌, arith, leb, le_of_lt, le_trans}
 use Rattle.std.specs.Option.{is_some}
 use Rattle.model.specs.Ids.{Id, In}
 use Rattle.model.specs.Activity.{Interval, active_at}
@@ -14,7 +14,8 @@ use Rattle.model.specs.Changes.{accepts}
 use Rattle.model.specs.Changed.{changed}
 use Rattle.model.specs.History.{told}
 use Rattle.model.specs.Right.{NothingLate}
-use Rattle.law_invariants.specs.Invariant.{Covered, IsGood, SlotGood, MasterGood, Inv, Later}
+use Rattle.law_invariants.specs.Invariant.{Covered, IsGood, SlotGood, MasterGood, Inv, Later, begins_at}
+use Rattle.law_invariants.proofs.Finding.{both_pass}
 use Rattle.law_invariants.proofs.Ticking.{past_later, tablet_ticked}
 use Rattle.law_invariants.proofs.Journaling.{IsQuiet}
 use Rattle.law_invariants.proofs.Covering.{quiet_covers}
@@ -57,7 +58,9 @@ good_carried m k changes new t i f g = record {
   low_is = g.low_is;
   high_is = g.high_is;
   viewed = λ x active. f.viewed x active (g.viewed x active);
-  stands = λ settled key x within cut before. g.stands (ap (λ rs. awaited_in rs t.tablet t.done) (sym f.restorations) ∙ settled) key x within cut before ∙ sym (f.rows x key before);
+  waits = λ point waits. g.waits point (ap (λ rs. awaited_in rs t.tablet t.done) (sym f.restorations) ∙ waits);
+  stands = λ counted key x within cut before. g.stands (ap (λ rs. begins_at (awaited_in rs t.tablet t.done) i.from) (sym f.restorations) ∙ counted) key x within cut before ∙ sym (f.rows x key before);
+  sets = λ s held key x within cut by active. g.sets s held key x within cut by active ∙ sym (f.rows x key (both_pass (leb i.from x) (before_end x i.to) active).1);
 }
 
 carries : (m k : Master) (changes new : List Made) (i : Interval) → Follows m k changes new → Carries m k changes new i
@@ -67,13 +70,15 @@ carries m k changes new i f = record {
   restorations = f.restorations;
   drawn = (let e = f.drawn in omega arith);
   drawn_tables = (let e = f.drawn_tables in omega arith);
-  viewed = λ x active is. (f.quiet.tables x i.table).there ∙ is;
+  viewed = λ x active is. f.quiet.tables x i.table ∙ is;
   rows = λ x key before. f.quiet.rows x i.table key;
 }
 
 pub slot_follows : (m k : Master) (changes new : List Made) (slot : ℕ) (t : Tablet) → Follows m k changes new → SlotGood m changes slot t → SlotGood k new slot t
 slot_follows m k changes new slot t f h = record {
   good = h.good;
+  home = λ present i isin is. h.home present i (subst (In i) f.activity isin) is;
+  numbered = (let l = h.numbered in let e = f.drawn in omega arith);
   each = λ i isin is. good_carried m k changes new t i (carries m k changes new i f) (h.each i (subst (In i) f.activity isin) is);
   opens = λ serving unfenced. (let o = h.opens serving unfenced in record {
     interval = o.interval;
@@ -91,7 +96,6 @@ master_follows m k changes new f stands h = record {
   namespaces = stands.namespaces;
   tables = stands.tables;
   cover = subst (λ is. Covered is new) (sym f.activity) (quiet_covers m.activity changes new f.quiet h.cover);
-  spaces = λ id x v is. (let u = (f.quiet.tables x id).space v is in ap (λ os. owner_of os id) f.owners ∙ h.spaces id x u.0 u.1.0 ∙ ap Some u.1.1);
   past = λ ns to is. le_trans (h.past ns to (sym (f.quiet.fixed ns to) ∙ is)) f.clock;
   complete = λ s isin. le_trans (h.complete s (subst (In s) f.schedules isin)) f.clock;
   listed = λ r l isin lists. (let q = h.listed r l (subst (In r) f.restorations isin) lists in let e = f.drawn in omega arith);
@@ -106,7 +110,9 @@ IsMild _ = ⊥
 mild_keeps : (a : TabletAct) (m : Master) (n : ℕ) (changes : List Made) (slot : ℕ) (t : Tablet) → IsMild a → t.clock ≤ n → SlotGood m changes slot t → SlotGood m changes slot (effect a n t)
 mild_keeps Clock m n changes slot t mild le h = tablet_ticked m n changes slot t le h
 mild_keeps (SetVersion version) m n changes slot t mild le h = let g = tablet_ticked m n changes slot t le h in record {
-  good = record { sorted = g.good.sorted; below = g.good.below; cutoff = g.good.cutoff };
+  good = record { sorted = g.good.sorted; below = g.good.below; cutoff = g.good.cutoff; set_past = g.good.set_past };
+  home = g.home;
+  numbered = g.numbered;
   each = λ i isin is. (let q = g.each i isin is in record {
     past = q.past;
     over = q.over;
@@ -120,7 +126,9 @@ mild_keeps (SetVersion version) m n changes slot t mild le h = let g = tablet_ti
     low_is = q.low_is;
     high_is = q.high_is;
     viewed = q.viewed;
+    waits = q.waits;
     stands = q.stands;
+    sets = q.sets;
   });
   opens = λ serving unfenced. (let o = g.opens serving unfenced in record {
     interval = o.interval;

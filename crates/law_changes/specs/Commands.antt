@@ -1,5 +1,4 @@
 -- The commands whose lemmas stand here.
-use Rattle.std.specs.Prelude.{ℕ}
 use Rattle.model.specs.Acts.{Command, CreateNamespace, DropNamespace, CreateTable, AddColumn, DropColumn, RenameTable, DropTable, ListSchedules, ListSnapshots, ListRestorations, ListClones, ListTablets}
 
 -- the commands on namespaces and tables, and those that list

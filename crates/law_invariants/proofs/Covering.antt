@@ -22,7 +22,7 @@ use Rattle.law_invariants.proofs.Journaling.{IsQuiet, made_before, made_others, 
 pub quiet_covers : (activity : List Interval) (changes new : List Change) → IsQuiet changes new → Covered activity changes → Covered activity new
 quiet_covers activity changes new quiet h = record {
   once = h.once;
-  whole = λ table code x small is. h.whole table code x small (sym (quiet.tables x table).there ∙ is);
+  whole = λ table code x small is. h.whole table code x small (sym (quiet.tables x table) ∙ is);
 }
 
 -- where a table is made that had no tablet and was never in the view, and the codes are shared out among its tablets

@@ -13,49 +13,37 @@ use Rattle.model.specs.History.{with}
 use Rattle.law_store.proofs.Keys.{either_way}
 use Rattle.law_invariants.proofs.Finding.{same_self}
 
--- a table after a change is what it was, or in the same namespace as it was
-pub record Stays (before after : Option TableView) : Type 0 where
-  pub there : is_some after ≡ is_some before
-  pub space : (v : TableView) → after ≡ Some v → (u : TableView) × ((before ≡ Some u) × (u.namespace ≡ v.namespace))
-
--- the view has the same tables, in the same namespaces, and the same rows
+-- the view has the same tables and the same rows
 pub record IsQuiet (changes new : List Change) : Type 0 where
-  pub tables : (x : ℕ) (table : Id) → Stays (table_at changes x table) (table_at new x table)
+  pub tables : (x : ℕ) (table : Id) → is_some (table_at new x table) ≡ is_some (table_at changes x table)
   pub rows : (x : ℕ) (table : Id) (key : List ℕ) → row_at new x table key ≡ row_at changes x table key
   pub fixed : (ns : Id) (to : ℕ) → is_fixed new ns to ≡ is_fixed changes ns to
 
-stays : (t : Option TableView) → Stays t t
-stays t = record { there = refl; space = λ v e. (v, (e, refl)) }
+renamed_stays : (name : List ℕ) (t : Option TableView) → is_some (renamed name t) ≡ is_some t
+renamed_stays name None = refl
+renamed_stays name (Some u) = refl
 
--- a table in the same namespace
-shown_stays : (u w : TableView) → u.namespace ≡ w.namespace → Stays (Some u) (Some w)
-shown_stays u w same_ = record { there = refl; space = λ v e. (u, (refl, (let q : w ≡ v = cc in same_ ∙ ap (λ k. k.namespace) q))) }
+added_stays : (column : Column) (t : Option TableView) → is_some (with_column column t) ≡ is_some t
+added_stays column None = refl
+added_stays column (Some u) = refl
 
-renamed_stays : (name : List ℕ) (t : Option TableView) → Stays t (renamed name t)
-renamed_stays name None = stays None
-renamed_stays name (Some u) = shown_stays u _ refl
-
-added_stays : (column : Column) (t : Option TableView) → Stays t (with_column column t)
-added_stays column None = stays None
-added_stays column (Some u) = shown_stays u _ refl
-
-dropped_stays : (column : ℕ) (t : Option TableView) → Stays t (without_column column t)
-dropped_stays column None = stays None
-dropped_stays column (Some u) = shown_stays u _ refl
+dropped_stays : (column : ℕ) (t : Option TableView) → is_some (without_column column t) ≡ is_some t
+dropped_stays column None = refl
+dropped_stays column (Some u) = refl
 
 row_same : (b : Bool) (row : Row) → cond b row row ≡ row
 row_same true row = refl
 row_same false row = refl
 
-table_same : (b : Bool) (t : Option TableView) → Stays t (cond b t t)
-table_same true t = stays t
-table_same false t = stays t
+table_same : (b : Bool) (t : Option TableView) → is_some (cond b t t) ≡ is_some t
+table_same true t = refl
+table_same false t = refl
 
 -- where the change is stamped by x, the table is as it is after it
-table_cases : (b c : Bool) (before after : Option TableView) → Stays before after → Stays before (cond b (cond c after before) before)
+table_cases : (b c : Bool) (before after : Option TableView) → is_some after ≡ is_some before → is_some (cond b (cond c after before) before) ≡ is_some before
 table_cases true true before after h = h
-table_cases true false before after h = stays before
-table_cases false c before after h = stays before
+table_cases true false before after h = refl
+table_cases false c before after h = refl
 
 pub namespace_made_quiet : (n : ℕ) (ns : Id) (name : List ℕ) (changes : List Change) → IsQuiet changes (with n (NamespaceMade ns name) changes)
 namespace_made_quiet n ns name changes = record {
@@ -170,9 +158,9 @@ none_before : (b : Bool) (before after : Option TableView) → (after ≡ None �
 none_before true before after h e = h e
 none_before false before after h e = e
 
-none_stays : (before after : Option TableView) → Stays before after → after ≡ None → before ≡ None
+none_stays : (before after : Option TableView) → is_some after ≡ is_some before → after ≡ None → before ≡ None
 none_stays None after h e = refl
-none_stays (Some u) after h e = absurd (true≢false (sym h.there ∙ ap is_some e))
+none_stays (Some u) after h e = absurd (true≢false (sym h ∙ ap is_some e))
 
 no_change : (b : Bool) (t : Option TableView) (row changed : Row) → t ≡ None → row ≡ absent_row → cond (b && is_some t) changed row ≡ absent_row
 no_change true t row changed e h = rw e h

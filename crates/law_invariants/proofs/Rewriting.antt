@@ -1,5 +1,5 @@
 -- A tablet's versions give way to others that read the same from a later cutoff on.
-use Rattle.std.proofs.Common.{ℕ, ◌≡◌, ◌≤◌, ◌+◌, List, ◌∙◌, le_trans}
+use Rattle.std.proofs.Common.{ℕ, ◌≡◌, ◌≤◌, ◌+◌, List, ◌∙◌, le_trans, lt_of_lt_of_le}
 use Rattle.model.specs.Store.{Version, Below, read_of}
 use Rattle.model.specs.Journal.{Change}
 use Rattle.model.specs.Tablets.{Tablet}
@@ -16,7 +16,9 @@ pub rewriting_keeps : (m : Master) (n : ℕ) (changes : List Change) (slot : ℕ
     → Sorted vs → Below (n + 1) vs → ((key : List ℕ) (x : ℕ) → c ≤ x → read_of vs key x ≡ read_of t.versions key x)
     → SlotGood m changes slot t → SlotGood m changes slot (rewritten t n vs c)
 rewriting_keeps m n changes slot t vs c le up within sorted below same h = record {
-  good = record { sorted = sorted; below = below; cutoff = within };
+  good = record { sorted = sorted; below = below; cutoff = within; set_past = λ f held. lt_of_lt_of_le (h.good.set_past f held) le };
+  home = h.home;
+  numbered = h.numbered;
   each = λ i isin is. let g = h.each i isin is in record {
     past = g.past;
     over = over_later i.to i.from t.clock n le g.over;
@@ -30,7 +32,9 @@ rewriting_keeps m n changes slot t vs c le up within sorted below same h = recor
     low_is = g.low_is;
     high_is = g.high_is;
     viewed = g.viewed;
-    stands = λ settled key x ranged cut before. same key x cut ∙ g.stands settled key x ranged (le_trans up cut) before;
+    waits = g.waits;
+    stands = λ counted key x ranged cut before. same key x cut ∙ g.stands counted key x ranged (le_trans up cut) before;
+    sets = g.sets;
   };
   opens = λ serving unfenced. let o = h.opens serving unfenced in record {
     interval = o.interval;

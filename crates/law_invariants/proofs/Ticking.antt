@@ -1,5 +1,5 @@
 -- Clocks that rise to a stamp keep what holds; and an act keeps it where each of its refusals, or else its outcome, does.
-use Rattle.std.proofs.Common.{ℕ, ◌≡◌, ◌≤◌, ◌<◌, ◌+◌, List, [], ◌∷◌, Option, Some, None, Bool, true, false, cond, ◌&&◌, refl, sym, subst, arith, not, le_trans, le_of_lt, eqb}
+use Rattle.std.proofs.Common.{ℕ, ◌≡◌, ◌≤◌, ◌<◌, ◌+◌, List, [], ◌∷◌, Option, Some, None, Bool, true, false, cond, ◌&&◌, refl, sym, subst, arith, not, le_trans, le_of_lt, lt_of_lt_of_le, eqb}
 use Rattle.std.proofs.lemmas.Bool.{cond_both}
 use Rattle.model.specs.Ids.{has}
 use Rattle.model.specs.Store.{Version, Below}
@@ -58,7 +58,6 @@ master_ticked m n changes le h = record {
   namespaces = namespaces_later m.catalog.namespaces m.clock n m.drawn.namespaces changes le h.namespaces;
   tables = tables_later m.catalog m.clock n m.drawn.tables changes le h.tables;
   cover = h.cover;
-  spaces = h.spaces;
   past = λ ns to is. le_trans (h.past ns to is) le;
   complete = λ s isin. le_trans (h.complete s isin) le;
   listed = h.listed;
@@ -78,13 +77,17 @@ good_ticked m n changes t i le h = record {
   low_is = h.low_is;
   high_is = h.high_is;
   viewed = h.viewed;
+  waits = h.waits;
   stands = h.stands;
+  sets = h.sets;
 }
 
 -- what holds of a slot holds under a later clock of the master
 pub slot_ticked : (m : Master) (n : ℕ) (changes : List Change) (slot : ℕ) (t : Tablet) → m.clock ≤ n → SlotGood m changes slot t → SlotGood (record m { clock = n }) changes slot t
 slot_ticked m n changes slot t le h = record {
   good = h.good;
+  home = h.home;
+  numbered = h.numbered;
   each = λ i isin is. good_ticked m n changes t i le (h.each i isin is);
   opens = λ serving unfenced. let o = h.opens serving unfenced in record {
     interval = o.interval;
@@ -100,7 +103,14 @@ slot_ticked m n changes slot t le h = record {
 -- and under a later clock of its own
 pub tablet_ticked : (m : Master) (n : ℕ) (changes : List Change) (slot : ℕ) (t : Tablet) → t.clock ≤ n → SlotGood m changes slot t → SlotGood m changes slot (record t { clock = n })
 tablet_ticked m n changes slot t le h = record {
-  good = record { sorted = h.good.sorted; below = below_later t.versions (t.clock + 1) (n + 1) (omega arith) h.good.below; cutoff = le_trans h.good.cutoff le };
+  good = record {
+    sorted = h.good.sorted;
+    below = below_later t.versions (t.clock + 1) (n + 1) (omega arith) h.good.below;
+    cutoff = le_trans h.good.cutoff le;
+    set_past = λ f held. lt_of_lt_of_le (h.good.set_past f held) le;
+  };
+  home = h.home;
+  numbered = h.numbered;
   each = λ i isin is. let g = h.each i isin is in record {
     past = g.past;
     over = over_later i.to i.from t.clock n le g.over;
@@ -114,7 +124,9 @@ tablet_ticked m n changes slot t le h = record {
     low_is = g.low_is;
     high_is = g.high_is;
     viewed = g.viewed;
+    waits = g.waits;
     stands = g.stands;
+    sets = g.sets;
   };
   opens = λ serving unfenced. let o = h.opens serving unfenced in record {
     interval = o.interval;

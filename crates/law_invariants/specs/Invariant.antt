@@ -1,5 +1,5 @@
 -- What holds of the parts and the journal after each entry of a legal history.
-use Rattle.std.specs.Prelude.{◌≡◌, ℕ, ◌≤◌, ◌<◌, ◌+◌, true, false, List, [], ◌∷◌, Option, Some, None, ◌==◌, option_map}
+use Rattle.std.specs.Prelude.{◌≡◌, ℕ, ◌≤◌, ◌<◌, ◌+◌, Bool, true, false, List, [], ◌∷◌, Option, Some, None, ◌==◌, option_map}
 use Rattle.std.specs.Option.{is_some}
 use Rattle.std.specs.Str.{bytes_eq}
 use Rattle.row_values.specs.Codes.{code_of}
@@ -11,7 +11,7 @@ use Rattle.model.specs.Catalog.{Catalog, NamespaceRecord, TableRecord, namespace
 use Rattle.model.specs.Activity.{Interval, active_at}
 use Rattle.model.specs.Restored.{record_at}
 use Rattle.model.specs.Journal.{Change, TableView, namespace_at, table_at, row_at}
-use Rattle.model.specs.Tablets.{Tablet, is_vacant, is_serving}
+use Rattle.model.specs.Tablets.{Tablet, FrozenSet, is_vacant, is_serving}
 use Rattle.model.specs.Stands.{awaited_in, holders}
 use Rattle.model.specs.Records.{Schedule, Listed, RestorationRecord}
 use Rattle.model.specs.Schedules.{complete_to}
@@ -73,24 +73,35 @@ pub record TablesStand (c : Catalog) (time drawn : ℕ) (changes : List Change) 
   -- where the catalog of its namespace is kept, the view has a table as the records do
   pub viewed : (id ns : Id) (x : ℕ) → owner_of c.owners id ≡ Some ns → kept_from c.kept_from ns ≤ x → table_at changes x id ≡ view_at c.tables x id
   pub unmade : (id : Id) (x : ℕ) → owner_of c.owners id ≡ None → table_at changes x id ≡ None
-  -- the view has a table in the namespace where it was made
+  -- the view has a table in the namespace in which it was made
   pub inside : (id : Id) (x : ℕ) (v : TableView) → table_at changes x id ≡ Some v → owner_of c.owners id ≡ Some v.namespace
   pub kept : (ns : Id) → kept_from c.kept_from ns ≤ time
 
 -- Tablets
 
--- a tablet's versions are in order, and stamped by its clock
+-- a tablet's versions are in order, and stamped by its clock; its frozen sets are of earlier times
 pub record TabletGood (t : Tablet) : Type 0 where
   pub sorted : Sorted t.versions
   pub below : Below (t.clock + 1) t.versions
   pub cutoff : t.cutoff ≤ t.clock
+  pub set_past : (f : FrozenSet) → In f t.frozen → f.at < t.clock
 
 -- the reads of a tablet's live store from its cutoff on, and before the end of an interval, are those of the view
 abbrev pub StandsIn : Tablet → List Change → Interval → Type 0
 StandsIn t changes i = (key : List ℕ) (x : ℕ) → in_range i.low i.high (code_of key) ≡ true → t.cutoff ≤ x → before_end x i.to ≡ true
     → read_of t.versions key x ≡ row_at changes x i.table key
 
--- an interval of a tablet: its slot's part holds the tablet, and unless rows are yet to be restored, it stands for the journal
+-- the reads of a frozen set, from its cutoff to its time and within an interval, are those of the view
+abbrev pub SetStands : FrozenSet → List Change → Interval → Type 0
+SetStands f changes i = (key : List ℕ) (x : ℕ) → in_range i.low i.high (code_of key) ≡ true → f.cutoff ≤ x → x ≤ f.at → active_at x i ≡ true
+    → read_of f.versions key x ≡ row_at changes x i.table key
+
+-- whether an interval that begins at this time begins at the point of the rows that its tablet awaits
+abbrev pub begins_at : Option ℕ → ℕ → Bool
+begins_at None from = false
+begins_at (Some point) from = from == point
+
+-- an interval of a tablet: its slot's part holds the tablet, and stands for the journal, unless the interval's rows are yet to be restored
 pub record IsGood (m : Master) (changes : List Change) (t : Tablet) (i : Interval) : Type 0 where
   pub past : IsPast m.clock i.from i.to
   -- an interval that has ended is over for the tablet too
@@ -106,7 +117,10 @@ pub record IsGood (m : Master) (changes : List Change) (t : Tablet) (i : Interva
   pub high_is : t.high ≡ i.high
   -- while the tablet is active, the view has its table
   pub viewed : (x : ℕ) → active_at x i ≡ true → is_some (table_at changes x i.table) ≡ true
-  pub stands : awaited_in m.restorations t.tablet t.done ≡ None → StandsIn t changes i
+  -- a tablet that awaits rows awaits those of its open interval
+  pub waits : (point : ℕ) → awaited_in m.restorations t.tablet t.done ≡ Some point → is_open i.to ≡ true → i.from ≡ point
+  pub stands : begins_at (awaited_in m.restorations t.tablet t.done) i.from ≡ false → StandsIn t changes i
+  pub sets : (f : FrozenSet) → In f t.frozen → SetStands f changes i
 
 -- a tablet that takes writes has an open interval that began by its clock, and its rows are taken
 pub record IsOpen (m : Master) (slot : ℕ) (t : Tablet) : Type 0 where
@@ -120,6 +134,9 @@ pub record IsOpen (m : Master) (slot : ℕ) (t : Tablet) : Type 0 where
 -- what holds of a slot and the part in it
 pub record SlotGood (m : Master) (changes : List Change) (slot : ℕ) (t : Tablet) : Type 0 where
   pub good : TabletGood t
+  -- a tablet has all its intervals in one slot
+  pub home : is_vacant t.presence ≡ false → (i : Interval) → In i m.activity → i.tablet ≡ t.tablet → i.slot ≡ slot
+  pub numbered : t.tablet.number ≤ m.drawn.tablets
   pub each : (i : Interval) → In i m.activity → i.slot ≡ slot → IsGood m changes t i
   pub opens : is_serving t.presence ≡ true → t.fence ≡ None → IsOpen m slot t
   -- a time to which its namespace was taken back, or cloned, is over for it: it stamps only later changes
@@ -136,8 +153,6 @@ pub record MasterGood (m : Master) (changes : List Change) : Type 0 where
   pub namespaces : NamespacesStand m.catalog.namespaces m.clock m.drawn.namespaces changes
   pub tables : TablesStand m.catalog m.clock m.drawn.tables changes
   pub cover : Covered m.activity changes
-  -- a table of the view is in the namespace in which it was made
-  pub spaces : (id : Id) (x : ℕ) (v : TableView) → table_at changes x id ≡ Some v → owner_of m.catalog.owners id ≡ Some v.namespace
   -- a time to which a namespace was taken back, or cloned, is over for the master
   pub past : (ns : Id) (to : ℕ) → is_fixed changes ns to ≡ true → to ≤ m.clock
   -- the last complete snapshot of a schedule is over

@@ -1,22 +1,20 @@
 -- Counts, restarts, compactions and cutoffs keep what holds: they change no read.
-use Rattle.std.proofs.Common.{ℕ, ◌≡◌, ◌≤◌, ◌<◌, ◌+◌, ◌-◌, max, List, [], ◌∷◌, length, inl, inr, Option, Some, None, Bool, true, false, cond, ◌&&◌, ◌||◌, refl, sym, ap, subst, ◌∙◌, arith, not, eqb, eqb-true, le_trans, le_refl, le_of_lt}
-use Rattle.std.proofs.lemmas.Bool.{cond_both}
+use Rattle.std.proofs.Common.{ℕ, ◌≡◌, ◌≤◌, ◌<◌, ◌+◌, max, List, [], ◌∷◌, length, inl, inr, Option, Some, None, Bool, true, false, cond, ◌&&◌, ◌||◌, refl, sym, subst, arith, not, eqb, eqb-true, le_trans, le_refl, le_of_lt}
 use Rattle.std.proofs.lemmas.Bool.Decides.{nat_tests}
 use Rattle.model.specs.Ids.{Id, In, has, same}
 use Rattle.model.specs.Store.{kept}
 use Rattle.model.specs.Journal.{Change}
 use Rattle.model.specs.Tablets.{Tablet, restarted, is_vacant, RaiseCutoff, Compact as CompactTablet, Restart as RestartTablet}
 use Rattle.model.specs.Records.{Schedule, schedule_of}
-use Rattle.model.specs.Schedules.{allowed_cutoff, history_retention, complete_to}
-use Rattle.model.specs.Acts.{Act, Cutoff, Compact, Restart, Stats, Reply, Ok, CutoffAt, Compacted, Refusal}
-use Rattle.model.specs.Parts.{Master, Parts, Outcome, If, Ticks, Restarts, answered, refused}
+use Rattle.model.specs.Schedules.{allowed_cutoff, complete_to}
+use Rattle.model.specs.Acts.{Cutoff, Compact, Restart, Stats, Ok, CutoffAt, Compacted}
+use Rattle.model.specs.Parts.{Master, Parts, If, Restarts}
 use Rattle.model.specs.Coordination.{restarted_master}
 use Rattle.model.specs.Entries.{slots_of, clock_at}
-use Rattle.model.specs.History.{told, outcome}
 use Rattle.model.specs.RowActs.{stats, restart, compact, cutoff, schedule_at, moved}
 use Rattle.law_store.proofs.Compaction.{compaction, sorted_kept, below_kept}
 use Rattle.law_store.proofs.Keys.{either_way}
-use Rattle.law_invariants.specs.Invariant.{Inv, Keeps, Later, Passes, SlotGood, MasterGood, IsOpen}
+use Rattle.law_invariants.specs.Invariant.{Inv, Later, SlotGood, MasterGood}
 use Rattle.law_invariants.proofs.Ticking.{nothing_told, refused_keeps, by_checks, KeepsAll, below_later, master_before, master_ticked, slot_ticked, tablet_ticked, slots_ticked, tablet_before}
 use Rattle.law_invariants.proofs.Frame.{one_told, touched, tells}
 use Rattle.law_invariants.proofs.Rewriting.{rewriting_keeps}
@@ -98,7 +96,6 @@ master_restarted m n changes le h = let k = master_ticked m n changes le h in re
   namespaces = k.namespaces;
   tables = k.tables;
   cover = k.cover;
-  spaces = k.spaces;
   past = k.past;
   complete = k.complete;
   listed = k.listed;
@@ -107,6 +104,8 @@ master_restarted m n changes le h = let k = master_ticked m n changes le h in re
 slot_restarted : (m : Master) (n : ℕ) (changes : List Change) (slot : ℕ) (t : Tablet) → m.clock ≤ n → SlotGood m changes slot t → SlotGood (restarted_master n m) changes slot t
 slot_restarted m n changes slot t le h = let k = slot_ticked m n changes slot t le h in record {
   good = k.good;
+  home = k.home;
+  numbered = k.numbered;
   each = λ i isin is. let g = k.each i isin is in record {
     past = g.past;
     over = g.over;
@@ -120,7 +119,9 @@ slot_restarted m n changes slot t le h = let k = slot_ticked m n changes slot t 
     low_is = g.low_is;
     high_is = g.high_is;
     viewed = g.viewed;
+    waits = g.waits;
     stands = g.stands;
+    sets = g.sets;
   };
   opens = λ serving unfenced. let o = k.opens serving unfenced in record {
     interval = o.interval;
@@ -136,7 +137,9 @@ slot_restarted m n changes slot t le h = let k = slot_ticked m n changes slot t 
 -- and so is an inbox
 inbox_lost : (m : Master) (n : ℕ) (changes : List Change) (slot : ℕ) (t : Tablet) → t.clock ≤ n → SlotGood m changes slot t → SlotGood m changes slot (restarted n t)
 inbox_lost m n changes slot t le h = let k = tablet_ticked m n changes slot t le h in record {
-  good = record { sorted = k.good.sorted; below = k.good.below; cutoff = k.good.cutoff };
+  good = record { sorted = k.good.sorted; below = k.good.below; cutoff = k.good.cutoff; set_past = k.good.set_past };
+  home = k.home;
+  numbered = k.numbered;
   each = λ i isin is. let g = k.each i isin is in record {
     past = g.past;
     over = g.over;
@@ -150,7 +153,9 @@ inbox_lost m n changes slot t le h = let k = tablet_ticked m n changes slot t le
     low_is = g.low_is;
     high_is = g.high_is;
     viewed = g.viewed;
+    waits = g.waits;
     stands = g.stands;
+    sets = g.sets;
   };
   opens = λ serving unfenced. let o = k.opens serving unfenced in record {
     interval = o.interval;

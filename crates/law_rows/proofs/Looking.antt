@@ -1,12 +1,11 @@
 -- Looks change nothing but clocks, and their replies are right.
-use Rattle.std.proofs.Common.{ℕ, ◌≡◌, ◌≤◌, length, List, [], ◌∷◌, Option, Some, None, Bool, true, false, map, refl, is_some, is_none}
+use Rattle.std.proofs.Common.{ℕ, ◌≤◌, length, List, [], ◌∷◌, Option, true, false, map, refl, is_some, is_none}
 use Rattle.std.specs.Option.{unwrap_or, option_to_list}
-use Rattle.model.specs.Ids.{has}
 use Rattle.model.specs.Times.{time_of, is_future, is_below}
 use Rattle.model.specs.Catalog.{namespace_named, kept_from}
 use Rattle.model.specs.Journal.{Change}
 use Rattle.model.specs.Acts.{Command, NamedItem, Act, Look, AskPlan, AskKeys, AskTable, AskWork, AskRemovable, AskPresent, Ask, UnknownNamespace, UnknownTable, UnknownColumn, Future, TooOld, CrossTablet, Placed, Planned, Reply, Refused}
-use Rattle.model.specs.Parts.{Master, Parts, Check, If, Outcome, judged, answered}
+use Rattle.model.specs.Parts.{Parts, Check, If, judged, answered}
 use Rattle.model.specs.Lists.{by_range}
 use Rattle.model.specs.Looks.{look_plan, look_keys, look_table, look_present, plan_of, table_asked, known, the_table, batch_fault, holding, first_code, other_code, place_of, active_in}
 use Rattle.model.specs.Entries.{slots_of, AskAsked}

@@ -1,7 +1,5 @@
 -- What the changes of a write do to the view: they change the rows of their keys from their stamp on, and nothing else.
-use Rattle.std.proofs.Common.{ℕ, ◌≡◌, ◌≤◌, ◌<◌, ◌+◌, List, [], ◌∷◌, Option, Some, None, Bool, true, false, cond, ◌&&◌, ◌⊎◌, inl, inr, refl, sym, ap, subst, ◌∙◌, arith, leb, leb-true, le-leb, fold, is_some}
-use Rattle.std.proofs.lemmas.Bool.{cond_both}
-use Rattle.std.proofs.lemmas.Bool.Decides.{nat_tests}
+use Rattle.std.proofs.Common.{ℕ, ◌≡◌, ◌≤◌, ◌<◌, List, [], ◌∷◌, Bool, true, false, cond, ◌&&◌, refl, sym, ap, subst, ◌∙◌, arith, leb, leb-true, le-leb, fold, is_some}
 use Rattle.std.specs.Str.{bytes_eq}
 use Rattle.std.specs.List.{list_all}
 use Rattle.row_values.specs.Rows.{applied}
@@ -10,14 +8,14 @@ use Rattle.row_values.specs.declared.rows.Row.{Row}
 use Rattle.row_values.specs.declared.value.Item.{Item}
 use Rattle.model.specs.Ids.{Id, same}
 use Rattle.model.specs.Store.{in_range}
-use Rattle.model.specs.Journal.{Change, RowChanged, TableView, is_in, namespace_at, table_at, row_at}
+use Rattle.model.specs.Journal.{Change, RowChanged, is_in, namespace_at, table_at, row_at}
 use Rattle.model.specs.Tablets.{Tablet}
 use Rattle.model.specs.Right.{is_fixed, NothingLate}
 use Rattle.model.specs.RowActs.{covers}
 use Rattle.model.specs.History.{rows_made}
 use Rattle.law_store.specs.Sorted.{item_step}
-use Rattle.law_store.proofs.Keys.{either_way, equal_keys}
-use Rattle.law_invariants.proofs.Finding.{both_pass, same_self, same_equal}
+use Rattle.law_store.proofs.Keys.{equal_keys}
+use Rattle.law_invariants.proofs.Finding.{both_pass, same_self}
 
 one_way : {A : Type 0} (b : Bool) (x : A) → cond b x x ≡ x
 one_way true x = refl

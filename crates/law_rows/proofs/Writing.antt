@@ -1,20 +1,19 @@
 -- A write keeps what holds: its tablet reads as the view goes on, and no other tablet has its keys at its stamp.
-use Rattle.std.proofs.Common.{ℕ, ◌≡◌, ◌≢◌, ◌≤◌, ◌<◌, ◌+◌, max, List, [], ◌∷◌, Option, Some, None, Bool, true, false, cond, ◌&&◌, not, ◌⊎◌, inl, inr, refl, sym, ap, subst, ◌∙◌, arith, eqb, eqb-true, leb, ltb, ltb-false, ltb-true, le_trans, le_refl, le_of_lt, lt_of_lt_of_le, fold, is_some, is_none}
+use Rattle.std.proofs.Common.{ℕ, ◌≡◌, ◌≤◌, ◌<◌, ◌+◌, max, List, [], ◌∷◌, Option, Some, None, Bool, true, false, not, refl, sym, ap, subst, ◌∙◌, arith, eqb, leb, ltb, ltb-false, ltb-true, le_trans, le_of_lt, lt_of_lt_of_le, fold, is_some}
 use Rattle.std.proofs.lemmas.Bool.{true≢false}
 use Rattle.std.proofs.lemmas.Bool.Decides.{nat_tests}
 use Rattle.std.specs.List.{list_all}
 use Rattle.row_values.specs.Codes.{code_of}
 use Rattle.row_values.specs.declared.value.Item.{Item}
-use Rattle.model.specs.Ids.{Id, In, has, same}
+use Rattle.model.specs.Ids.{Id, In, same}
 use Rattle.model.specs.Times.{before_end}
-use Rattle.model.specs.Store.{written, read_of, in_range}
+use Rattle.model.specs.Store.{in_range}
 use Rattle.model.specs.Catalog.{owner_of}
-use Rattle.model.specs.Activity.{Interval, active_at}
+use Rattle.model.specs.Activity.{Interval}
 use Rattle.model.specs.Journal.{Change, TableView, is_in, table_at, row_at}
 use Rattle.model.specs.Tablets.{Tablet, is_serving, serves, wrote, Write as WriteRows}
-use Rattle.model.specs.Acts.{Act, At, Write, Reply, Ok, Refusal, Fenced, StaleSchema}
-use Rattle.model.specs.Parts.{Master, Parts, Check, If, Outcome}
-use Rattle.model.specs.Right.{is_fixed, NothingLate}
+use Rattle.model.specs.Acts.{At, Write, Ok, Fenced, StaleSchema}
+use Rattle.model.specs.Parts.{Master, Parts, If}
 use Rattle.model.specs.Looks.{names}
 use Rattle.model.specs.Entries.{slots_of}
 use Rattle.model.specs.History.{rows_made}
@@ -22,7 +21,7 @@ use Rattle.model.specs.RowActs.{write, takes, covers, moved}
 use Rattle.law_store.specs.Sorted.{item_step}
 use Rattle.law_store.proofs.Keys.{either_way}
 use Rattle.law_store.proofs.Writing.{read_written, read_written_before, sorted_written, below_written}
-use Rattle.law_invariants.specs.Invariant.{Inv, Keeps, Later, Passes, SlotGood, MasterGood, IsGood, IsOpen, OverBy, TablesStand, NamespacesStand}
+use Rattle.law_invariants.specs.Invariant.{Inv, Later, SlotGood, MasterGood, OverBy}
 use Rattle.law_invariants.proofs.Finding.{both_pass, passes_both, same_self, same_equal}
 use Rattle.law_invariants.proofs.Ticking.{refused_keeps, by_checks, KeepsAll, below_later, over_later}
 use Rattle.law_invariants.proofs.Frame.{one_told, tells}
@@ -56,7 +55,6 @@ master_written m n table batch changes h =
         inside = λ id x v found. h.tables.inside id x v (sym (tables_stay batch n table changes x id) ∙ found);
       };
       cover = record { once = h.cover.once; whole = λ t code x below is. h.cover.whole t code x below (ap is_some (sym (tables_stay batch n table changes x t)) ∙ is) };
-      spaces = λ id x v found. h.spaces id x v (sym (tables_stay batch n table changes x id) ∙ found);
       past = λ ns to is. h.past ns to (sym (fixed_stay batch n table changes ns to) ∙ is);
       complete = h.complete;
       listed = h.listed;
@@ -74,6 +72,8 @@ slot_stays : (m : Master) (n : ℕ) (table : Id) (batch : List Item) (changes : 
     → SlotGood m changes slot t → SlotGood m (rows_made n table batch changes) slot t
 slot_stays m n table batch changes slot t stays h = record {
   good = h.good;
+  home = h.home;
+  numbered = h.numbered;
   each = λ i isin is. let g = h.each i isin is in record {
     past = g.past;
     over = g.over;
@@ -87,7 +87,9 @@ slot_stays m n table batch changes slot t stays h = record {
     low_is = g.low_is;
     high_is = g.high_is;
     viewed = λ x active. ap is_some (tables_stay batch n table changes x i.table) ∙ g.viewed x active;
-    stands = λ settled key x ranged cut before. g.stands settled key x ranged cut before ∙ sym (stays i key x isin is ranged before);
+    waits = g.waits;
+    stands = λ counted key x ranged cut before. g.stands counted key x ranged cut before ∙ sym (stays i key x isin is ranged before);
+    sets = λ f held key x ranged cut by active. g.sets f held key x ranged cut by active ∙ sym (stays i key x isin is ranged (both_pass (leb i.from x) (before_end x i.to) active).1);
   };
   opens = h.opens;
   later = λ ns to is. h.later ns to (sym (fixed_stay batch n table changes ns to) ∙ is);
@@ -115,7 +117,14 @@ slot_written m n batch changes slot t less serving unfenced all h =
     let there : (x : ℕ) → n ≤ x → is_some (table_at changes x t.table) ≡ true
     = λ x le. ap (λ k. is_some (table_at changes x k)) z.table_is ∙ z.viewed x (passes_both _ _ (let b = o.begun in grind (arith, nat_tests)) (before_open x o.interval.to o.opened)) in
     record {
-      good = record { sorted = sorted_written batch t.versions n h.good.sorted below; below = below_written batch t.versions n (n + 1) (omega arith) below; cutoff = le_trans h.good.cutoff (le_of_lt less) };
+      good = record {
+        sorted = sorted_written batch t.versions n h.good.sorted below;
+        below = below_written batch t.versions n (n + 1) (omega arith) below;
+        cutoff = le_trans h.good.cutoff (le_of_lt less);
+        set_past = λ f held. lt_of_lt_of_le (h.good.set_past f held) (le_of_lt less);
+      };
+      home = h.home;
+      numbered = h.numbered;
       each = λ i isin is. let g = h.each i isin is in record {
         past = g.past;
         over = over_later i.to i.from t.clock n (le_of_lt less) g.over;
@@ -129,14 +138,18 @@ slot_written m n batch changes slot t less serving unfenced all h =
         low_is = g.low_is;
         high_is = g.high_is;
         viewed = λ x active. ap is_some (tables_stay batch n t.table changes x i.table) ∙ g.viewed x active;
-        stands = λ settled key x ranged cut before. either_way (ltb x n)
-            (λ sooner. read_written_before batch t.versions n key x h.good.sorted below (ltb-true x n sooner) ∙ g.stands settled key x ranged cut before
+        waits = g.waits;
+        stands = λ counted key x ranged cut before. either_way (ltb x n)
+            (λ sooner. read_written_before batch t.versions n key x h.good.sorted below (ltb-true x n sooner) ∙ g.stands counted key x ranged cut before
             ∙ sym (not_written batch n t.table i.table t changes key x all (λ a b. ltb-true x n sooner)))
             (λ after. let le : n ≤ x = ltb-false x n after in
             read_written batch t.versions n key x h.good.sorted below le
-            ∙ ap (λ row. fold (item_step key) row batch) (g.stands settled key x ranged cut before ∙ ap (λ k. row_at changes x k key) (sym g.table_is))
+            ∙ ap (λ row. fold (item_step key) row batch) (g.stands counted key x ranged cut before ∙ ap (λ k. row_at changes x k key) (sym g.table_is))
             ∙ sym (rows_written batch n t.table changes key x le (there x le))
             ∙ ap (λ k. row_at (rows_made n t.table batch changes) x k key) g.table_is);
+        -- a frozen set's time is before the stamp
+        sets = λ f held key x ranged cut by active. g.sets f held key x ranged cut by active
+            ∙ sym (not_written batch n t.table i.table t changes key x all (λ a b. let past : f.at < t.clock = h.good.set_past f held in let up : x ≤ f.at = by in omega arith));
       };
       opens = λ s u. let p = h.opens s u in record { interval = p.interval; listed = p.listed; slot_is = p.slot_is; opened = p.opened; begun = le_trans p.begun (le_of_lt less); settled = p.settled };
       later = λ ns to is s u owned. le_trans (h.later ns to (sym (fixed_stay batch n t.table changes ns to) ∙ is) s u owned) (le_of_lt less);
@@ -182,7 +195,7 @@ written_inv ps changes n place version batch later from inv takes_ unfenced =
           (inv.slots j))
           (slot_written ps.master n batch changes slot t less serving unfenced all h)
           (rows_not_late batch n t.table changes inv.late (λ ns to fixed is.
-          let l = h.later ns to fixed serving unfenced (owner_is ns (table_at changes to t.table) (owner_of ps.master.catalog.owners t.table) (λ w e. inv.master.spaces t.table to w e) is) in
+          let l = h.later ns to fixed serving unfenced (owner_is ns (table_at changes to t.table) (owner_of ps.master.catalog.owners t.table) (λ w e. inv.master.tables.inside t.table to w e) is) in
           omega arith));
     }
 

@@ -1,0 +1,65 @@
+-- The tablets stand for the journal: the reads of a live store and of frozen sets are those of the view.
+use Rattle.std.proofs.Common.{ℕ, ◌≡◌, List, [], ◌∷◌, Option, Some, None, true, false, not, ◌⊎◌, inl, inr, refl, sym, ap, subst, ◌∙◌}
+use Rattle.model.specs.Ids.{Id, In, same}
+use Rattle.model.specs.Store.{in_range}
+use Rattle.model.specs.Activity.{Interval, last_from, last_of}
+use Rattle.model.specs.Journal.{Change, row_at}
+use Rattle.model.specs.Tablets.{FrozenSet, is_vacant}
+use Rattle.model.specs.Parts.{Parts}
+use Rattle.model.specs.Stands.{Stands, LiveStands, FrozenStands, awaited, counted}
+use Rattle.law_store.proofs.Keys.{either_way}
+use Rattle.law_invariants.specs.Invariant.{Inv, begins_at}
+use Rattle.law_invariants.proofs.Finding.{same_equal}
+use Rattle.law_invariants.proofs.Ticking.{not_true}
+use Rattle.law_changes.proofs.Plans.{filter_in}
+
+-- the last interval of a tablet is one of the tablet's
+last_found : (is : List Interval) (tablet : Id) (found : Option Interval) (i : Interval) → last_from is tablet found ≡ Some i → (In i is × (same i.tablet tablet ≡ true)) ⊎ (found ≡ Some i)
+last_found [] tablet found i e = inr e
+last_found (j ∷ js) tablet found i e = either_way (same j.tablet tablet)
+    (λ s. elim (last_found js tablet (Some j) i (rw s at e)) [
+      | inl h ↦ inl (inr h.0, h.1)
+      | inr q ↦ (let is : j ≡ i = cc in inl (inl is, subst (λ k. same k.tablet tablet ≡ true) is s))
+    ])
+    (λ s. elim (last_found js tablet found i (rw s at e)) [
+      | inl h ↦ inl (inr h.0, h.1)
+      | inr q ↦ inr q
+    ])
+
+last_in : (is : List Interval) (tablet : Id) (i : Interval) → last_of is tablet ≡ Some i → In i is × (same i.tablet tablet ≡ true)
+last_in is tablet i e = elim (last_found is tablet None i e) [ inl h ↦ h | inr q ↦ cc ]
+
+-- a counted interval doesn't begin at the point of rows that are awaited
+counted_in : (point : Option ℕ) (is : List Interval) (i : Interval) → In i (counted point is) → In i is × (begins_at point i.from ≡ false)
+counted_in None is i isin = (isin, refl)
+counted_in (Some point) is i isin = let h = filter_in is (λ j. not (begins_at (Some point) j.from)) i isin in (h.0, not_true (begins_at (Some point) i.from) h.1)
+
+range_same : (low high from to code : ℕ) → low ≡ from → high ≡ to → in_range low high code ≡ true → in_range from to code ≡ true
+range_same low high from to code e f h = rw (← e, ← f) h
+
+live_stands : (ps : Parts) (changes : List Change) (slot : ℕ) → is_vacant (ps.tablet slot).presence ≡ false → Inv ps changes → LiveStands ps changes slot
+live_stands ps changes slot present inv = record {
+  reads = λ i key x last ranged cut by before point there. (
+      let t = ps.tablet slot in
+      let found = last_in (counted (awaited ps t) ps.master.activity) t.tablet i last in
+      let listed = counted_in (awaited ps t) ps.master.activity i found.0 in
+      let s = inv.slots slot in
+      let g = s.each i listed.0 (s.home present i listed.0 (same_equal i.tablet t.tablet found.1)) in
+      g.stands listed.1 key x (range_same t.low t.high i.low i.high _ g.low_is g.high_is ranged) cut before ∙ ap (λ k. row_at changes x k key) (sym g.table_is));
+}
+
+frozen_stands : (ps : Parts) (changes : List Change) (slot : ℕ) (f : FrozenSet) → is_vacant (ps.tablet slot).presence ≡ false → In f (ps.tablet slot).frozen → Inv ps changes
+    → FrozenStands ps changes slot f
+frozen_stands ps changes slot f present held inv = record {
+  reads = λ i key x listed is active ranged cut by there. (
+      let t = ps.tablet slot in
+      let s = inv.slots slot in
+      let g = s.each i listed (s.home present i listed is) in
+      g.sets f held key x (range_same t.low t.high i.low i.high _ g.low_is g.high_is ranged) cut by active ∙ ap (λ k. row_at changes x k key) (sym g.table_is));
+}
+
+pub all_stand : (ps : Parts) (changes : List Change) → Inv ps changes → Stands ps changes
+all_stand ps changes inv = record {
+  live = λ slot present. live_stands ps changes slot present inv;
+  frozen = λ slot f present held. frozen_stands ps changes slot f present held inv;
+}

@@ -1,9 +1,10 @@
 -- The tablets stand for the journal: the reads of a live store and of frozen sets are those of the view.
 use Rattle.std.proofs.Common.{ℕ, ◌≡◌, List, [], ◌∷◌, Option, Some, None, true, false, not, ◌⊎◌, inl, inr, refl, sym, ap, subst, ◌∙◌}
+use Rattle.std.specs.Option.{is_some}
 use Rattle.model.specs.Ids.{Id, In, same}
 use Rattle.model.specs.Store.{in_range}
 use Rattle.model.specs.Activity.{Interval, last_from, last_of}
-use Rattle.model.specs.Journal.{Change, row_at}
+use Rattle.model.specs.Journal.{Change, table_at, row_at}
 use Rattle.model.specs.Tablets.{FrozenSet, is_vacant}
 use Rattle.model.specs.Parts.{Parts}
 use Rattle.model.specs.Stands.{Stands, LiveStands, FrozenStands, awaited, counted}
@@ -45,7 +46,8 @@ live_stands ps changes slot present inv = record {
       let listed = counted_in (awaited ps t) ps.master.activity i found.0 in
       let s = inv.slots slot in
       let g = s.each i listed.0 (s.home present i listed.0 (same_equal i.tablet t.tablet found.1)) in
-      g.stands listed.1 key x (range_same t.low t.high i.low i.high _ g.low_is g.high_is ranged) cut before ∙ ap (λ k. row_at changes x k key) (sym g.table_is));
+      g.stands listed.1 key x (range_same t.low t.high i.low i.high _ g.low_is g.high_is ranged) cut before (ap (λ k. is_some (table_at changes x k)) (sym g.table_is) ∙ there)
+      ∙ ap (λ k. row_at changes x k key) (sym g.table_is));
 }
 
 frozen_stands : (ps : Parts) (changes : List Change) (slot : ℕ) (f : FrozenSet) → is_vacant (ps.tablet slot).presence ≡ false → In f (ps.tablet slot).frozen → Inv ps changes

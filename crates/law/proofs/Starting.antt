@@ -31,6 +31,7 @@ start_holds slots = record {
     numbered = omega arith;
     each = λ i isin. absurd isin;
     opens = λ serving. absurd (let q = serving in grind arith);
+    shown = λ serving. absurd (let q = serving in grind arith);
     later = λ ns to is. absurd (let q = is in grind arith);
   };
   late = tt;

@@ -25,7 +25,7 @@ use Rattle.law_invariants.specs.Invariant.{IsGood, SlotGood, MasterGood, Inv, La
 use Rattle.law_invariants.proofs.Finding.{not_same, apart_by_number, in_append, in_first, in_second, both_pass}
 use Rattle.law_invariants.proofs.Ticking.{by_checks, refused_keeps, KeepsAll}
 use Rattle.law_invariants.proofs.Records.{owner_beside}
-use Rattle.law_invariants.proofs.Journaling.{made_here, made_rows, made_keeps, no_rows, nothing_late}
+use Rattle.law_invariants.proofs.Journaling.{made_here, made_others, made_rows, made_keeps, no_rows, nothing_late}
 use Rattle.law_invariants.proofs.Covering.{made_covers}
 use Rattle.law_invariants.proofs.Cataloguing.{CatalogStands, catalog_of, catalog_table_made}
 use Rattle.law_changes.proofs.Told.{slots_told, master_early, slots_equal}
@@ -161,7 +161,7 @@ good_begins m n changes ns name tablets columns slots t slot place low high h dr
       high_is = refl;
       viewed = λ x active. ap is_some (made_here n id ns name (numbered 1 columns) changes x (leb-true n x (both_pass (leb n x) true active).0));
       waits = λ point waits opened. (let q : None ≡ Some point = sym (new_awaits m changes place h) ∙ waits in cc);
-      stands = λ counted key x within cut soon. sym (made_rows n id ns name (numbered 1 columns) changes x id key ∙ no_rows changes x id key (never_made m changes x h));
+      stands = λ counted key x within cut soon there. sym (made_rows n id ns name (numbered 1 columns) changes x id key ∙ no_rows changes x id key (never_made m changes x h));
       sets = λ f held. absurd held;
     }
 
@@ -203,18 +203,24 @@ slot_placed m n changes ns name tablets columns slots t i w before h drawn free 
         begun = (let e : w.from ≡ n = ap (λ v. v.from) s.is in omega arith);
         settled = ap (λ v. awaited_in m.restorations v.tablet []) s.is ∙ new_awaits m changes s.place h;
       };
+      shown = λ serving unfenced x cut. ap (λ id. is_some (table_at new x id)) (ap (λ v. v.table) s.is) ∙ ap is_some (made_here n (next_table m) ns name (numbered 1 columns) changes x cut);
       later = λ owner to fixed serving unfenced owned. le_trans (h.past owner to fixed) (le_of_lt before);
     }
 
-carries_made : (m : Master) (n : ℕ) (changes : List Made) (ns : Id) (name : List ℕ) (tablets : ℕ) (columns : List NewColumn) (slots : List ℕ) (i : Interval) → m.clock < n
+-- a table that was drawn is not the new one
+old_table : (m : Master) (id : Id) → id.number ≤ m.drawn.tables → same (next_table m) id ≡ false
+old_table m id old = not_same (next_table m) id (λ e. apart_by_number id (next_table m) (omega arith) (sym e))
+
+carries_made : (m : Master) (n : ℕ) (changes : List Made) (ns : Id) (name : List ℕ) (tablets : ℕ) (columns : List NewColumn) (slots : List ℕ) (i : Interval) → m.clock < n → i.table.number ≤ m.drawn.tables
     → Carries m (table_made ns name tablets columns slots n m) changes (with_made m n ns name columns changes) i
-carries_made m n changes ns name tablets columns slots i before = record {
+carries_made m n changes ns name tablets columns slots i before old = record {
   clock = le_of_lt before;
   slots = refl;
   restorations = refl;
   drawn = omega arith;
   drawn_tables = omega arith;
   viewed = λ x active is. made_keeps n (next_table m) ns name (numbered 1 columns) changes x i.table is;
+  shown = λ x is. ap is_some (sym (made_others n (next_table m) ns name (numbered 1 columns) changes x i.table (old_table m i.table old))) ∙ is;
   rows = λ x key soon. made_rows n (next_table m) ns name (numbered 1 columns) changes x i.table key;
 }
 
@@ -236,7 +242,7 @@ slot_aside m n changes ns name tablets columns slots t i before free aside g =
       ];
       numbered = le_trans g.numbered (omega arith);
       each = λ j lists at. elim (in_append m.activity (shares slots 0 tablets n m) j lists) [
-        | inl old ↦ good_carried m k changes new t j (carries_made m n changes ns name tablets columns slots j before) (g.each j old at)
+        | inl old ↦ (let q = g.each j old at in good_carried m k changes new t j (carries_made m n changes ns name tablets columns slots j before q.drawn_table) q)
         | inr made ↦ absurd (
             let isin : In j.slot slots = share_slot slots 0 tablets n m j made in
             let from : 1 ≤ j.slot = rise_in slots 1 j.slot free.rise isin in
@@ -251,12 +257,13 @@ slot_aside m n changes ns name tablets columns slots t i before free aside g =
         begun = o.begun;
         settled = o.settled;
       });
+      shown = λ serving unfenced x cut. made_keeps n (next_table m) ns name (numbered 1 columns) changes x t.table (g.shown serving unfenced x cut);
       later = λ owner to fixed serving unfenced owned. (
           let o = g.opens serving unfenced in
           let q = g.each o.interval o.listed o.slot_is in
           let drawn : o.interval.table.number ≤ m.drawn.tables = q.drawn_table in
           let number : t.table.number ≡ o.interval.table.number = ap (λ table. table.number) q.table_is in
-          let apart : same (next_table m) t.table ≡ false = not_same (next_table m) t.table (λ e. apart_by_number t.table (next_table m) (omega arith) (sym e)) in
+          let apart : same (next_table m) t.table ≡ false = old_table m t.table (omega arith) in
           g.later owner to fixed serving unfenced (sym (owner_beside m.catalog.owners (record { table = next_table m; namespace = ns }) t.table apart) ∙ owned));
     }
 

@@ -80,6 +80,17 @@ cut_active id n x i h =
     let both = both_pass (leb i.from x) (before_end x (end_of id n i)) h in
     (passes_both (leb i.from x) (before_end x i.to) both.0 (earlier id n x i both.1), both.1)
 
+-- a cut interval that is open is of another table
+open_beside : (id : Id) (n : ℕ) (i : Interval) → end_of id n i ≡ None → same id i.table ≡ false
+open_beside id n i e = not_passing (same id i.table) (λ s.
+    let back : same i.table id ≡ true = ap (λ t. same t id) (sym (same_equal id i.table s)) ∙ same_self id in
+    let q : cond (same i.table id) (ended n i.to) i.to ≡ None = e in
+    let k : ended n i.to ≡ None = rw back at q in never i.to k)
+  where
+    never : (to : Option ℕ) → ended n to ≡ None → ⊥
+    never None k = cc
+    never (Some e) k = cc
+
 -- a cut interval that is open was open
 open_before : (id : Id) (n : ℕ) (i : Interval) → is_open (end_of id n i) ≡ true → is_open i.to ≡ true
 open_before id n i = cond_both (same i.table id) (ended n i.to) i.to (λ to. is_open to ≡ true → is_open i.to ≡ true) (λ e. not_ended i.to) (λ e h. h)
@@ -113,7 +124,10 @@ good_cut m n changes id t c p i before present over g =
           (λ l. ap is_some (dropped_before n id changes x i.table l) ∙ g.viewed x a.0)
           (λ e. ap is_some (dropped_others n id changes x i.table e) ∙ g.viewed x a.0));
       waits = λ point waits opened. g.waits point waits (open_before id n i opened);
-      stands = λ counted key x within cut soon. g.stands counted key x within cut (earlier id n x i soon)
+      stands = λ counted key x within cut soon there. g.stands counted key x within cut (earlier id n x i soon)
+          (on_table {P = is_some (table_at changes x i.table) ≡ true} id m.clock n x i before g.past soon
+          (λ l. ap is_some (sym (dropped_before n id changes x i.table l)) ∙ there)
+          (λ e. ap is_some (sym (dropped_others n id changes x i.table e)) ∙ there))
           ∙ on_table {P = row_at changes x i.table key ≡ row_at new x i.table key} id m.clock n x i before g.past soon
           (λ l. sym (dropped_rows_before n id changes x i.table key l))
           (λ e. sym (dropped_rows_others n id changes x i.table key e));
@@ -139,6 +153,7 @@ slot_hidden m n changes id slot t before early present h =
           (λ e. ended_over i.to i.from t.clock n (let b : i.from ≤ m.clock = q.past.begun in omega arith) (le_of_lt early) q.over)
           (λ e. over_later i.to i.from t.clock n (le_of_lt early) q.over)) q);
       opens = λ serving unfenced. absurd (let q : false ≡ true = serving in true≢false (sym q));
+      shown = λ serving unfenced x cut. absurd (let q : false ≡ true = serving in true≢false (sym q));
       later = λ ns to is serving unfenced owned. absurd (let q : false ≡ true = serving in true≢false (sym q));
     }
 
@@ -160,6 +175,9 @@ slot_beside m n changes id slot t before apart h = record {
     begun = o.begun;
     settled = o.settled;
   });
+  shown = λ serving unfenced x cut. (let o = h.opens serving unfenced in
+      let other : same id t.table ≡ false = ap (same id) (h.each o.interval o.listed o.slot_is).table_is ∙ open_beside id n o.interval (apart o.interval o.listed o.slot_is ∙ o.opened) in
+      ap is_some (dropped_others n id changes x t.table other) ∙ h.shown serving unfenced x cut);
   later = h.later;
 }
 

@@ -42,6 +42,7 @@ pub record Carries (m k : Master) (changes new : List Made) (i : Interval) : Typ
   pub drawn : m.drawn.tablets ≤ k.drawn.tablets
   pub drawn_tables : m.drawn.tables ≤ k.drawn.tables
   pub viewed : (x : ℕ) → active_at x i ≡ true → is_some (table_at changes x i.table) ≡ true → is_some (table_at new x i.table) ≡ true
+  pub shown : (x : ℕ) → is_some (table_at new x i.table) ≡ true → is_some (table_at changes x i.table) ≡ true
   pub rows : (x : ℕ) (key : List ℕ) → before_end x i.to ≡ true → row_at new x i.table key ≡ row_at changes x i.table key
 
 pub good_carried : (m k : Master) (changes new : List Made) (t : Tablet) (i : Interval) → Carries m k changes new i → IsGood m changes t i → IsGood k new t i
@@ -59,7 +60,7 @@ good_carried m k changes new t i f g = record {
   high_is = g.high_is;
   viewed = λ x active. f.viewed x active (g.viewed x active);
   waits = λ point waits. g.waits point (ap (λ rs. awaited_in rs t.tablet t.done) (sym f.restorations) ∙ waits);
-  stands = λ counted key x within cut before. g.stands (ap (λ rs. begins_at (awaited_in rs t.tablet t.done) i.from) (sym f.restorations) ∙ counted) key x within cut before ∙ sym (f.rows x key before);
+  stands = λ counted key x within cut before there. g.stands (ap (λ rs. begins_at (awaited_in rs t.tablet t.done) i.from) (sym f.restorations) ∙ counted) key x within cut before (f.shown x there) ∙ sym (f.rows x key before);
   sets = λ s held key x within cut by active. g.sets s held key x within cut by active ∙ sym (f.rows x key (both_pass (leb i.from x) (before_end x i.to) active).1);
 }
 
@@ -71,6 +72,7 @@ carries m k changes new i f = record {
   drawn = (let e = f.drawn in omega arith);
   drawn_tables = (let e = f.drawn_tables in omega arith);
   viewed = λ x active is. f.quiet.tables x i.table ∙ is;
+  shown = λ x is. sym (f.quiet.tables x i.table) ∙ is;
   rows = λ x key before. f.quiet.rows x i.table key;
 }
 
@@ -88,6 +90,7 @@ slot_follows m k changes new slot t f h = record {
     begun = o.begun;
     settled = ap (λ rs. awaited_in rs t.tablet t.done) f.restorations ∙ o.settled;
   });
+  shown = λ serving unfenced x cut. f.quiet.tables x t.table ∙ h.shown serving unfenced x cut;
   later = λ ns to is serving unfenced owned. h.later ns to (sym (f.quiet.fixed ns to) ∙ is) serving unfenced (ap (λ os. owner_of os t.table) (sym f.owners) ∙ owned);
 }
 
@@ -138,6 +141,7 @@ mild_keeps (SetVersion version) m n changes slot t mild le h = let g = tablet_ti
     begun = o.begun;
     settled = o.settled;
   });
+  shown = g.shown;
   later = g.later;
 }
 mild_keeps _ m n changes slot t mild le h = absurd mild

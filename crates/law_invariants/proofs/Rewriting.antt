@@ -33,7 +33,7 @@ rewriting_keeps m n changes slot t vs c le up within sorted below same h = recor
     high_is = g.high_is;
     viewed = g.viewed;
     waits = g.waits;
-    stands = λ counted key x ranged cut before. same key x cut ∙ g.stands counted key x ranged (le_trans up cut) before;
+    stands = λ counted key x ranged cut before there. same key x cut ∙ g.stands counted key x ranged (le_trans up cut) before there;
     sets = g.sets;
   };
   opens = λ serving unfenced. let o = h.opens serving unfenced in record {
@@ -44,5 +44,6 @@ rewriting_keeps m n changes slot t vs c le up within sorted below same h = recor
     begun = le_trans o.begun le;
     settled = o.settled;
   };
+  shown = λ serving unfenced x cut. h.shown serving unfenced x (le_trans up cut);
   later = λ ns to is serving unfenced owned. le_trans (h.later ns to is serving unfenced owned) le;
 }

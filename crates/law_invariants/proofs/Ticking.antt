@@ -97,6 +97,7 @@ slot_ticked m n changes slot t le h = record {
     begun = o.begun;
     settled = o.settled;
   };
+  shown = h.shown;
   later = h.later;
 }
 
@@ -136,6 +137,7 @@ tablet_ticked m n changes slot t le h = record {
     begun = le_trans o.begun le;
     settled = o.settled;
   };
+  shown = h.shown;
   later = λ ns to is serving unfenced owned. le_trans (h.later ns to is serving unfenced owned) le;
 }
 

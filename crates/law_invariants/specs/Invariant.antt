@@ -86,10 +86,11 @@ pub record TabletGood (t : Tablet) : Type 0 where
   pub cutoff : t.cutoff ≤ t.clock
   pub set_past : (f : FrozenSet) → In f t.frozen → f.at < t.clock
 
--- the reads of a tablet's live store from its cutoff on, and before the end of an interval, are those of the view
+-- the reads of a tablet's live store from its cutoff on and before the end of an interval, where the view has the table, are those
+-- of the view. A clone's copies have a stamp before the one at which the view has their tables
 abbrev pub StandsIn : Tablet → List Change → Interval → Type 0
 StandsIn t changes i = (key : List ℕ) (x : ℕ) → in_range i.low i.high (code_of key) ≡ true → t.cutoff ≤ x → before_end x i.to ≡ true
-    → read_of t.versions key x ≡ row_at changes x i.table key
+    → is_some (table_at changes x i.table) ≡ true → read_of t.versions key x ≡ row_at changes x i.table key
 
 -- the reads of a frozen set, from its cutoff to its time and within an interval, are those of the view
 abbrev pub SetStands : FrozenSet → List Change → Interval → Type 0
@@ -139,6 +140,8 @@ pub record SlotGood (m : Master) (changes : List Change) (slot : ℕ) (t : Table
   pub numbered : t.tablet.number ≤ m.drawn.tablets
   pub each : (i : Interval) → In i m.activity → i.slot ≡ slot → IsGood m changes t i
   pub opens : is_serving t.presence ≡ true → t.fence ≡ None → IsOpen m slot t
+  -- the view has the table of a tablet that takes writes, from its cutoff on
+  pub shown : is_serving t.presence ≡ true → t.fence ≡ None → (x : ℕ) → t.cutoff ≤ x → is_some (table_at changes x t.table) ≡ true
   -- a time to which its namespace was taken back, or cloned, is over for it: it stamps only later changes
   pub later : (ns : Id) (to : ℕ) → is_fixed changes ns to ≡ true → is_serving t.presence ≡ true → t.fence ≡ None
       → owner_of m.catalog.owners t.table ≡ Some ns → to ≤ t.clock

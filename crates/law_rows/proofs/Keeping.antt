@@ -131,6 +131,7 @@ slot_restarted m n changes slot t le h = let k = slot_ticked m n changes slot t 
     begun = o.begun;
     settled = o.settled;
   };
+  shown = k.shown;
   later = k.later;
 }
 
@@ -165,6 +166,7 @@ inbox_lost m n changes slot t le h = let k = tablet_ticked m n changes slot t le
     begun = o.begun;
     settled = o.settled;
   };
+  shown = k.shown;
   later = k.later;
 }
 

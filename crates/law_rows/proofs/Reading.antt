@@ -5,7 +5,7 @@ use Rattle.std.specs.Option.{option_or, unwrap_or}
 use Rattle.model.specs.Ids.{Id, In, has, same}
 use Rattle.model.specs.Times.{time_of, is_future, is_below, before_end}
 use Rattle.model.specs.Store.{precedes}
-use Rattle.model.specs.Journal.{Change, row_at}
+use Rattle.model.specs.Journal.{Change, table_at, row_at}
 use Rattle.model.specs.Tablets.{Tablet, is_serving, serves}
 use Rattle.model.specs.Acts.{At, Read, Rows, Idle, Fenced, StaleSchema, Future, TooOld}
 use Rattle.model.specs.Parts.{Parts, If, answered}
@@ -103,10 +103,13 @@ read_keeps slots ps changes n places version key at columns later asked inv =
           let t = ps.tablet p.slot in
           let h = inv.slots p.slot in
           let serving : is_serving t.presence ≡ true = (both_pass (is_serving t.presence) (same t.tablet p.tablet) (served key places ps.tablet (none_is away passes.0) p isin)).0 in
-          let o = h.opens serving (unfenced places ps.tablet (none_is (first_fence places ps.tablet) passes.1.0) p isin) in
+          let free : t.fence ≡ None = unfenced places ps.tablet (none_is (first_fence places ps.tablet) passes.1.0) p isin in
+          let o = h.opens serving free in
           let z = h.each o.interval o.listed o.slot_is in
           let less : t.clock < n = clock_before (slots_of act) ps n p.slot later (from_one slots places p asked isin) (place_touched places p isin) in
           let cut : t.cutoff ≤ time_of at n = reached at n t.cutoff (le_trans h.good.cutoff (le_of_lt less)) (recent places at ps.tablet (none_is cutoff passes.1.1.1.1.0) p isin) in
-          z.stands (ap (λ point. begins_at point o.interval.from) o.settled) k (time_of at n) (rw (← z.low_is, ← z.high_is) range) cut (ap (before_end (time_of at n)) o.opened) ∙ ap (λ i. row_at changes (time_of at n) i k) (sym z.table_is));
+          z.stands (ap (λ point. begins_at point o.interval.from) o.settled) k (time_of at n) (rw (← z.low_is, ← z.high_is) range) cut (ap (before_end (time_of at n)) o.opened)
+              (ap (λ i. is_some (table_at changes (time_of at n) i)) (sym z.table_is) ∙ h.shown serving free (time_of at n) cut)
+              ∙ ap (λ i. row_at changes (time_of at n) i k) (sym z.table_is));
       inv = nothing_told act (Rows rows) n ps changes later inv;
     })

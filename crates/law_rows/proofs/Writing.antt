@@ -88,16 +88,14 @@ slot_stays m n table batch changes slot t stays h = record {
     high_is = g.high_is;
     viewed = λ x active. ap is_some (tables_stay batch n table changes x i.table) ∙ g.viewed x active;
     waits = g.waits;
-    stands = λ counted key x ranged cut before. g.stands counted key x ranged cut before ∙ sym (stays i key x isin is ranged before);
+    stands = λ counted key x ranged cut before there.
+        g.stands counted key x ranged cut before (ap is_some (sym (tables_stay batch n table changes x i.table)) ∙ there) ∙ sym (stays i key x isin is ranged before);
     sets = λ f held key x ranged cut by active. g.sets f held key x ranged cut by active ∙ sym (stays i key x isin is ranged (both_pass (leb i.from x) (before_end x i.to) active).1);
   };
   opens = h.opens;
+  shown = λ serving unfenced x cut. ap is_some (tables_stay batch n table changes x t.table) ∙ h.shown serving unfenced x cut;
   later = λ ns to is. h.later ns to (sym (fixed_stay batch n table changes ns to) ∙ is);
 }
-
--- before an open interval's end lies any time
-before_open : (x : ℕ) (to : Option ℕ) → to ≡ None → before_end x to ≡ true
-before_open x to e = ap (before_end x) e
 
 -- an interval that is over for a tablet has no later time
 not_over : (to : Option ℕ) (from clock n x : ℕ) → OverBy clock from to → clock < n → n ≤ x → before_end x to ≡ true → to ≡ None
@@ -111,11 +109,7 @@ eqb_at a b e = grind (arith, nat_tests)
 slot_written : (m : Master) (n : ℕ) (batch : List Item) (changes : List Change) (slot : ℕ) (t : Tablet) → t.clock < n → is_serving t.presence ≡ true → t.fence ≡ None
     → list_all (λ item. covers t item.key) batch ≡ true → SlotGood m changes slot t → SlotGood m (rows_made n t.table batch changes) slot (wrote batch n t)
 slot_written m n batch changes slot t less serving unfenced all h =
-    let o = h.opens serving unfenced in
-    let z = h.each o.interval o.listed o.slot_is in
     let below = below_later t.versions (t.clock + 1) (n + 1) (omega arith) h.good.below in
-    let there : (x : ℕ) → n ≤ x → is_some (table_at changes x t.table) ≡ true
-    = λ x le. ap (λ k. is_some (table_at changes x k)) z.table_is ∙ z.viewed x (passes_both _ _ (let b = o.begun in grind (arith, nat_tests)) (before_open x o.interval.to o.opened)) in
     record {
       good = record {
         sorted = sorted_written batch t.versions n h.good.sorted below;
@@ -139,19 +133,22 @@ slot_written m n batch changes slot t less serving unfenced all h =
         high_is = g.high_is;
         viewed = λ x active. ap is_some (tables_stay batch n t.table changes x i.table) ∙ g.viewed x active;
         waits = g.waits;
-        stands = λ counted key x ranged cut before. either_way (ltb x n)
-            (λ sooner. read_written_before batch t.versions n key x h.good.sorted below (ltb-true x n sooner) ∙ g.stands counted key x ranged cut before
+        stands = λ counted key x ranged cut before there. (
+            let was = g.stands counted key x ranged cut before (ap is_some (sym (tables_stay batch n t.table changes x i.table)) ∙ there) in
+            either_way (ltb x n)
+            (λ sooner. read_written_before batch t.versions n key x h.good.sorted below (ltb-true x n sooner) ∙ was
             ∙ sym (not_written batch n t.table i.table t changes key x all (λ a b. ltb-true x n sooner)))
             (λ after. let le : n ≤ x = ltb-false x n after in
             read_written batch t.versions n key x h.good.sorted below le
-            ∙ ap (λ row. fold (item_step key) row batch) (g.stands counted key x ranged cut before ∙ ap (λ k. row_at changes x k key) (sym g.table_is))
-            ∙ sym (rows_written batch n t.table changes key x le (there x le))
-            ∙ ap (λ k. row_at (rows_made n t.table batch changes) x k key) g.table_is);
+            ∙ ap (λ row. fold (item_step key) row batch) (was ∙ ap (λ k. row_at changes x k key) (sym g.table_is))
+            ∙ sym (rows_written batch n t.table changes key x le (h.shown serving unfenced x cut))
+            ∙ ap (λ k. row_at (rows_made n t.table batch changes) x k key) g.table_is));
         -- a frozen set's time is before the stamp
         sets = λ f held key x ranged cut by active. g.sets f held key x ranged cut by active
             ∙ sym (not_written batch n t.table i.table t changes key x all (λ a b. let past : f.at < t.clock = h.good.set_past f held in let up : x ≤ f.at = by in omega arith));
       };
       opens = λ s u. let p = h.opens s u in record { interval = p.interval; listed = p.listed; slot_is = p.slot_is; opened = p.opened; begun = le_trans p.begun (le_of_lt less); settled = p.settled };
+      shown = λ s u x cut. ap is_some (tables_stay batch n t.table changes x t.table) ∙ h.shown s u x cut;
       later = λ ns to is s u owned. le_trans (h.later ns to (sym (fixed_stay batch n t.table changes ns to) ∙ is) s u owned) (le_of_lt less);
     }
 

@@ -1,7 +1,9 @@
 -- The tablets stand for the journal: the reads of a live store and of frozen sets are those of the view.
-use Rattle.std.proofs.Common.{ℕ, ◌≡◌, List, [], ◌∷◌, Option, Some, None, true, false, not, ◌⊎◌, inl, inr, refl, sym, ap, subst, ◌∙◌}
+use Rattle.std.proofs.Common.{ℕ, ◌≡◌, List, [], ◌∷◌, Option, Some, None, true, false, not, ◌⊎◌, inl, inr, refl, sym, ap, subst, ◌∙◌, eqb, arith}
+use Rattle.std.proofs.lemmas.Bool.Decides.{nat_tests}
 use Rattle.std.specs.Option.{is_some}
 use Rattle.model.specs.Ids.{Id, In, same}
+use Rattle.model.specs.Times.{is_open}
 use Rattle.model.specs.Store.{in_range}
 use Rattle.model.specs.Activity.{Interval, last_from, last_of}
 use Rattle.model.specs.Journal.{Change, table_at, row_at}
@@ -9,8 +11,8 @@ use Rattle.model.specs.Tablets.{FrozenSet, is_vacant}
 use Rattle.model.specs.Parts.{Parts}
 use Rattle.model.specs.Stands.{Stands, LiveStands, FrozenStands, awaited, counted}
 use Rattle.law_store.proofs.Keys.{either_way}
-use Rattle.law_invariants.specs.Invariant.{Inv, begins_at}
-use Rattle.law_invariants.proofs.Finding.{same_equal}
+use Rattle.law_invariants.specs.Invariant.{Inv, TurnsAt, is_awaited}
+use Rattle.law_invariants.proofs.Finding.{same_equal, second_fails}
 use Rattle.law_invariants.proofs.Ticking.{not_true}
 use Rattle.law_changes.proofs.Plans.{filter_in}
 
@@ -30,10 +32,18 @@ last_found (j ∷ js) tablet found i e = either_way (same j.tablet tablet)
 last_in : (is : List Interval) (tablet : Id) (i : Interval) → last_of is tablet ≡ Some i → In i is × (same i.tablet tablet ≡ true)
 last_in is tablet i e = elim (last_found is tablet None i e) [ inl h ↦ h | inr q ↦ cc ]
 
--- a counted interval doesn't begin at the point of rows that are awaited
-counted_in : (point : Option ℕ) (is : List Interval) (i : Interval) → In i (counted point is) → In i is × (begins_at point i.from ≡ false)
-counted_in None is i isin = (isin, refl)
-counted_in (Some point) is i isin = let h = filter_in is (λ j. not (begins_at (Some point) j.from)) i isin in (h.0, not_true (begins_at (Some point) i.from) h.1)
+-- a counted interval's rows are not yet to come
+ended_then : (point from : ℕ) (to : Option ℕ) → not (eqb from point) ≡ true → TurnsAt point from to → is_awaited (Some point) to ≡ false
+ended_then point from None apart turns = absurd (let q : eqb from point ≡ false = not_true (eqb from point) apart in grind (arith, nat_tests))
+ended_then point from (Some to) apart turns = refl
+
+counted_in : (point : Option ℕ) (is : List Interval) (i : Interval) → In i (counted point is) → In i is
+counted_in None is i isin = isin
+counted_in (Some point) is i isin = (filter_in is (λ j. not (eqb j.from point)) i isin).0
+
+counted_came : (point : Option ℕ) (is : List Interval) (i : Interval) → In i (counted point is) → ((p : ℕ) → point ≡ Some p → TurnsAt p i.from i.to) → is_awaited point i.to ≡ false
+counted_came None is i isin turns = second_fails (is_open i.to) false refl
+counted_came (Some point) is i isin turns = ended_then point i.from i.to (filter_in is (λ j. not (eqb j.from point)) i isin).1 (turns point refl)
 
 range_same : (low high from to code : ℕ) → low ≡ from → high ≡ to → in_range low high code ≡ true → in_range from to code ≡ true
 range_same low high from to code e f h = rw (← e, ← f) h
@@ -45,8 +55,8 @@ live_stands ps changes slot present inv = record {
       let found = last_in (counted (awaited ps t) ps.master.activity) t.tablet i last in
       let listed = counted_in (awaited ps t) ps.master.activity i found.0 in
       let s = inv.slots slot in
-      let g = s.each i listed.0 (s.home present i listed.0 (same_equal i.tablet t.tablet found.1)) in
-      g.stands listed.1 key x (range_same t.low t.high i.low i.high _ g.low_is g.high_is ranged) cut before (ap (λ k. is_some (table_at changes x k)) (sym g.table_is) ∙ there)
+      let g = s.each i listed (s.home present i listed (same_equal i.tablet t.tablet found.1)) in
+      g.stands (counted_came (awaited ps t) ps.master.activity i found.0 g.waits) key x (range_same t.low t.high i.low i.high _ g.low_is g.high_is ranged) cut before (ap (λ k. is_some (table_at changes x k)) (sym g.table_is) ∙ there)
       ∙ ap (λ k. row_at changes x k key) (sym g.table_is));
 }
 

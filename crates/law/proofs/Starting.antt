@@ -24,6 +24,7 @@ start_holds slots = record {
     past = λ ns to is. absurd (let q = is in grind arith);
     complete = λ s isin. absurd isin;
     listed = λ r l isin. absurd isin;
+    listed_of = λ r l isin. absurd isin;
   };
   slots = λ slot. record {
     good = record { sorted = tt; below = tt; cutoff = omega arith; set_past = λ f held. absurd held };

@@ -160,7 +160,7 @@ good_begins m n changes ns name tablets columns slots t slot place low high h dr
       low_is = refl;
       high_is = refl;
       viewed = λ x active. ap is_some (made_here n id ns name (numbered 1 columns) changes x (leb-true n x (both_pass (leb n x) true active).0));
-      waits = λ point waits opened. (let q : None ≡ Some point = sym (new_awaits m changes place h) ∙ waits in cc);
+      waits = λ point waits. (let q : None ≡ Some point = sym (new_awaits m changes place h) ∙ waits in cc);
       stands = λ counted key x within cut soon there. sym (made_rows n id ns name (numbered 1 columns) changes x id key ∙ no_rows changes x id key (never_made m changes x h));
       sets = λ f held. absurd held;
     }
@@ -280,6 +280,13 @@ master_made m n changes ns name tablets columns slots before pos free drawn stan
   past = λ owner to is. le_trans (h.past owner to is) (le_of_lt before);
   complete = λ s isin. le_trans (h.complete s isin) (le_of_lt before);
   listed = λ r l isin lists. le_trans (h.listed r l isin lists) (omega arith);
+  listed_of = λ r l isin lists i active is. elim (in_append m.activity (shares slots 0 tablets n m) i active) [
+    | inl old ↦ owner_beside m.catalog.owners (record { table = next_table m; namespace = ns }) i.table (old_table m i.table (drawn i old)) ∙ h.listed_of r l isin lists i old is
+    | inr made ↦ absurd (
+        let q : m.drawn.tablets + 0 < i.tablet.number = share_number slots 0 tablets n m i made in
+        let e : i.tablet.number ≡ l.tablet.number = ap (λ k. k.number) is in
+        let b : l.tablet.number ≤ m.drawn.tablets = h.listed r l isin lists in omega arith)
+  ];
 }
 
 abbrev pub create_table_checks : List ℕ → List ℕ → ℕ → Master → List Check

@@ -7,9 +7,10 @@ use Rattle.std.proofs.lemmas.Bool.Decides.{nat_tests}
 use Rattle.model.specs.Ids.{Id, In, has, same, same_slots, rising}
 use Rattle.model.specs.Times.{before_end, ended, is_open}
 use Rattle.model.specs.Activity.{Interval, active_at}
-use Rattle.model.specs.Catalog.{TableRecord, namespace_named}
+use Rattle.model.specs.Catalog.{TableRecord, namespace_named, owner_of}
 use Rattle.model.specs.Journal.{Change as Made, ChangeAct, TableDropped, table_at, row_at}
 use Rattle.model.specs.Tablets.{Tablet, Presence, OutOfService, PutOut, effect, is_vacant}
+use Rattle.model.specs.Stands.{awaited_in}
 use Rattle.model.specs.Acts.{DropTable, Change, UnknownNamespace, UnknownTable, Busy}
 use Rattle.model.specs.Parts.{Master, Parts, Check, If}
 use Rattle.model.specs.Operations.{holder}
@@ -18,16 +19,17 @@ use Rattle.model.specs.Changes.{accepts, tell, drop_table}
 use Rattle.model.specs.Changed.{changed, table_dropped}
 use Rattle.model.specs.History.{with, told}
 use Rattle.law_store.proofs.Keys.{either_way}
-use Rattle.law_invariants.specs.Invariant.{EndsBy, OverBy, IsPast, IsGood, SlotGood, MasterGood, Inv, Later}
-use Rattle.law_invariants.proofs.Finding.{same_equal, same_self, in_mapped, map_in, not_passing, both_pass, passes_both}
+use Rattle.law_invariants.specs.Invariant.{EndsBy, OverBy, IsPast, TurnsAt, is_awaited, IsGood, SlotGood, MasterGood, Inv, Later}
+use Rattle.law_invariants.proofs.Finding.{second_fails, same_equal, same_self, in_mapped, map_in, not_passing, both_pass, passes_both}
 use Rattle.law_invariants.proofs.Ticking.{by_checks, refused_keeps, KeepsAll, over_later, tablet_ticked, ends_later}
 use Rattle.law_invariants.proofs.Holding.{end_weaker}
 use Rattle.law_invariants.proofs.Journaling.{dropped_before, dropped_others, dropped_rows_before, dropped_rows_others, nothing_late}
 use Rattle.law_invariants.proofs.Covering.{dropped_covers}
-use Rattle.law_invariants.proofs.Cataloguing.{CatalogStands, catalog_of, catalog_table_dropped}
+use Rattle.law_invariants.proofs.Cataloguing.{CatalogStands, catalog_of, catalog_table_dropped, table_current}
 use Rattle.law_changes.proofs.Told.{slots_told, master_early, tablet_early, told_same, slots_equal}
 use Rattle.law_changes.proofs.Plans.{active_planned, planned_active}
 use Rattle.law_changes.proofs.Schemas.{with_found}
+use Rattle.law_changes.proofs.Awaiting.{AwaitNone, none_await}
 
 -- where an interval ends that may be one of the table's
 abbrev pub end_of : Id → ℕ → Interval → Option ℕ
@@ -91,22 +93,23 @@ open_beside id n i e = not_passing (same id i.table) (λ s.
     never None k = cc
     never (Some e) k = cc
 
--- a cut interval that is open was open
-open_before : (id : Id) (n : ℕ) (i : Interval) → is_open (end_of id n i) ≡ true → is_open i.to ≡ true
-open_before id n i = cond_both (same i.table id) (ended n i.to) i.to (λ to. is_open to ≡ true → is_open i.to ≡ true) (λ e. not_ended i.to) (λ e h. h)
-  where
-    not_ended : (to : Option ℕ) → is_open (ended n to) ≡ true → is_open to ≡ true
-    not_ended None h = refl
-    not_ended (Some e) h = h
+-- a cut interval whose rows are not to come has none to come before: where the table is dropped its tablets await none
+came : (id : Id) (n : ℕ) (i : Interval) (point : Option ℕ) → (same i.table id ≡ true → point ≡ None) → is_awaited point (end_of id n i) ≡ false → is_awaited point i.to ≡ false
+came id n i point calm h = either_way (same i.table id)
+    (λ e. second_fails (is_open i.to) (is_some point) (ap is_some (calm e)))
+    (λ e. ap (λ b. is_awaited point (cond b (ended n i.to) i.to)) (sym e) ∙ h)
+
+turns : (id : Id) (n : ℕ) (i : Interval) (awaits : Option ℕ) (point : ℕ) → (same i.table id ≡ true → awaits ≡ None) → awaits ≡ Some point → TurnsAt point i.from i.to → TurnsAt point i.from (end_of id n i)
+turns id n i awaits point calm some h = cond_both (same i.table id) (ended n i.to) i.to (TurnsAt point i.from) (λ e. (let q : None ≡ Some point = sym (calm e) ∙ some in cc)) (λ e. h)
 
 -- a tablet has its cut intervals where it had them
 home_cut : (m : Master) (id : Id) (n slot : ℕ) (tablet : Id) → ((i : Interval) → In i m.activity → i.tablet ≡ tablet → i.slot ≡ slot)
     → (i : Interval) → In i (map (cut_off id n) m.activity) → i.tablet ≡ tablet → i.slot ≡ slot
 home_cut m id n slot tablet h = in_mapped (cut_off id n) (λ i. i.tablet ≡ tablet → i.slot ≡ slot) m.activity h
 
-good_cut : (m : Master) (n : ℕ) (changes : List Made) (id : Id) (t : Tablet) (c : ℕ) (p : Presence) (i : Interval) → m.clock < n → is_vacant p ≡ false → OverBy c i.from (end_of id n i)
-    → IsGood m changes t i → IsGood (table_dropped id n m) (with n (TableDropped id) changes) (record t { clock = c; presence = p }) (cut_off id n i)
-good_cut m n changes id t c p i before present over g =
+good_cut : (m : Master) (n : ℕ) (changes : List Made) (id : Id) (t : Tablet) (c : ℕ) (p : Presence) (i : Interval) → m.clock < n → is_vacant p ≡ false → (same i.table id ≡ true → awaited_in m.restorations t.tablet t.done ≡ None)
+    → OverBy c i.from (end_of id n i) → IsGood m changes t i → IsGood (table_dropped id n m) (with n (TableDropped id) changes) (record t { clock = c; presence = p }) (cut_off id n i)
+good_cut m n changes id t c p i before present calm over g =
     let new = with n (TableDropped id) changes in record {
       past = end_past id m.clock n i before g.past;
       over = over;
@@ -123,8 +126,8 @@ good_cut m n changes id t c p i before present over g =
           on_table {P = is_some (table_at new x i.table) ≡ true} id m.clock n x i before g.past a.1
           (λ l. ap is_some (dropped_before n id changes x i.table l) ∙ g.viewed x a.0)
           (λ e. ap is_some (dropped_others n id changes x i.table e) ∙ g.viewed x a.0));
-      waits = λ point waits opened. g.waits point waits (open_before id n i opened);
-      stands = λ counted key x within cut soon there. g.stands counted key x within cut (earlier id n x i soon)
+      waits = λ point waits. turns id n i (awaited_in m.restorations t.tablet t.done) point calm waits (g.waits point waits);
+      stands = λ counted key x within cut soon there. g.stands (came id n i (awaited_in m.restorations t.tablet t.done) calm counted) key x within cut (earlier id n x i soon)
           (on_table {P = is_some (table_at changes x i.table) ≡ true} id m.clock n x i before g.past soon
           (λ l. ap is_some (sym (dropped_before n id changes x i.table l)) ∙ there)
           (λ e. ap is_some (sym (dropped_others n id changes x i.table e)) ∙ there))
@@ -138,17 +141,20 @@ good_cut m n changes id t c p i before present over g =
           (λ e. sym (dropped_rows_others n id changes x i.table key e)));
     }
 
+calm_here : (m : Master) (id : Id) (t : Tablet) (i : Interval) → t.tablet ≡ i.tablet → In i m.activity → AwaitNone m id → same i.table id ≡ true → awaited_in m.restorations t.tablet t.done ≡ None
+calm_here m id t i is isin calm of_table = ap (λ tablet. awaited_in m.restorations tablet t.done) is ∙ calm i t.done isin of_table
+
 -- a slot whose tablet is hidden
-slot_hidden : (m : Master) (n : ℕ) (changes : List Made) (id : Id) (slot : ℕ) (t : Tablet) → m.clock < n → t.clock < n → is_vacant t.presence ≡ false → SlotGood m changes slot t
+slot_hidden : (m : Master) (n : ℕ) (changes : List Made) (id : Id) (slot : ℕ) (t : Tablet) → m.clock < n → t.clock < n → is_vacant t.presence ≡ false → AwaitNone m id → SlotGood m changes slot t
     → SlotGood (table_dropped id n m) (with n (TableDropped id) changes) slot (effect (PutOut n) n t)
-slot_hidden m n changes id slot t before early present h =
+slot_hidden m n changes id slot t before early present calm h =
     let g = tablet_ticked m n changes slot t (le_of_lt early) h in record {
       good = record { sorted = g.good.sorted; below = g.good.below; cutoff = g.good.cutoff; set_past = g.good.set_past };
       home = λ hidden. home_cut m id n slot t.tablet (h.home present);
       numbered = h.numbered;
       each = in_mapped (cut_off id n) (λ i. i.slot ≡ slot → IsGood (table_dropped id n m) (with n (TableDropped id) changes) (effect (PutOut n) n t) i) m.activity
           (λ i isin is. let q = h.each i isin is in
-          good_cut m n changes id t n (OutOfService n) i before refl
+          good_cut m n changes id t n (OutOfService n) i before refl (calm_here m id t i q.tablet_is isin calm)
           (cond_both (same i.table id) (ended n i.to) i.to (OverBy n i.from)
           (λ e. ended_over i.to i.from t.clock n (let b : i.from ≤ m.clock = q.past.begun in omega arith) (le_of_lt early) q.over)
           (λ e. over_later i.to i.from t.clock n (le_of_lt early) q.over)) q);
@@ -159,14 +165,14 @@ slot_hidden m n changes id slot t before early present h =
 
 -- a slot without an open interval of the table
 slot_beside : (m : Master) (n : ℕ) (changes : List Made) (id : Id) (slot : ℕ) (t : Tablet) → m.clock < n
-    → ((i : Interval) → In i m.activity → i.slot ≡ slot → end_of id n i ≡ i.to) → SlotGood m changes slot t
+    → ((i : Interval) → In i m.activity → i.slot ≡ slot → end_of id n i ≡ i.to) → AwaitNone m id → SlotGood m changes slot t
     → SlotGood (table_dropped id n m) (with n (TableDropped id) changes) slot t
-slot_beside m n changes id slot t before apart h = record {
+slot_beside m n changes id slot t before apart calm h = record {
   good = h.good;
   home = λ present. home_cut m id n slot t.tablet (h.home present);
   numbered = h.numbered;
   each = in_mapped (cut_off id n) (λ i. i.slot ≡ slot → IsGood (table_dropped id n m) (with n (TableDropped id) changes) t i) m.activity
-      (λ i isin is. let q = h.each i isin is in good_cut m n changes id t t.clock t.presence i before q.present (subst (OverBy t.clock i.from) (sym (apart i isin is)) q.over) q);
+      (λ i isin is. let q = h.each i isin is in good_cut m n changes id t t.clock t.presence i before q.present (calm_here m id t i q.tablet_is isin calm) (subst (OverBy t.clock i.from) (sym (apart i isin is)) q.over) q);
   opens = λ serving unfenced. (let o = h.opens serving unfenced in record {
     interval = cut_off id n o.interval;
     listed = map_in (cut_off id n) m.activity o.interval o.listed;
@@ -190,6 +196,7 @@ master_dropped m n changes id before stands h = record {
   past = λ ns to is. le_trans (h.past ns to is) (le_of_lt before);
   complete = λ s isin. le_trans (h.complete s isin) (le_of_lt before);
   listed = h.listed;
+  listed_of = λ r l isin lists. in_mapped (cut_off id n) (λ i. i.tablet ≡ l.tablet → owner_of m.catalog.owners i.table ≡ Some r.namespace) m.activity (h.listed_of r l isin lists);
 }
 
 abbrev pub drop_table_checks : List ℕ → List ℕ → Master → List Check
@@ -223,6 +230,9 @@ drop_table_keeps ps changes n namespace table slots later plan inv =
     (λ why. refused_keeps (Change command slots) why n ps changes later inv tt refl)
     (λ passes.
     let with_ = with_found found table_dropped_act n changes passes.1.0 in
+    let current = table_current m namespace table passes.1.0 in
+    let calm : AwaitNone m id = none_await m changes (known (namespace_named m.catalog.namespaces namespace)) id inv.master
+    (inv.master.tables.owned (the_table found) current.listed ∙ ap (λ ns. Some ns) current.namespace_is) passes.1.1.0 in
     let all : slots ≡ rising (map (λ j. j.slot) (active_in m id)) = slots_equal slots (plan_of command m) plan ∙ planned_slots m namespace table passes.1.0 in
     record {
       right = tt;
@@ -233,12 +243,12 @@ drop_table_keeps ps changes n namespace table slots later plan inv =
             let j = planned_active m id i (sym (ap (λ ss. has ss i) all) ∙ is) in
             let present : is_vacant (ps.tablet i).presence ≡ false = ((inv.slots i).each j.0 j.1.0 j.1.1).present in
             subst (λ a. SlotGood (table_dropped id n m) new i (effect a n (ps.tablet i))) (sym (told_same slots (PutOut n) i is))
-            (slot_hidden m n changes id i (ps.tablet i) before (tablet_early slots ps n i later is from) present (inv.slots i))))
+            (slot_hidden m n changes id i (ps.tablet i) before (tablet_early slots ps n i later is from) present calm (inv.slots i))))
             (λ i others. slot_beside m n changes id i (ps.tablet i) before (λ j isin is. stays_ended id n j (λ opened of_table.
             let planned : has slots j.slot ≡ true = ap (λ ss. has ss j.slot) all ∙ active_planned m id j isin opened of_table in
             let from : 1 ≤ j.slot = ((inv.slots i).each j isin is).slot_from in
             let apart : eqb i 0 ≡ false = grind (arith, nat_tests) in
-            true≢false (sym planned ∙ ap (has slots) is ∙ others apart))) (inv.slots i));
+            true≢false (sym planned ∙ ap (has slots) is ∙ others apart))) calm (inv.slots i));
         late = nothing_late n (TableDropped id) changes m.clock before inv.master.past inv.late;
       });
     })

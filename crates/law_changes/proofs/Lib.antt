@@ -3,6 +3,7 @@ pub mod Quiet
 pub mod Namespaces
 pub mod Schemas
 pub mod Plans
+pub mod Awaiting
 pub mod Dropping
 pub mod Free
 pub mod Creating

@@ -14,7 +14,7 @@ use Rattle.model.specs.Changes.{accepts}
 use Rattle.model.specs.Changed.{changed}
 use Rattle.model.specs.History.{told}
 use Rattle.model.specs.Right.{NothingLate}
-use Rattle.law_invariants.specs.Invariant.{Covered, IsGood, SlotGood, MasterGood, Inv, Later, begins_at}
+use Rattle.law_invariants.specs.Invariant.{Covered, IsGood, SlotGood, MasterGood, Inv, Later, is_awaited}
 use Rattle.law_invariants.proofs.Finding.{both_pass}
 use Rattle.law_invariants.proofs.Ticking.{past_later, tablet_ticked}
 use Rattle.law_invariants.proofs.Journaling.{IsQuiet}
@@ -60,7 +60,7 @@ good_carried m k changes new t i f g = record {
   high_is = g.high_is;
   viewed = λ x active. f.viewed x active (g.viewed x active);
   waits = λ point waits. g.waits point (ap (λ rs. awaited_in rs t.tablet t.done) (sym f.restorations) ∙ waits);
-  stands = λ counted key x within cut before there. g.stands (ap (λ rs. begins_at (awaited_in rs t.tablet t.done) i.from) (sym f.restorations) ∙ counted) key x within cut before (f.shown x there) ∙ sym (f.rows x key before);
+  stands = λ counted key x within cut before there. g.stands (ap (λ rs. is_awaited (awaited_in rs t.tablet t.done) i.to) (sym f.restorations) ∙ counted) key x within cut before (f.shown x there) ∙ sym (f.rows x key before);
   sets = λ s held key x within cut by active. g.sets s held key x within cut by active ∙ sym (f.rows x key (both_pass (leb i.from x) (before_end x i.to) active).1);
 }
 
@@ -102,6 +102,7 @@ master_follows m k changes new f stands h = record {
   past = λ ns to is. le_trans (h.past ns to (sym (f.quiet.fixed ns to) ∙ is)) f.clock;
   complete = λ s isin. le_trans (h.complete s (subst (In s) f.schedules isin)) f.clock;
   listed = λ r l isin lists. (let q = h.listed r l (subst (In r) f.restorations isin) lists in let e = f.drawn in omega arith);
+  listed_of = λ r l isin lists i active is. ap (λ os. owner_of os i.table) f.owners ∙ h.listed_of r l (subst (In r) f.restorations isin) lists i (subst (In i) f.activity active) is;
 }
 
 -- a tablet is told a version of its schema, or nothing

@@ -81,7 +81,7 @@ tabled : (found : Option TableRecord) (act : TableRecord → ChangeAct) (n : ℕ
 tabled None act n changes e = cc
 tabled (Some t) act n changes e = refl
 
-table_current : (m : Master) (namespace table : List ℕ) → is_none (table_of m namespace table) ≡ false
+pub table_current : (m : Master) (namespace table : List ℕ) → is_none (table_of m namespace table) ≡ false
     → IsCurrent m.catalog.tables (known (namespace_named m.catalog.namespaces namespace)) table (the_table (table_of m namespace table))
 table_current m namespace table e = current_named_is m.catalog.tables (known (namespace_named m.catalog.namespaces namespace)) table (the_table (table_of m namespace table)) (some_is (table_of m namespace table) no_table e)
 

@@ -61,6 +61,7 @@ master_ticked m n changes le h = record {
   past = λ ns to is. le_trans (h.past ns to is) le;
   complete = λ s isin. le_trans (h.complete s isin) le;
   listed = h.listed;
+  listed_of = h.listed_of;
 }
 
 pub good_ticked : (m : Master) (n : ℕ) (changes : List Change) (t : Tablet) (i : Interval) → m.clock ≤ n → IsGood m changes t i → IsGood (record m { clock = n }) changes t i

@@ -1,5 +1,5 @@
 -- What holds of the parts and the journal after each entry of a legal history.
-use Rattle.std.specs.Prelude.{◌≡◌, ℕ, ◌≤◌, ◌<◌, ◌+◌, Bool, true, false, List, [], ◌∷◌, Option, Some, None, ◌==◌, option_map}
+use Rattle.std.specs.Prelude.{◌≡◌, ℕ, ◌≤◌, ◌<◌, ◌+◌, Bool, true, false, List, [], ◌∷◌, Option, Some, None, ◌==◌, ◌&&◌, option_map}
 use Rattle.std.specs.Option.{is_some}
 use Rattle.std.specs.Str.{bytes_eq}
 use Rattle.row_values.specs.Codes.{code_of}
@@ -97,12 +97,16 @@ abbrev pub SetStands : FrozenSet → List Change → Interval → Type 0
 SetStands f changes i = (key : List ℕ) (x : ℕ) → in_range i.low i.high (code_of key) ≡ true → f.cutoff ≤ x → x ≤ f.at → active_at x i ≡ true
     → read_of f.versions key x ≡ row_at changes x i.table key
 
--- whether an interval that begins at this time begins at the point of the rows that its tablet awaits
-abbrev pub begins_at : Option ℕ → ℕ → Bool
-begins_at None from = false
-begins_at (Some point) from = from == point
+-- an open interval begins at the point, and one that has ended had ended by it
+abbrev pub TurnsAt : ℕ → ℕ → Option ℕ → Type 0
+TurnsAt point from None = from ≡ point
+TurnsAt point from (Some to) = to ≤ point
 
--- an interval of a tablet: its slot's part holds the tablet, and stands for the journal, unless the interval's rows are yet to be restored
+-- whether an interval's rows are yet to come: it is open, and its tablet awaits rows
+abbrev pub is_awaited : Option ℕ → Option ℕ → Bool
+is_awaited point to = is_open to && is_some point
+
+-- an interval of a tablet: its slot's part holds the tablet, and stands for the journal unless the interval's rows are yet to come
 pub record IsGood (m : Master) (changes : List Change) (t : Tablet) (i : Interval) : Type 0 where
   pub past : IsPast m.clock i.from i.to
   -- an interval that has ended is over for the tablet too
@@ -119,8 +123,8 @@ pub record IsGood (m : Master) (changes : List Change) (t : Tablet) (i : Interva
   -- while the tablet is active, the view has its table
   pub viewed : (x : ℕ) → active_at x i ≡ true → is_some (table_at changes x i.table) ≡ true
   -- a tablet that awaits rows awaits those of its open interval
-  pub waits : (point : ℕ) → awaited_in m.restorations t.tablet t.done ≡ Some point → is_open i.to ≡ true → i.from ≡ point
-  pub stands : begins_at (awaited_in m.restorations t.tablet t.done) i.from ≡ false → StandsIn t changes i
+  pub waits : (point : ℕ) → awaited_in m.restorations t.tablet t.done ≡ Some point → TurnsAt point i.from i.to
+  pub stands : is_awaited (awaited_in m.restorations t.tablet t.done) i.to ≡ false → StandsIn t changes i
   pub sets : (f : FrozenSet) → In f t.frozen → SetStands f changes i
 
 -- a tablet that takes writes has an open interval that began by its clock, and its rows are taken
@@ -162,6 +166,9 @@ pub record MasterGood (m : Master) (changes : List Change) : Type 0 where
   pub complete : (s : Schedule) → In s m.schedules → complete_to s.complete s + 1 ≤ m.clock
   -- a restoration lists no tablet that is yet to be made
   pub listed : (r : RestorationRecord) (l : Listed) → In r m.restorations → In l r.listed → l.tablet.number ≤ m.drawn.tablets
+  -- and tablets of its namespace alone
+  pub listed_of : (r : RestorationRecord) (l : Listed) → In r m.restorations → In l r.listed → (i : Interval) → In i m.activity → i.tablet ≡ l.tablet
+      → owner_of m.catalog.owners i.table ≡ Some r.namespace
 
 -- what holds after each entry
 pub record Inv (ps : Parts) (changes : List Change) : Type 0 where

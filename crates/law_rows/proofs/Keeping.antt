@@ -99,6 +99,7 @@ master_restarted m n changes le h = let k = master_ticked m n changes le h in re
   past = k.past;
   complete = k.complete;
   listed = k.listed;
+  listed_of = k.listed_of;
 }
 
 slot_restarted : (m : Master) (n : ℕ) (changes : List Change) (slot : ℕ) (t : Tablet) → m.clock ≤ n → SlotGood m changes slot t → SlotGood (restarted_master n m) changes slot t

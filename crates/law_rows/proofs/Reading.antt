@@ -3,7 +3,7 @@ use Rattle.std.proofs.Common.{ℕ, ◌≡◌, ◌≤◌, ◌<◌, List, [], ◌�
 use Rattle.std.proofs.lemmas.Bool.Decides.{nat_tests}
 use Rattle.std.specs.Option.{option_or, unwrap_or}
 use Rattle.model.specs.Ids.{Id, In, has, same}
-use Rattle.model.specs.Times.{time_of, is_future, is_below, before_end}
+use Rattle.model.specs.Times.{time_of, is_future, is_below, before_end, is_open}
 use Rattle.model.specs.Store.{precedes}
 use Rattle.model.specs.Journal.{Change, table_at, row_at}
 use Rattle.model.specs.Tablets.{Tablet, is_serving, serves}
@@ -15,8 +15,8 @@ use Rattle.model.specs.Entries.{slots_of, AllOf, IsSlot}
 use Rattle.model.specs.RowActs.{read, first_moved, moved_from_key, moved_from_scan, moved, goes_on, is_empty, covers, first_fence, stale, first_cutoff, rows_of_places, cut_rows}
 use Rattle.law_store.proofs.Keys.{either_way}
 use Rattle.law_store.proofs.Reading.{read_right}
-use Rattle.law_invariants.specs.Invariant.{Inv, Later, begins_at}
-use Rattle.law_invariants.proofs.Finding.{both_pass}
+use Rattle.law_invariants.specs.Invariant.{Inv, Later}
+use Rattle.law_invariants.proofs.Finding.{both_pass, second_fails}
 use Rattle.law_invariants.proofs.Ticking.{refused_keeps, by_checks, KeepsAll, nothing_told}
 use Rattle.law_rows.proofs.Keeping.{clock_before}
 use Rattle.law_rows.proofs.Writing.{none_is}
@@ -108,7 +108,7 @@ read_keeps slots ps changes n places version key at columns later asked inv =
           let z = h.each o.interval o.listed o.slot_is in
           let less : t.clock < n = clock_before (slots_of act) ps n p.slot later (from_one slots places p asked isin) (place_touched places p isin) in
           let cut : t.cutoff ≤ time_of at n = reached at n t.cutoff (le_trans h.good.cutoff (le_of_lt less)) (recent places at ps.tablet (none_is cutoff passes.1.1.1.1.0) p isin) in
-          z.stands (ap (λ point. begins_at point o.interval.from) o.settled) k (time_of at n) (rw (← z.low_is, ← z.high_is) range) cut (ap (before_end (time_of at n)) o.opened)
+          z.stands (second_fails (is_open o.interval.to) _ (ap is_some o.settled)) k (time_of at n) (rw (← z.low_is, ← z.high_is) range) cut (ap (before_end (time_of at n)) o.opened)
               (ap (λ i. is_some (table_at changes (time_of at n) i)) (sym z.table_is) ∙ h.shown serving free (time_of at n) cut)
               ∙ ap (λ i. row_at changes (time_of at n) i k) (sym z.table_is));
       inv = nothing_told act (Rows rows) n ps changes later inv;

@@ -58,6 +58,7 @@ master_written m n table batch changes h =
       past = λ ns to is. h.past ns to (sym (fixed_stay batch n table changes ns to) ∙ is);
       complete = h.complete;
       listed = h.listed;
+      listed_of = h.listed_of;
     }
 
 -- a namespace that has the table in the view at some time is the one that owns it

@@ -1,5 +1,5 @@
 -- Where no operation holds a namespace, no tablet of it awaits rows.
-use Rattle.std.proofs.Common.{ℕ, ◌≡◌, List, [], ◌∷◌, Option, Some, None, Bool, true, false, cond, ◌&&◌, ◌||◌, inl, inr, refl, sym, ap, ◌∙◌, not}
+use Rattle.std.proofs.Common.{ℕ, ◌≡◌, List, [], ◌∷◌, Option, Some, None, true, false, cond, ◌&&◌, inl, inr, refl, sym, ap, ◌∙◌, not}
 use Rattle.std.specs.Option.{is_some, option_or, option_map}
 use Rattle.std.specs.List.{list_any}
 use Rattle.std.proofs.lemmas.Bool.{true≢false}

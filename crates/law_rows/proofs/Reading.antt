@@ -109,7 +109,7 @@ read_keeps slots ps changes n places version key at columns later asked inv =
           let less : t.clock < n = clock_before (slots_of act) ps n p.slot later (from_one slots places p asked isin) (place_touched places p isin) in
           let cut : t.cutoff ≤ time_of at n = reached at n t.cutoff (le_trans h.good.cutoff (le_of_lt less)) (recent places at ps.tablet (none_is cutoff passes.1.1.1.1.0) p isin) in
           z.stands (second_fails (is_open o.interval.to) _ (ap is_some o.settled)) k (time_of at n) (rw (← z.low_is, ← z.high_is) range) cut (ap (before_end (time_of at n)) o.opened)
-              (ap (λ i. is_some (table_at changes (time_of at n) i)) (sym z.table_is) ∙ h.shown serving free (time_of at n) cut)
-              ∙ ap (λ i. row_at changes (time_of at n) i k) (sym z.table_is));
+          (ap (λ i. is_some (table_at changes (time_of at n) i)) (sym z.table_is) ∙ h.shown serving free (time_of at n) cut)
+          ∙ ap (λ i. row_at changes (time_of at n) i k) (sym z.table_is));
       inv = nothing_told act (Rows rows) n ps changes later inv;
     })

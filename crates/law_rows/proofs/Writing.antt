@@ -22,7 +22,7 @@ use Rattle.law_store.specs.Sorted.{item_step}
 use Rattle.law_store.proofs.Keys.{either_way}
 use Rattle.law_store.proofs.Writing.{read_written, read_written_before, sorted_written, below_written}
 use Rattle.law_invariants.specs.Invariant.{Inv, Later, SlotGood, MasterGood, OverBy}
-use Rattle.law_invariants.proofs.Finding.{both_pass, passes_both, same_self, same_equal}
+use Rattle.law_invariants.proofs.Finding.{both_pass, same_self, same_equal}
 use Rattle.law_invariants.proofs.Ticking.{refused_keeps, by_checks, KeepsAll, below_later, over_later}
 use Rattle.law_invariants.proofs.Frame.{one_told, tells}
 use Rattle.law_invariants.proofs.Overlap.{ends_before, code_below}

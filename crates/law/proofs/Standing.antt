@@ -12,9 +12,8 @@ use Rattle.model.specs.Parts.{Parts}
 use Rattle.model.specs.Stands.{Stands, LiveStands, FrozenStands, awaited, counted}
 use Rattle.law_store.proofs.Keys.{either_way}
 use Rattle.law_invariants.specs.Invariant.{Inv, TurnsAt, is_awaited}
-use Rattle.law_invariants.proofs.Finding.{same_equal, second_fails}
+use Rattle.law_invariants.proofs.Finding.{same_equal, second_fails, filter_in}
 use Rattle.law_invariants.proofs.Ticking.{not_true}
-use Rattle.law_changes.proofs.Plans.{filter_in}
 
 -- the last interval of a tablet is one of the tablet's
 last_found : (is : List Interval) (tablet : Id) (found : Option Interval) (i : Interval) → last_from is tablet found ≡ Some i → (In i is × (same i.tablet tablet ≡ true)) ⊎ (found ≡ Some i)
@@ -32,11 +31,12 @@ last_found (j ∷ js) tablet found i e = either_way (same j.tablet tablet)
 last_in : (is : List Interval) (tablet : Id) (i : Interval) → last_of is tablet ≡ Some i → In i is × (same i.tablet tablet ≡ true)
 last_in is tablet i e = elim (last_found is tablet None i e) [ inl h ↦ h | inr q ↦ cc ]
 
--- a counted interval's rows are not yet to come
+-- an interval that doesn't begin at the point of awaited rows had ended by it
 ended_then : (point from : ℕ) (to : Option ℕ) → not (eqb from point) ≡ true → TurnsAt point from to → is_awaited (Some point) to ≡ false
 ended_then point from None apart turns = absurd (let q : eqb from point ≡ false = not_true (eqb from point) apart in grind (arith, nat_tests))
 ended_then point from (Some to) apart turns = refl
 
+-- a counted interval is one of the activity, and its rows are not yet to come
 counted_in : (point : Option ℕ) (is : List Interval) (i : Interval) → In i (counted point is) → In i is
 counted_in None is i isin = isin
 counted_in (Some point) is i isin = (filter_in is (λ j. not (eqb j.from point)) i isin).0

@@ -93,12 +93,13 @@ open_beside id n i e = not_passing (same id i.table) (λ s.
     never None k = cc
     never (Some e) k = cc
 
--- a cut interval whose rows are not to come has none to come before: where the table is dropped its tablets await none
+-- no interval's rows are yet to come before the drop that aren't after it, where the table's tablets await none
 came : (id : Id) (n : ℕ) (i : Interval) (point : Option ℕ) → (same i.table id ≡ true → point ≡ None) → is_awaited point (end_of id n i) ≡ false → is_awaited point i.to ≡ false
 came id n i point calm h = either_way (same i.table id)
     (λ e. second_fails (is_open i.to) (is_some point) (ap is_some (calm e)))
     (λ e. ap (λ b. is_awaited point (cond b (ended n i.to) i.to)) (sym e) ∙ h)
 
+-- where a tablet awaits rows, each interval goes on to turn at their point
 turns : (id : Id) (n : ℕ) (i : Interval) (awaits : Option ℕ) (point : ℕ) → (same i.table id ≡ true → awaits ≡ None) → awaits ≡ Some point → TurnsAt point i.from i.to → TurnsAt point i.from (end_of id n i)
 turns id n i awaits point calm some h = cond_both (same i.table id) (ended n i.to) i.to (TurnsAt point i.from) (λ e. (let q : None ≡ Some point = sym (calm e) ∙ some in cc)) (λ e. h)
 
@@ -141,6 +142,7 @@ good_cut m n changes id t c p i before present calm over g =
           (λ e. sym (dropped_rows_others n id changes x i.table key e)));
     }
 
+-- a tablet with an interval of the table awaits no rows
 calm_here : (m : Master) (id : Id) (t : Tablet) (i : Interval) → t.tablet ≡ i.tablet → In i m.activity → AwaitNone m id → same i.table id ≡ true → awaited_in m.restorations t.tablet t.done ≡ None
 calm_here m id t i is isin calm of_table = ap (λ tablet. awaited_in m.restorations tablet t.done) is ∙ calm i t.done isin of_table
 

@@ -6,8 +6,8 @@ use Rattle.model.specs.Ids.{In, has}
 use Rattle.model.specs.Activity.{Interval}
 use Rattle.model.specs.Parts.{Master}
 use Rattle.model.specs.Looks.{counting, is_free, free_slots, reserved}
-use Rattle.law_invariants.proofs.Finding.{map_in}
-use Rattle.law_changes.proofs.Plans.{filter_in, has_in}
+use Rattle.law_invariants.proofs.Finding.{filter_in, map_in}
+use Rattle.law_changes.proofs.Plans.{has_in}
 
 -- the slots rise, from one on
 abbrev pub RiseFrom : ℕ → List ℕ → Type 0

@@ -1,6 +1,5 @@
 -- The slots of a plan: those of a table's tablets, and free ones.
-use Rattle.std.proofs.Common.{ℕ, ◌≡◌, List, [], ◌∷◌, map, None, Bool, true, false, cond, ◌&&◌, ◌||◌, inl, inr, refl, sym, ap, ◌∙◌, arith, eqb, ltb, eqb-true}
-use Rattle.std.specs.List.{filter}
+use Rattle.std.proofs.Common.{ℕ, ◌≡◌, List, [], ◌∷◌, map, None, Bool, true, false, cond, ◌&&◌, ◌||◌, inl, inr, refl, ap, ◌∙◌, arith, eqb, ltb, eqb-true}
 use Rattle.std.proofs.lemmas.Bool.{cond_both}
 use Rattle.std.proofs.lemmas.Bool.Decides.{nat_tests}
 use Rattle.model.specs.Ids.{Id, In, has, put_slot, rising, same}
@@ -9,19 +8,7 @@ use Rattle.model.specs.Activity.{Interval}
 use Rattle.model.specs.Parts.{Master}
 use Rattle.model.specs.Looks.{active_in}
 use Rattle.law_store.proofs.Keys.{either_way}
-use Rattle.law_invariants.proofs.Finding.{map_in, passes_both}
-
-pub in_filter : {A : Type 0} (xs : List A) (test : A → Bool) (a : A) → In a xs → test a ≡ true → In a (filter test xs)
-in_filter [] test a isin t = absurd isin
-in_filter (x ∷ xs) test a (inl e) t = let k : test x ≡ true = ap test e ∙ t in rw k (inl e)
-in_filter (x ∷ xs) test a (inr isin) t = cond_both (test x) (x ∷ filter test xs) (filter test xs) (In a) (λ k. inr (in_filter xs test a isin t)) (λ k. in_filter xs test a isin t)
-
-pub filter_in : {A : Type 0} (xs : List A) (test : A → Bool) (a : A) → In a (filter test xs) → In a xs × (test a ≡ true)
-filter_in [] test a isin = absurd isin
-filter_in (x ∷ xs) test a isin = either_way (test x)
-    (λ e. let k : In a (x ∷ filter test xs) = rw e at isin in
-    elim k [ inl q ↦ (inl q, ap test (sym q) ∙ e) | inr r ↦ (let h = filter_in xs test a r in (inr h.0, h.1)) ])
-    (λ e. let k : In a (filter test xs) = rw e at isin in let h = filter_in xs test a k in (inr h.0, h.1))
+use Rattle.law_invariants.proofs.Finding.{in_filter, filter_in, map_in, passes_both}
 
 pub has_in : (slots : List ℕ) (slot : ℕ) → In slot slots → has slots slot ≡ true
 has_in [] slot isin = absurd isin

@@ -1,7 +1,8 @@
 -- Members of lists, and the first member that passes a test.
 use Rattle.std.proofs.Common.{ℕ, ◌≡◌, ◌≢◌, ◌<◌, Bool, true, false, cond, ◌&&◌, List, [], ◌∷◌, ◌++◌, Option, Some, None, ◌⊎◌, inl, inr, map, refl, sym, ap, subst, ◌∙◌, eqb, eqb-true, arith}
-use Rattle.std.specs.List.{find}
+use Rattle.std.specs.List.{filter, find}
 use Rattle.std.specs.Option.{option_map, is_some, is_none, unwrap_or}
+use Rattle.std.proofs.lemmas.Bool.{cond_both}
 use Rattle.std.proofs.lemmas.Bool.Decides.{nat_tests}
 use Rattle.model.specs.Ids.{Kind, Namespace, Table, Tablet, Schedule, Snapshot, Restoration, Clone, kind_digit, Id, same, In}
 use Rattle.law_store.proofs.Keys.{either_way}
@@ -104,6 +105,19 @@ in_added P xs y old new a isin = elim (in_append xs (y ∷ []) a isin) [
   | inl h ↦ old a h
   | inr h ↦ elim h [ inl e ↦ subst P e new | inr none ↦ absurd none ]
 ]
+
+-- the members of a filtered list are those that pass its test
+pub in_filter : {A : Type 0} (xs : List A) (test : A → Bool) (a : A) → In a xs → test a ≡ true → In a (filter test xs)
+in_filter [] test a isin t = absurd isin
+in_filter (x ∷ xs) test a (inl e) t = let k : test x ≡ true = ap test e ∙ t in rw k (inl e)
+in_filter (x ∷ xs) test a (inr isin) t = cond_both (test x) (x ∷ filter test xs) (filter test xs) (In a) (λ k. inr (in_filter xs test a isin t)) (λ k. in_filter xs test a isin t)
+
+pub filter_in : {A : Type 0} (xs : List A) (test : A → Bool) (a : A) → In a (filter test xs) → In a xs × (test a ≡ true)
+filter_in [] test a isin = absurd isin
+filter_in (x ∷ xs) test a isin = either_way (test x)
+    (λ e. let k : In a (x ∷ filter test xs) = rw e at isin in
+    elim k [ inl q ↦ (inl q, ap test (sym q) ∙ e) | inr r ↦ (let h = filter_in xs test a r in (inr h.0, h.1)) ])
+    (λ e. let k : In a (filter test xs) = rw e at isin in let h = filter_in xs test a k in (inr h.0, h.1))
 
 -- what holds of the image of each member holds of each member of the image
 pub in_mapped : {A B : Type 0} (f : A → B) (P : B → Type 0) (xs : List A) → ((a : A) → In a xs → P (f a)) → (b : B) → In b (map f xs) → P b

@@ -21,7 +21,7 @@ use Rattle.model.specs.RowActs.{write, takes, covers, moved}
 use Rattle.law_store.specs.Sorted.{item_step}
 use Rattle.law_store.proofs.Keys.{either_way}
 use Rattle.law_store.proofs.Writing.{read_written, read_written_before, sorted_written, below_written}
-use Rattle.law_invariants.specs.Invariant.{Inv, Later, SlotGood, MasterGood, OverBy}
+use Rattle.law_invariants.specs.Invariant.{Inv, Later, SlotGood, MasterGood}
 use Rattle.law_invariants.proofs.Finding.{both_pass, same_self, same_equal}
 use Rattle.law_invariants.proofs.Ticking.{refused_keeps, by_checks, KeepsAll, below_later, over_later}
 use Rattle.law_invariants.proofs.Frame.{one_told, tells}
@@ -97,11 +97,6 @@ slot_stays m n table batch changes slot t stays h = record {
   shown = λ serving unfenced x cut. ap is_some (tables_stay batch n table changes x t.table) ∙ h.shown serving unfenced x cut;
   later = λ ns to is. h.later ns to (sym (fixed_stay batch n table changes ns to) ∙ is);
 }
-
--- an interval that is over for a tablet has no later time
-not_over : (to : Option ℕ) (from clock n x : ℕ) → OverBy clock from to → clock < n → n ≤ x → before_end x to ≡ true → to ≡ None
-not_over None from clock n x over l le before = refl
-not_over (Some e) from clock n x over l le before = absurd (let b : x < e = ltb-true x e before in omega (arith, over.1))
 
 eqb_at : (a b : ℕ) → a ≡ b → eqb a b ≡ true
 eqb_at a b e = grind (arith, nat_tests)

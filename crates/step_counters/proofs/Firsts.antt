@@ -1,9 +1,9 @@
 -- What becomes of the first of the held counters.
-use Rattle.std.proofs.Common.{◌≡◌, ◌≢◌, ℕ, zero, suc, ◌+◌, ◌-◌, ◌≤◌, ◌<◌, List, [], ◌∷◌, ◌++◌, map, length, refl, sym, ap, subst, arith, ◌∙◌, Option, Some, None}
+use Rattle.std.proofs.Common.{◌≡◌, ℕ, zero, suc, ◌+◌, ◌-◌, ◌≤◌, ◌<◌, List, [], ◌∷◌, ◌++◌, map, length, refl, sym, ap, subst, arith, ◌∙◌, Option, Some, None}
 use Rattle.std.specs.Prelude.{cond, nat_le, slice_get}
 use Rattle.std.proofs.lemmas.Bool.Decides.{nat_tests}
 use Rattle.step_table.specs.declared.known.Entry.{Entry}
-use Rattle.step_table.specs.Helds.{slots_of, parts_of, with_part}
+use Rattle.step_table.specs.Helds.{parts_of, with_part}
 use Rattle.step_table.proofs.Lists.{either_way}
 use Rattle.step_counters.specs.declared.machine.Add.{Add}
 use Rattle.step_counters.specs.declared.machine.Full.TheVariants.{Full}

@@ -1,20 +1,18 @@
 -- The laws of the machine of counters.
-use Rattle.std.proofs.Common.{◌≡◌, ℕ, zero, suc, ◌+◌, ◌*◌, ◌^◌, ◌≤◌, ◌<◌, List, [], ◌∷◌, ◌++◌, map, length, set, refl, sym, ap, subst, arith, ◌∙◌, length-append, Option, Some, None}
-use Rattle.std.specs.Prelude.{cond, nat_le, Bool, true, false}
+use Rattle.std.proofs.Common.{◌≡◌, ℕ, zero, suc, ◌+◌, ◌^◌, ◌≤◌, ◌<◌, List, [], ◌∷◌, map, length, refl, sym, ap, arith, ◌∙◌, length-append, Some, None}
+use Rattle.std.specs.Prelude.{cond, nat_le}
 use Rattle.std.proofs.lemmas.Bool.Decides.{nat_tests}
-use lib.ListN.{get_elem?}
 use Rattle.step_table.specs.declared.known.Entry.{Entry}
-use Rattle.step_table.specs.Lists.{Every, Rising, Above, pick, found_also}
-use Rattle.step_table.specs.Machines.{Lawful, logged, next, noted, entry_of}
+use Rattle.step_table.specs.Lists.{Every, Rising, Above, pick}
+use Rattle.step_table.specs.Machines.{Lawful, noted}
 use Rattle.step_table.proofs.Lists.{either_way, every_map}
 use Rattle.step_table.proofs.Puts.{length_put, found_at}
 use Rattle.step_table.proofs.Histories.{every_put, every_pick}
 use Rattle.step_counters.specs.declared.machine.Add.{Add}
 use Rattle.step_counters.specs.declared.machine.Add.TheVariants.{One, Two, All}
-use Rattle.step_counters.specs.declared.machine.Full.{Full as Fault}
 use Rattle.step_counters.specs.declared.machine.Full.TheVariants.{Full}
 use Rattle.step_counters.specs.declared.counter.Counter.{Counter}
-use Rattle.step_counters.specs.Adds.{slots_from, touches, May, first_length, entry, first_notes, fault_of, IsShort, Fits, core_of}
+use Rattle.step_counters.specs.Adds.{slots_from, touches, May, entry, first_notes, fault_of, IsShort, Fits, core_of}
 
 from_below : (k n m : ℕ) → k + n ≤ m → Every (λ j. j < m) (slots_from k n)
 from_below k zero m le = tt

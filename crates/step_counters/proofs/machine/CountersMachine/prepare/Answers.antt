@@ -1,6 +1,5 @@
 use Rattle.step_table.proofs.Helds.{slots_with}
 use Rattle.std.proofs.Common.{◌≡◌, ◌<◌, ◌≤◌, length, sym, ap, subst, ◌∙◌, arith, inr}
-use Rattle.step_table.specs.Helds.{parts_of}
 use Rattle.step_counters.proofs.Firsts.{meanings_stay, room_there, length_there, full_when, fine_when}
 use Rattle.step_counters.proofs.machine.CountersMachine.prepare.Goals as goal
 

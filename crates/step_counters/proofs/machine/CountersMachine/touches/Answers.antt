@@ -1,4 +1,4 @@
-use Rattle.std.proofs.Common.{◌≡◌, ◌+◌, ◌-◌, ◌<◌, ◌++◌, ◌∷◌, [], ℕ, List, sym, ap, ◌∙◌, arith, append_assoc}
+use Rattle.std.proofs.Common.{◌≡◌, ◌+◌, ◌-◌, ◌++◌, ◌∷◌, [], ℕ, List, sym, ap, ◌∙◌, arith, append_assoc}
 use Rattle.step_counters.specs.Adds.{slots_from}
 use Rattle.step_counters.proofs.Firsts.{slots_next}
 use Rattle.step_counters.proofs.machine.CountersMachine.touches.Goals as goal

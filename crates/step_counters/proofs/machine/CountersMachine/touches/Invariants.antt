@@ -1,4 +1,4 @@
-use Rattle.std.proofs.Common.{◌≡◌, ◌-◌, ◌++◌, ◌≤◌}
+use Rattle.std.proofs.Common.{◌≡◌, ◌-◌, ◌++◌}
 use Rattle.step_counters.specs.Adds.{slots_from}
 use Rattle.step_counters.proofs.machine.CountersMachine.touches.Given as goal
 

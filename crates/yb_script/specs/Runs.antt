@@ -1,29 +1,20 @@
 -- What a script makes: the entries and the text of its commands, one after the other.
-use Rattle.std.specs.Prelude.{ℕ, ℤ, ◌+◌, ◌/◌, ◌%◌, Bool, true, false, if◌then◌else◌, nat_le, nat_lt, List, [], ◌∷◌, ◌++◌, length, fold, Option, Some, None, codes}
-use Rattle.std.specs.Fmt.{decimal, signed_decimal}
+use Rattle.std.specs.Prelude.{ℕ, ℤ, ◌+◌, Bool, true, false, if◌then◌else◌, nat_le, nat_lt, List, [], ◌∷◌, ◌++◌, length, Option, Some, None}
 use Rattle.row_values.specs.Stamps.{stamp_of}
 use Rattle.row_values.specs.Rows.{cut_to}
-use Rattle.row_values.specs.declared.rows.Row.{Row}
-use Rattle.row_values.specs.declared.rows.KeyedRow.{KeyedRow}
-use Rattle.row_values.specs.declared.value.Value.{Value}
-use Rattle.row_values.specs.declared.value.Value.TheVariants.{Int, Text, Null}
-use Rattle.row_values.specs.declared.value.Cell.{Cell}
+use Rattle.row_values.specs.declared.value.Value.TheVariants.{Int}
 use Rattle.row_values.specs.declared.value.Item.{Item}
 use Rattle.row_values.specs.declared.value.RowOp.TheVariants.{Upsert}
 use Rattle.model.specs.Store.{Version, written, read_of, present}
-use Rattle.yb_script.specs.declared.event.Ident.{Ident}
 use Rattle.yb_script.specs.declared.event.Ident.TheVariants as idents
 use Rattle.yb_script.specs.declared.event.Command.{Command}
 use Rattle.yb_script.specs.declared.event.Command.TheVariants as commands
-use Rattle.yb_script.specs.declared.event.NamedItem.{NamedItem}
 use Rattle.yb_script.specs.declared.event.NamedCell.{NamedCell}
 use Rattle.yb_script.specs.declared.event.Ask.{Ask}
 use Rattle.yb_script.specs.declared.event.Ask.TheVariants.{Plan, Keys}
 use Rattle.yb_script.specs.declared.event.At.{At}
 use Rattle.yb_script.specs.declared.event.Act.{Act}
 use Rattle.yb_script.specs.declared.event.Act.TheVariants.{Look, Change, Write, Read}
-use Rattle.yb_script.specs.declared.event.Event.{Event}
-use Rattle.yb_script.specs.declared.event.Refusal.{Refusal}
 use Rattle.yb_script.specs.declared.event.Refusal.TheVariants.{UnknownTable, Future, TooOld}
 use Rattle.yb_script.specs.declared.event.Reply.{Reply}
 use Rattle.yb_script.specs.declared.event.Reply.TheVariants as replies

@@ -1,5 +1,5 @@
 -- The script of this form: a `tick`, a `create_namespace`, a `create_table`, and then the commands of the one table.
-use Rattle.std.specs.Prelude.{ℕ, ℤ, ◌+◌, ◌-◌, ◌^◌, ◌<◌, ◌≤◌, ◌≡◌, ⊤, Bool, false, ◌==◌, ◌&&◌, if◌then◌else◌, List, [], ◌∷◌, length, Option, Some, None, Result, Ok, Err, All, codes, bytes_eq, option_map}
+use Rattle.std.specs.Prelude.{ℕ, ℤ, ◌+◌, ◌-◌, ◌^◌, ◌<◌, ◌≤◌, ◌≡◌, ⊤, Bool, ◌==◌, ◌&&◌, if◌then◌else◌, List, [], ◌∷◌, length, Option, Some, None, Result, Ok, Err, All, codes, bytes_eq, option_map}
 use Rattle.yb_script.specs.Words.{word, words_of, lines_of, is_name, is_key, number_of, signed_of, before, behind}
 use Rattle.yb_script.specs.declared.script.ScriptCommand.{ScriptCommand}
 use Rattle.yb_script.specs.declared.script.ScriptCommand.TheVariants.{Tick, CreateNamespace, CreateTable, Put, Get, GetAt}

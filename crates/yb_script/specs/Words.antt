@@ -1,5 +1,5 @@
 -- The words of a line, and what a word means.
-use Rattle.std.specs.Prelude.{ℕ, ℤ, ◌+◌, ◌*◌, ◌-◌, ◌^◌, Bool, false, not, ◌==◌, ◌&&◌, ◌||◌, if◌then◌else◌, nat_le, List, [], ◌∷◌, length, take, drop, get_or, Option, Some, None, codes, bytes_eq, option_map, pos, negsuc}
+use Rattle.std.specs.Prelude.{ℕ, ℤ, ◌+◌, ◌*◌, ◌-◌, ◌^◌, Bool, false, not, ◌==◌, ◌&&◌, ◌||◌, if◌then◌else◌, nat_le, List, [], ◌∷◌, length, take, drop, get_or, Option, Some, None, option_map, pos, negsuc}
 use Rattle.std.specs.List.{list_all}
 
 -- the pieces with this byte before the first of them

@@ -6,6 +6,8 @@ mod history;
 mod run;
 mod script;
 mod service;
+#[cfg(test)]
+mod tests;
 mod text;
 mod words;
 

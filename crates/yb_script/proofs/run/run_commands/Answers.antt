@@ -1,8 +1,7 @@
-use Rattle.std.proofs.Common.{◌≡◌, ◌≤◌, ◌+◌, ◌*◌, length, take, arith, sym, ◌∙◌, ap, subst}
-use Rattle.std.specs.Io.KnownBytes.{Appends}
+use Rattle.std.proofs.Common.{take, arith, sym, ◌∙◌, ap}
 use Rattle.yb_script.specs.Runs.{empty_state, done}
-use Rattle.yb_script.specs.Texts.{state_of, texts_of}
-use Rattle.yb_script.proofs.Running.{state_of-next, texts_of-next, appends-append, appends-nothing}
+use Rattle.yb_script.specs.Texts.{texts_of}
+use Rattle.yb_script.proofs.Running.{state_of-next, texts_of-next, appends-append}
 use Rattle.yb_script.proofs.Lengths.{length-done}
 use Rattle.yb_script.proofs.run.run_commands.Goals as goal
 

@@ -1,4 +1,3 @@
-use Rattle.std.proofs.Common.{◌∙◌}
 use Rattle.yb_script.proofs.Reading.{count_of}
 use Rattle.yb_script.proofs.script.read_script.Goals as goal
 

@@ -1,0 +1,25 @@
+-- Outcomes under the same checks, and lists of slots that are the same.
+use Rattle.std.proofs.Common.{ℕ, ◌≡◌, List, [], ◌∷◌, Bool, true, false, refl, arith}
+use Rattle.std.proofs.lemmas.Bool.Decides.{nat_tests}
+use Rattle.model.specs.Ids.{same_slots, has}
+use Rattle.model.specs.Parts.{Outcome, Check, If, judged}
+use Rattle.model.specs.Entries.{AllOf}
+
+abbrev pub comes : Check → Bool
+comes (If b why) = b
+
+-- no check refuses
+abbrev pub NoneComes : List Check → Type 0
+NoneComes checks = AllOf (λ c. comes c ≡ false) checks
+
+pub judged_same : (checks : List Check) (o r : Outcome) → (NoneComes checks → o ≡ r) → judged checks o ≡ judged checks r
+judged_same [] o r h = h tt
+judged_same (If true why ∷ checks) o r h = refl
+judged_same (If false why ∷ checks) o r h = judged_same checks o r (λ passes. h (refl, passes))
+
+-- a slot of the one list is in the other
+pub same_has : (xs ys : List ℕ) (slot : ℕ) → same_slots xs ys ≡ true → has ys slot ≡ true → has xs slot ≡ true
+same_has [] [] slot e h = h
+same_has [] (y ∷ ys) slot e h = cc
+same_has (x ∷ xs) [] slot e h = cc
+same_has (x ∷ xs) (y ∷ ys) slot e h = grind (arith, nat_tests, same_has xs ys slot)

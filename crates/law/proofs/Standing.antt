@@ -28,7 +28,7 @@ last_found (j ∷ js) tablet found i e = either_way (same j.tablet tablet)
       | inr q ↦ inr q
     ])
 
-last_in : (is : List Interval) (tablet : Id) (i : Interval) → last_of is tablet ≡ Some i → In i is × (same i.tablet tablet ≡ true)
+pub last_in : (is : List Interval) (tablet : Id) (i : Interval) → last_of is tablet ≡ Some i → In i is × (same i.tablet tablet ≡ true)
 last_in is tablet i e = elim (last_found is tablet None i e) [ inl h ↦ h | inr q ↦ cc ]
 
 -- an interval that doesn't begin at the point of awaited rows had ended by it

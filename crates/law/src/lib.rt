@@ -4,9 +4,11 @@
 #![tactic(auto)]
 
 ghost use Rattle.std.specs.Prelude.{ℕ, List};
-ghost use Rattle.model.specs.Entries.{Entry};
+ghost use Rattle.model.specs.Acts.{Act};
+ghost use Rattle.model.specs.Entries.{ActAsked, Entry};
 ghost use Rattle.model.specs.History.{Legal, Right, replay, journal_of};
 ghost use Rattle.model.specs.Stands.{Cover, Stands};
+ghost use Rattle.law_local.specs.Agreeing.{PlanNames};
 ghost use Rattle.law_invariants.specs.Invariant.{Inv};
 ghost use Rattle.law.specs.Covering.{Covered};
 
@@ -19,4 +21,10 @@ pub fn legal_is_right()
     ensures holds { (slots : ℕ) (history : List Entry) → Legal slots history → Covered history → Inv (replay slots history) (journal_of slots history) }
     ensures stands { (slots : ℕ) (history : List Entry) → Legal slots history → Covered history → Stands (replay slots history) (journal_of slots history) }
     ensures cover { (slots : ℕ) (history : List Entry) → Legal slots history → Covered history → Cover (replay slots history).master.activity (journal_of slots history) }
+{}
+
+/// A step on what a legal history leaves depends on its touched parts alone: what that asks of the
+/// master's plans is so.
+pub fn plans_are_named()
+    ensures named { (slots : ℕ) (history : List Entry) (act : Act) → Legal slots history → Covered history → ActAsked slots act → PlanNames act (replay slots history).master }
 {}

@@ -82,7 +82,7 @@ AllPast m = (i : Interval) → In i m.activity → IsPast m.clock i.from i.to
 pub all_past : (ps : Parts) (changes : List Change) → Inv ps changes → AllPast ps.master
 all_past ps changes inv = λ i isin. ((inv.slots i.slot).each i isin refl).past
 
-active_has : (m : Master) (n : ℕ) (table : Id) (i : Interval) → m.clock < n → AllPast m → In i m.activity → i.table ≡ table → active_at n i ≡ true → In i (active_in m table)
+pub active_has : (m : Master) (n : ℕ) (table : Id) (i : Interval) → m.clock < n → AllPast m → In i m.activity → i.table ≡ table → active_at n i ≡ true → In i (active_in m table)
 active_has m n table i less past isin is active =
     filter_has (λ i. is_open i.to && same i.table table) m.activity i isin
     (passes_both _ _ (not_ended i.to i.from m.clock n less (past i isin).ended (both_pass _ (before_end n i.to) active).1) (subst (λ k. same i.table k ≡ true) is (same_self i.table)))

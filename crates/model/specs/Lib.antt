@@ -29,3 +29,6 @@ pub mod Right
 pub mod Stands
 pub mod Retained
 pub mod Left
+pub mod Scripts
+pub mod Texts
+pub mod Running

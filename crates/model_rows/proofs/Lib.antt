@@ -21,3 +21,4 @@ pub mod Histories
 mod RightWindows
 mod RightClones
 mod Covers
+mod ScriptTexts

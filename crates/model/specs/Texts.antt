@@ -1,0 +1,198 @@
+-- The text of a reply. A reply begins with the number of its line; further lines of it begin with two spaces.
+use Rattle.std.specs.Prelude.{ℕ, zero, suc, ◌+◌, ◌/◌, ◌%◌, nat_lt, if◌then◌else◌, List, [], ◌∷◌, ◌++◌, length, Option, Some, None, codes}
+use Rattle.std.specs.Fmt.{decimal, signed_decimal}
+use Rattle.row_values.specs.declared.rows.KeyedRow.{KeyedRow}
+use Rattle.row_values.specs.declared.value.Value.{Value}
+use Rattle.row_values.specs.declared.value.Value.TheVariants.{Int, Text, Null}
+use Rattle.row_values.specs.declared.value.Cell.{Cell}
+use Rattle.model.specs.Ids.{Id, kind_digit}
+use Rattle.model.specs.Schema.{Column}
+use Rattle.model.specs.Tablets.{Standing, Empty, Serving, Hidden}
+use Rattle.model.specs.Records.{State, IsCreating, IsComplete, IsFencing, IsSnapshot, IsSwitching, IsRestoring, IsReleasing, IsRestored, IsAccepted, IsCopying}
+use Rattle.model.specs.Acts as acts
+use Rattle.model.specs.Acts.{Refusal, Reply, ScheduleLine, SnapshotLine, RestorationLine, CloneLine, TabletLine}
+
+-- Words
+
+-- a word behind a space
+abbrev pub word : List ℕ → List ℕ
+word text = codes " " ++ text
+
+abbrev pub number_word : ℕ → List ℕ
+number_word n = word (decimal n)
+
+abbrev pub hex_digit : ℕ → ℕ
+hex_digit d = if nat_lt d 10 then 48 + d else 87 + d
+
+-- the last so many hexadecimal digits of a number
+abbrev pub hex_digits : ℕ → ℕ → List ℕ
+hex_digits zero n = []
+hex_digits (suc count) n = hex_digits count (n / 16) ++ hex_digit (n % 16) ∷ []
+
+-- an identifier as a UUID: its kind stands in the first field, its number in the last
+abbrev pub id_text : Id → List ℕ
+id_text id = hex_digits 8 (kind_digit id.kind) ++ codes "-0000-4000-8000-" ++ hex_digits 12 id.number
+
+abbrev pub id_word : Id → List ℕ
+id_word id = word (id_text id)
+
+abbrev pub id_words : List Id → List ℕ
+id_words [] = []
+id_words (id ∷ ids) = id_word id ++ id_words ids
+
+-- `<micros>.<logical>`
+abbrev pub time_text : ℕ → List ℕ
+time_text time = decimal (time / 4096) ++ codes "." ++ decimal (time % 4096)
+
+abbrev pub time_word : ℕ → List ℕ
+time_word time = word (time_text time)
+
+-- `<low>..<high>`
+abbrev pub range_word : ℕ → ℕ → List ℕ
+range_word low high = word (decimal low ++ codes ".." ++ decimal high)
+
+abbrev pub slots_rest : List ℕ → List ℕ
+slots_rest [] = codes "]"
+slots_rest (slot ∷ slots) = codes "," ++ decimal slot ++ slots_rest slots
+
+-- `[1,2]`
+abbrev pub slots_text : List ℕ → List ℕ
+slots_text [] = codes "[]"
+slots_text (slot ∷ slots) = codes "[" ++ decimal slot ++ slots_rest slots
+
+-- Rows
+
+abbrev pub value_text : Value → List ℕ
+value_text (Int number) = signed_decimal number
+value_text (Text text) = codes "'" ++ text ++ codes "'"
+value_text Null = codes "null"
+
+-- the name of the column with this id
+abbrev pub name_in : List Column → ℕ → List ℕ
+name_in [] id = []
+name_in (c ∷ cs) id = if nat_lt c.id id then name_in cs id else if nat_lt id c.id then name_in cs id else c.name
+
+abbrev pub cell_words : List Column → List Cell → List ℕ
+cell_words columns [] = []
+cell_words columns (c ∷ cs) = word (name_in columns c.column ++ codes "=" ++ value_text c.value) ++ cell_words columns cs
+
+-- the row of one key, whose columns are these
+abbrev pub row_text : List Column → List KeyedRow → List ℕ
+row_text columns [] = codes "none"
+row_text columns (r ∷ rs) = codes "row" ++ cell_words columns r.row.cells
+
+-- a further line of a reply
+abbrev pub line_text : List ℕ → List ℕ
+line_text text = 10 ∷ codes "  " ++ text
+
+abbrev pub row_lines : List Column → List KeyedRow → List ℕ
+row_lines columns [] = []
+row_lines columns (r ∷ rs) = line_text (r.key ++ cell_words columns r.row.cells) ++ row_lines columns rs
+
+abbrev pub rows_text : List Column → List KeyedRow → List ℕ
+rows_text columns rows = decimal (length rows) ++ codes " rows" ++ row_lines columns rows
+
+-- Refusals
+
+abbrev pub standing_text : Standing → List ℕ
+standing_text Empty = codes "empty"
+standing_text (Serving tablet low high) = codes "serving" ++ id_word tablet ++ range_word low high
+standing_text (Hidden tablet ended) = codes "hidden" ++ id_word tablet ++ time_word ended
+
+-- its name, and its values in their order
+abbrev pub refusal_text : Refusal → List ℕ
+refusal_text acts.UnknownNamespace = codes "unknown_namespace"
+refusal_text acts.UnknownTable = codes "unknown_table"
+refusal_text acts.UnknownColumn = codes "unknown_column"
+refusal_text acts.UnknownSchedule = codes "unknown_schedule"
+refusal_text acts.UnknownSnapshot = codes "unknown_snapshot"
+refusal_text acts.WrongKind = codes "wrong_kind"
+refusal_text (acts.BadPeriod interval retention) = codes "bad_period" ++ number_word interval ++ number_word retention
+refusal_text (acts.NameTaken by) = codes "name_taken" ++ id_word by
+refusal_text (acts.ScheduleExists schedule) = codes "schedule_exists" ++ id_word schedule
+refusal_text (acts.NotEmpty table) = codes "not_empty" ++ id_word table
+refusal_text (acts.UnderSchedule schedule) = codes "under_schedule" ++ id_word schedule
+refusal_text (acts.NoSchedule namespace) = codes "no_schedule" ++ id_word namespace
+refusal_text (acts.TooMany limit) = codes "too_many" ++ number_word limit
+refusal_text (acts.SlotsFull free needed) = codes "slots_full" ++ number_word free ++ number_word needed
+refusal_text (acts.TooEarly low) = codes "too_early" ++ time_word low
+refusal_text (acts.Future now) = codes "future" ++ time_word now
+refusal_text (acts.Busy operation) = codes "busy" ++ id_word operation
+refusal_text (acts.Fenced operation) = codes "fenced" ++ id_word operation
+refusal_text (acts.Moved slot standing) = codes "moved" ++ number_word slot ++ word (standing_text standing)
+refusal_text (acts.StaleSchema kept) = codes "stale_schema" ++ number_word kept
+refusal_text (acts.StalePlan kept) = codes "stale_plan" ++ word (slots_text kept)
+refusal_text (acts.CrossTablet first other) = codes "cross_tablet" ++ number_word first ++ number_word other
+refusal_text (acts.TooNarrow low) = codes "too_narrow" ++ number_word low
+refusal_text (acts.TooOld asked cutoff) = codes "too_old" ++ time_word asked ++ time_word cutoff
+refusal_text (acts.NotDue next) = codes "not_due" ++ time_word next
+refusal_text (acts.NotPending operation) = codes "not_pending" ++ id_word operation
+refusal_text acts.Idle = codes "idle"
+refusal_text (acts.OtherSlot wanted) = codes "other_slot" ++ number_word wanted
+refusal_text acts.NotDone = codes "not_done"
+refusal_text (acts.Waiting on) = codes "waiting" ++ id_word on
+refusal_text (acts.InWindow at floor) = codes "in_window" ++ time_word at ++ time_word floor
+refusal_text (acts.IsListed by) = codes "listed" ++ id_word by
+refusal_text (acts.Gone wanted cutoff) = codes "gone" ++ time_word wanted ++ time_word cutoff
+
+-- Lists
+
+abbrev pub state_text : State → List ℕ
+state_text IsCreating = codes "CREATING"
+state_text IsComplete = codes "COMPLETE"
+state_text IsFencing = codes "FENCING"
+state_text IsSnapshot = codes "SNAPSHOT"
+state_text IsSwitching = codes "SWITCHING"
+state_text IsRestoring = codes "RESTORING"
+state_text IsReleasing = codes "RELEASING"
+state_text IsRestored = codes "RESTORED"
+state_text IsAccepted = codes "ACCEPTED"
+state_text IsCopying = codes "COPYING"
+
+-- `-` where there is no time yet
+abbrev pub point_word : Option ℕ → List ℕ
+point_word None = word (codes "-")
+point_word (Some point) = time_word point
+
+abbrev pub end_word : Option ℕ → List ℕ
+end_word None = word (codes "active")
+end_word (Some ended) = word (codes "hidden") ++ time_word ended
+
+abbrev pub schedule_text : ScheduleLine → List ℕ
+schedule_text s = id_text s.id ++ word s.namespace ++ codes " interval" ++ number_word s.interval ++ codes " retention" ++ number_word s.retention ++ codes " low" ++ time_word s.low
+
+abbrev pub snapshot_text : SnapshotLine → List ℕ
+snapshot_text s = id_text s.id ++ id_word s.schedule ++ word (state_text s.state) ++ codes " after" ++ time_word s.after ++ codes " at" ++ time_word s.at
+
+abbrev pub restoration_text : RestorationLine → List ℕ
+restoration_text r = id_text r.id ++ id_word r.schedule ++ word (state_text r.state) ++ codes " to" ++ time_word r.to ++ codes " at" ++ point_word r.point
+
+abbrev pub clone_text : CloneLine → List ℕ
+clone_text c = id_text c.id ++ word c.source ++ word c.target ++ word (state_text c.state) ++ codes " to" ++ time_word c.to
+
+abbrev pub tablet_text : TabletLine → List ℕ
+tablet_text t = id_text t.tablet ++ id_word t.table ++ codes " slot" ++ number_word t.slot ++ range_word t.low t.high ++ end_word t.ended
+
+abbrev pub lines_text : {A : Type 0} → (A → List ℕ) → List A → List ℕ
+lines_text text [] = []
+lines_text text (x ∷ xs) = line_text (text x) ++ lines_text text xs
+
+-- `<n> <things>`, and a line for each
+abbrev pub list_text : {A : Type 0} → List ℕ → (A → List ℕ) → List A → List ℕ
+list_text things text xs = decimal (length xs) ++ word things ++ lines_text text xs
+
+-- Replies
+
+-- the reply of an entry with this stamp. A reply that is never the last of a command has no text, and rows have theirs by the command
+abbrev pub reply_text : ℕ → Reply → List ℕ
+reply_text n (acts.Ok made) = codes "ok" ++ time_word n ++ id_words made
+reply_text n (acts.Counts cutoff versions frozen inbox) =
+    codes "stats cutoff" ++ time_word cutoff ++ codes " versions" ++ number_word versions ++ codes " frozen" ++ number_word frozen ++ codes " inbox" ++ number_word inbox
+reply_text n acts.NoTablet = codes "empty"
+reply_text n (acts.Schedules lines) = list_text (codes "schedules") schedule_text lines
+reply_text n (acts.Snapshots lines) = list_text (codes "snapshots") snapshot_text lines
+reply_text n (acts.Restorations lines) = list_text (codes "restorations") restoration_text lines
+reply_text n (acts.Clones lines) = list_text (codes "clones") clone_text lines
+reply_text n (acts.Tablets lines) = list_text (codes "tablets") tablet_text lines
+reply_text n (acts.Refused why) = codes "refused " ++ refusal_text why
+reply_text n _ = []

@@ -8,6 +8,7 @@ use Rattle.std.proofs.lemmas.Fmt.{digits_decimal, digits_value-decimal, decimal-
 use Rattle.std.proofs.lemmas.Bool.{and_parts, and_from}
 use Rattle.script_places.specs.Names.{is_digit}
 use Rattle.script_places.specs.Numbers.{number_from, number_of}
+use Rattle.script_places.proofs.Results.{some_if}
 
 abbrev read_on : ℕ → List ℕ → ℕ
 read_on n [] = n
@@ -21,10 +22,6 @@ grows n [] = omega arith
 grows n (b ∷ bs) = omega (arith, grows (10 * n + (b - 48)) bs)
 
 -- a test that let something through
-some_if : (b : Bool) (o : Option ℕ) (k : ℕ) → cond b o None ≡ Some k → (b ≡ true) × (o ≡ Some k)
-some_if true o k e = (refl, e)
-some_if false o k e = absurd cc
-
 some_unless : (b : Bool) (o : Option ℕ) (k : ℕ) → cond b None o ≡ Some k → (b ≡ false) × (o ≡ Some k)
 some_unless true o k e = absurd cc
 some_unless false o k e = (refl, e)

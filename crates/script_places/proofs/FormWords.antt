@@ -9,19 +9,8 @@ use Rattle.script_places.specs.Words.{Word}
 use Rattle.script_places.specs.Counts.{takes_rest, fits}
 use Rattle.script_places.specs.Places.{Meaning, Makes, Form, at, read, read_form}
 use Rattle.script_places.specs.Grammar.{Spells, Refused, FormRefused, is_bounded, is_empty, are_right}
+use Rattle.script_places.proofs.Results.{okay, failed, same_ok, same_cause}
 use Rattle.script_places.proofs.PlaceWords.{stands, read_again, fit_again, refused_there, refused_again}
-
-abbrev okay : {A : Type 0} → A → Result A Cause
-okay x = Ok x
-
-abbrev failed : {A : Type 0} → Cause → Result A Cause
-failed cause = Err cause
-
-same_ok : {A : Type 0} (x y : A) → okay x ≡ okay y → x ≡ y
-same_ok x y e = cc
-
-same_cause : {A : Type 0} (c d : Cause) → failed {A = A} c ≡ failed d → c ≡ d
-same_cause c d e = cc
 
 none_left : (rest : List Place) → is_empty rest ≡ true → rest ≡ []
 none_left [] e = refl

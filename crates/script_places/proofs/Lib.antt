@@ -1,8 +1,13 @@
+pub mod AsciiTexts
 pub mod CellWords
 pub mod ColumnWords
 pub mod Cuts
 pub mod Decimals
 pub mod FormWords
+pub mod IdentWords
+pub mod ItemWords
 pub mod PlaceWords
+pub mod Results
+pub mod Slashes
 pub mod TableWords
 pub mod TimeWords

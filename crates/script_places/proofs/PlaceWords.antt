@@ -1,14 +1,15 @@
 -- What a place makes of its words is what they write, and it refuses what writes nothing.
 use Rattle.std.proofs.Common.{◌≡◌, ℕ, ◌^◌, ◌<◌, ◌≤◌, Bool, true, false, ◌&&◌, cond, List, [], ◌∷◌, ◌++◌, length, map, Option, Some, None, Result, Ok, Err, refl, sym, ap, subst, ◌∙◌, codes, arith}
-use Rattle.std.specs.Prelude.{nat_le, nat_lt, bytes_eq, decimal}
+use Rattle.std.specs.Prelude.{nat_le, bytes_eq, decimal}
+use Rattle.std.specs.List.{AllByRecursion, list_all}
 use Rattle.std.proofs.lemmas.Bool.{and_parts, and_from}
-use Rattle.std.proofs.lemmas.Bool.Decides.{nat_tests}
 use Rattle.std.proofs.lemmas.List.{append-nil, length-map}
 use Rattle.table_schema.specs.declared.column.NewColumn.{NewColumn}
 use Rattle.script_words.specs.declared.cause.Cause.{Cause}
-use Rattle.script_words.specs.declared.cause.Cause.TheVariants.{BadName, BadKey, BadNumber, BadTime, NoSuchSlot}
+use Rattle.script_words.specs.declared.cause.Cause.TheVariants.{BadName, BadKey, BadNumber, BadIdentifier, BadTime, NoSuchSlot}
 use Rattle.script_words.specs.Reading.{◌>>=◌}
 use Rattle.script_places.specs.declared.types.NamedCell.{NamedCell}
+use Rattle.script_places.specs.declared.types.NamedItem.{NamedItem}
 use Rattle.script_places.specs.declared.types.Time.{Time}
 use Rattle.script_places.specs.declared.types.Time.TheVariants as times
 use Rattle.script_places.specs.declared.place.Place.{Place}
@@ -16,31 +17,25 @@ use Rattle.script_places.specs.declared.place.Place.TheVariants as places
 use Rattle.script_places.specs.Words.{Word, wanted}
 use Rattle.script_places.specs.Names.{is_name, is_key, name_at, key_at}
 use Rattle.script_places.specs.Numbers.{number_of, from_least, number_in, number_at}
+use Rattle.script_places.specs.Identifiers.{ident_of}
 use Rattle.script_places.specs.Values.{cells_from}
 use Rattle.script_places.specs.Columns.{column_of, column_at, columns_from}
 use Rattle.script_places.specs.Times.{time_of}
+use Rattle.script_places.specs.Groups.{groups, item_fits, items_fit}
+use Rattle.script_places.specs.Items.{items_from}
 use Rattle.script_places.specs.Counts.{takes_rest, rest_fits, word_fits, fits}
 use Rattle.script_places.specs.Places.{Meaning, at}
-use Rattle.script_places.specs.Spelling.{cell_word, FitsCell, column_word, FitsColumn, AreNew, time_words, Writes}
-use Rattle.std.specs.List.{AllByRecursion}
+use Rattle.script_places.specs.Spelling.{cell_word, FitsCell, column_word, FitsColumn, AreNew, time_words, item_words, FitsItem, joined, Writes}
 use Rattle.script_places.specs.Grammar.{IsNumber, is_bounded, RefusedAt}
+use Rattle.script_places.proofs.Results.{okay, failed, same_ok, same_cause}
 use Rattle.script_places.proofs.Decimals.{is_decimal, decimal_is}
-use Rattle.script_places.proofs.Cuts.{at_most, is_at_most, same_words}
+use Rattle.script_places.proofs.Cuts.{at_most, is_at_most, below, same_words}
 use Rattle.script_places.proofs.CellWords.{cells_are, cells_again, cells_not, cells_refused}
 use Rattle.script_places.proofs.ColumnWords.{column_is, column_again, column_not, column_refused, columns_are, columns_again, columns_not, columns_refused}
+use Rattle.script_places.proofs.IdentWords.{ident_is, ident_again, ident_not, no_ident}
+use Rattle.script_places.proofs.Slashes.{some_group, joined_groups, groups_joined}
+use Rattle.script_places.proofs.ItemWords.{no_slashes, items_count, items_again, items_are, items_not, items_refused}
 use Rattle.script_places.proofs.TimeWords.{time_is, time_again, time_not, no_time}
-
-abbrev okay : {A : Type 0} → A → Result A Cause
-okay x = Ok x
-
-abbrev failed : {A : Type 0} → Cause → Result A Cause
-failed cause = Err cause
-
-same_ok : {A : Type 0} (x y : A) → okay x ≡ okay y → x ≡ y
-same_ok x y e = cc
-
-same_cause : {A : Type 0} (c d : Cause) → failed {A = A} c ≡ failed d → c ≡ d
-same_cause c d e = cc
 
 abbrev put : {A : Type 0} → List Word → A → Result (A × List Word) Cause
 put ws x = Ok (x, ws)
@@ -109,9 +104,6 @@ none_by least most w (Some n) small is none = absurd (let i = numbered least mos
 no_number : (least most : ℕ) (w : Word) → most < 2 ^ 64 → ¬ (IsNumber least most w) → number_in least most w ≡ None
 no_number least most w small none = none_by least most w (number_in least most w) small refl none
 
-bounded : (most : ℕ) → nat_lt most (2 ^ 64) ≡ true → most < 2 ^ 64
-bounded most e = grind (arith, nat_tests)
-
 -- the words before those that are left write the meaning, and those that are left fit the other places
 pub record Stands (slots : ℕ) (place : Place) (rest : List Place) (ws : List Word) (p : Meaning place × List Word) : Type 0 where
   pub front : List Word
@@ -171,13 +163,17 @@ stands slots places.Key rest (w ∷ ws) p few bound last fit e =
 stands slots (places.Number least most) rest [] p few bound last fit e = absurd cc
 stands slots (places.Number least most) rest (w ∷ ws) p few bound last fit e =
     let t = took_some (number_in least most w) BadNumber ws p e in
-    let n = numbered least most t.0 w (bounded most bound) t.1 in
+    let n = numbered least most t.0 w (below most (2 ^ 64) bound) t.1 in
     one_word slots (places.Number least most) rest w ws t.0 p t.2 (ap (λ (v : Word). v ∷ []) n.0, n.1, n.2) fit
 stands slots places.Slot rest [] p few bound last fit e = absurd cc
 stands slots places.Slot rest (w ∷ ws) p few bound last fit e =
     let t = took_some (number_in 1 slots w) NoSuchSlot ws p e in
     let n = numbered 1 slots t.0 w few t.1 in
     one_word slots places.Slot rest w ws t.0 p t.2 (ap (λ (v : Word). v ∷ []) n.0, n.1, n.2) fit
+stands slots (places.Identifier kind) rest [] p few bound last fit e = absurd cc
+stands slots (places.Identifier kind) rest (w ∷ ws) p few bound last fit e =
+    let t = took_some (ident_of kind w) BadIdentifier ws p e in
+    one_word slots (places.Identifier kind) rest w ws t.0 p t.2 (w, refl, ident_is kind w t.0 t.1) fit
 stands slots places.Column rest [] p few bound last fit e = absurd cc
 stands slots places.Column rest (w ∷ ws) p few bound last fit e =
     let t = took_one (column_of w) ws p e in
@@ -202,6 +198,16 @@ stands slots places.Columns rest ws p few bound last fit e =
     all_words slots places.Columns rest ws t.0 p t.2
     (words, subst (λ (columns : List NewColumn). AllByRecursion FitsColumn columns) (sym c.1) c.3, subst (λ (columns : List NewColumn). AreNew [] columns) (sym c.1) c.4, omega (arith, count.0, long), omega (arith, count.1, long))
     (last refl)
+stands slots places.Items rest ws p few bound last fit e =
+    let t = took_one (items_from [] (groups ws)) [] p e in
+    let count = and_parts (list_all item_fits (groups ws)) (nat_le (length (groups ws)) 64) (counted places.Items rest ws refl fit) in
+    let high : length (groups ws) ≤ 64 = at_most (length (groups ws)) 64 count.1 in
+    let c = items_are (groups ws) [] t.0 count.0 t.1 in
+    let found : groups ws ≡ map item_words t.0 = c.2 ∙ ap (map item_words) (sym c.1) in
+    let long : length (groups ws) ≡ length t.0 = ap length found ∙ length-map t.0 item_words in
+    all_words slots places.Items rest ws t.0 p t.2
+    (sym (joined_groups ws) ∙ ap joined found, subst (λ (items : List NamedItem). AllByRecursion FitsItem items) (sym c.1) c.3, omega (arith, some_group ws, long), omega (arith, high, long))
+    (last refl)
 
 -- and words that write something are read as it
 abbrev read_one : (slots : ℕ) (place : Place) → List Word → List Word → Result (Meaning place × List Word) Cause
@@ -218,8 +224,10 @@ read_again slots places.Tablets x front others few bound last w = ap (read_one s
 read_again slots places.Name x front others few bound last w = ap (read_one slots places.Name others) w.0 ∙ rw w.1 refl
 read_again slots places.Key x front others few bound last w = ap (read_one slots places.Key others) w.0 ∙ rw w.1 refl
 read_again slots (places.Number least most) x front others few bound last w =
-    ap (read_one slots (places.Number least most) others) w.0 ∙ number_first BadNumber least most x others (bounded most bound) w.1 w.2
+    ap (read_one slots (places.Number least most) others) w.0 ∙ number_first BadNumber least most x others (below most (2 ^ 64) bound) w.1 w.2
 read_again slots places.Slot x front others few bound last w = ap (read_one slots places.Slot others) w.0 ∙ number_first NoSuchSlot 1 slots x others few w.1 w.2
+read_again slots (places.Identifier kind) x front others few bound last w =
+    ap (read_one slots (places.Identifier kind) others) w.1 ∙ rw (ident_again kind x w.0 w.2) refl
 read_again slots places.Column x front others few bound last w = ap (read_one slots places.Column others) w.0 ∙ rw (column_again x w.1) refl
 read_again slots places.Time x front others few bound last w =
     let e : front ++ others ≡ time_words x = ap (λ (vs : List Word). front ++ vs) (last refl) ∙ append-nil front ∙ w.0 in
@@ -232,6 +240,12 @@ read_again slots places.Cells x front others few bound last w =
 read_again slots places.Columns x front others few bound last w =
     let e : front ++ others ≡ map column_word x = ap (λ (vs : List Word). front ++ vs) (last refl) ∙ append-nil front ∙ w.0 in
     let t : columns_from [] (front ++ others) ≡ Ok x = ap (columns_from []) e ∙ columns_again x [] w.1 w.2 in
+    rw t (ap (λ (vs : List Word). okay (x, vs)) (sym (last refl)))
+read_again slots places.Items x front others few bound last w =
+    let e : front ++ others ≡ joined (map item_words x) = ap (λ (vs : List Word). front ++ vs) (last refl) ∙ append-nil front ∙ w.0 in
+    let long : length (map item_words x) ≡ length x = length-map x item_words in
+    let cut : groups (front ++ others) ≡ map item_words x = ap groups e ∙ groups_joined (map item_words x) (no_slashes x w.1) (omega (arith, w.2, long)) in
+    let t : items_from [] (groups (front ++ others)) ≡ Ok x = ap (items_from []) cut ∙ items_again x [] w.1 in
     rw t (ap (λ (vs : List Word). okay (x, vs)) (sym (last refl)))
 
 -- they are as many as the place asks for
@@ -257,6 +271,8 @@ fit_again slots places.Key rest x front others last w fit = ap (fit_all rest pla
 fit_again slots (places.Number least most) rest x front others last w fit =
     ap (fit_all rest (places.Number least most) others) w.0 ∙ fit_first (places.Number least most) rest (decimal x) others refl refl fit
 fit_again slots places.Slot rest x front others last w fit = ap (fit_all rest places.Slot others) w.0 ∙ fit_first places.Slot rest (decimal x) others refl refl fit
+fit_again slots (places.Identifier kind) rest x front others last w fit =
+    ap (fit_all rest (places.Identifier kind) others) w.1 ∙ fit_first (places.Identifier kind) rest w.0 others refl refl fit
 fit_again slots places.Column rest x front others last w fit = ap (fit_all rest places.Column others) w.0 ∙ fit_first places.Column rest (column_word x) others refl refl fit
 fit_again slots places.Time rest x front others last w fit =
     let e : front ++ others ≡ time_words x = ap (λ (vs : List Word). front ++ vs) (last refl) ∙ append-nil front ∙ w.0 in
@@ -271,6 +287,12 @@ fit_again slots places.Columns rest x front others last w fit =
     let long : length (map column_word x) ≡ length x = length-map x column_word in
     ap (fits (places.Columns ∷ rest)) e ∙ counts places.Columns rest (map column_word x) refl
     (and_from (nat_le 1 (length (map column_word x))) (nat_le (length (map column_word x)) 16) (is_at_most _ _ (omega (arith, w.3, long))) (is_at_most _ _ (omega (arith, w.4, long))))
+fit_again slots places.Items rest x front others last w fit =
+    let e : front ++ others ≡ joined (map item_words x) = ap (λ (vs : List Word). front ++ vs) (last refl) ∙ append-nil front ∙ w.0 in
+    let long : length (map item_words x) ≡ length x = length-map x item_words in
+    let cut : groups (joined (map item_words x)) ≡ map item_words x = groups_joined (map item_words x) (no_slashes x w.1) (omega (arith, w.2, long)) in
+    ap (fits (places.Items ∷ rest)) e ∙ counts places.Items rest (joined (map item_words x)) refl
+    (ap items_fit cut ∙ and_from (list_all item_fits (map item_words x)) (nat_le (length (map item_words x)) 64) (items_count x w.1) (is_at_most _ _ (omega (arith, w.3, long))))
 
 -- what is refused has no meaning, for that cause
 pub refused_there : (slots : ℕ) (place : Place) (rest : List Place) (cause : Cause) (ws : List Word) → slots < 2 ^ 64 → is_bounded place ≡ true
@@ -284,15 +306,21 @@ refused_there slots places.Key rest cause [] few bound fit e = absurd cc
 refused_there slots places.Key rest cause (w ∷ ws) few bound fit e = not_took (is_key w) (w, ws) BadKey cause e
 refused_there slots (places.Number least most) rest cause [] few bound fit e = absurd cc
 refused_there slots (places.Number least most) rest cause (w ∷ ws) few bound fit e =
-    let n = not_some (number_in least most w) BadNumber ws cause e in (number_not least most w (bounded most bound) n.0, n.1)
+    let n = not_some (number_in least most w) BadNumber ws cause e in (number_not least most w (below most (2 ^ 64) bound) n.0, n.1)
 refused_there slots places.Slot rest cause [] few bound fit e = absurd cc
 refused_there slots places.Slot rest cause (w ∷ ws) few bound fit e =
     let n = not_some (number_in 1 slots w) NoSuchSlot ws cause e in (number_not 1 slots w few n.0, n.1)
+refused_there slots (places.Identifier kind) rest cause [] few bound fit e = absurd cc
+refused_there slots (places.Identifier kind) rest cause (w ∷ ws) few bound fit e =
+    let n = not_some (ident_of kind w) BadIdentifier ws cause e in (ident_not kind w n.0, n.1)
 refused_there slots places.Column rest cause [] few bound fit e = absurd cc
 refused_there slots places.Column rest cause (w ∷ ws) few bound fit e = column_not w cause (not_one (column_of w) ws cause e)
 refused_there slots places.Time rest cause ws few bound fit e = let n = not_some (time_of ws) BadTime [] cause e in (time_not ws n.0, n.1)
 refused_there slots places.Cells rest cause ws few bound fit e = cells_not ws [] cause (not_one (cells_from [] ws) [] cause e)
 refused_there slots places.Columns rest cause ws few bound fit e = columns_not ws [] cause (not_one (columns_from [] ws) [] cause e)
+refused_there slots places.Items rest cause ws few bound fit e =
+    let count = and_parts (list_all item_fits (groups ws)) (nat_le (length (groups ws)) 64) (counted places.Items rest ws refl fit) in
+    items_not (groups ws) [] cause count.0 (not_one (items_from [] (groups ws)) [] cause e)
 
 pub refused_again : (slots : ℕ) (place : Place) (cause : Cause) (ws : List Word) → slots < 2 ^ 64 → is_bounded place ≡ true
     → RefusedAt slots place cause ws → at slots place ws ≡ Err cause
@@ -304,12 +332,15 @@ refused_again slots places.Key cause [] few bound r = absurd r
 refused_again slots places.Key cause (w ∷ ws) few bound r = rw r.0 (ap failed (sym r.1))
 refused_again slots (places.Number least most) cause [] few bound r = absurd r
 refused_again slots (places.Number least most) cause (w ∷ ws) few bound r =
-    let none = no_number least most w (bounded most bound) r.0 in rw none (ap failed (sym r.1))
+    let none = no_number least most w (below most (2 ^ 64) bound) r.0 in rw none (ap failed (sym r.1))
 refused_again slots places.Slot cause [] few bound r = absurd r
 refused_again slots places.Slot cause (w ∷ ws) few bound r =
     let none = no_number 1 slots w few r.0 in rw none (ap failed (sym r.1))
+refused_again slots (places.Identifier kind) cause [] few bound r = absurd r
+refused_again slots (places.Identifier kind) cause (w ∷ ws) few bound r = rw (no_ident kind w r.0) (ap failed (sym r.1))
 refused_again slots places.Column cause [] few bound r = absurd r
 refused_again slots places.Column cause (w ∷ ws) few bound r = rw (column_refused w cause r.0 r.1) refl
 refused_again slots places.Time cause ws few bound r = rw (no_time ws r.0) (ap failed (sym r.1))
 refused_again slots places.Cells cause ws few bound r = rw (cells_refused ws [] cause r) refl
 refused_again slots places.Columns cause ws few bound r = rw (columns_refused ws [] cause r) refl
+refused_again slots places.Items cause ws few bound r = rw (items_refused (groups ws) [] cause r) refl

@@ -1,5 +1,5 @@
 -- A command is looked up by its word.
-use Rattle.std.proofs.Common.{◌≡◌, ℕ, ◌^◌, ◌<◌, inl, inr, Bool, true, false, not, ◌||◌, cond, List, [], ◌∷◌, Result, Ok, Err, refl, sym, ap, ◌∙◌}
+use Rattle.std.proofs.Common.{◌≡◌, ℕ, ◌^◌, ◌<◌, inl, inr, Bool, true, false, not, ◌||◌, cond, List, [], ◌∷◌, Ok, Err, refl, sym, ap, ◌∙◌}
 use Rattle.std.specs.Prelude.{bytes_eq}
 use Rattle.std.proofs.lemmas.Bool.{and_parts}
 use Rattle.script_words.specs.declared.cause.Cause.{Cause}
@@ -7,14 +7,9 @@ use Rattle.script_words.specs.declared.cause.Cause.TheVariants.{UnknownCommand}
 use Rattle.script_places.specs.Words.{Word}
 use Rattle.script_places.specs.Places.{Form, read_form, look_up}
 use Rattle.script_places.specs.Grammar.{Spells, FormRefused, are_right, all_right, has_word, words_differ, SomeForm, SpelledIn, RefusedIn}
+use Rattle.script_places.proofs.Results.{failed, same_cause}
 use Rattle.script_places.proofs.Cuts.{same_words, words_same}
 use Rattle.script_places.proofs.FormWords.{form_sound, form_complete, form_refused, form_refuses}
-
-abbrev failed : {A : Type 0} → Cause → Result A Cause
-failed cause = Err cause
-
-same_cause : {A : Type 0} (c d : Cause) → failed {A = A} c ≡ failed d → c ≡ d
-same_cause c d e = cc
 
 neither : (a b : Bool) → a ≡ false → b ≡ false → (a || b) ≡ false
 neither true b e f = absurd cc

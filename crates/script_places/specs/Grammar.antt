@@ -1,19 +1,23 @@
 -- Which words spell which command, and which is the first wrong one where they spell none.
-use Rattle.std.specs.Prelude.{◌≡◌, ℕ, ◌≤◌, ◌^◌, Bool, true, false, not, ◌&&◌, ◌||◌, nat_lt, List, [], ◌∷◌, ◌++◌, ◌⊎◌, decimal, bytes_eq}
+use Rattle.std.specs.Prelude.{◌≡◌, ℕ, ◌≤◌, ◌^◌, Bool, true, false, not, ◌&&◌, ◌||◌, nat_lt, List, [], ◌∷◌, ◌++◌, ◌⊎◌, codes, decimal, bytes_eq}
 use Rattle.row_values.specs.declared.value.Value.{Value}
 use Rattle.table_schema.specs.declared.column.NewColumn.{NewColumn}
+use Rattle.yb_ident.specs.declared.kind.Kind.{Kind}
+use Rattle.yb_ident.specs.IdentValue.{IdentValue}
 use Rattle.script_words.specs.declared.cause.Cause.{Cause}
-use Rattle.script_words.specs.declared.cause.Cause.TheVariants.{UnknownCommand, WrongWords, BadName, BadKey, BadValue, BadNumber, BadTime, NoSuchSlot, RepeatedColumn}
+use Rattle.script_words.specs.declared.cause.Cause.TheVariants.{UnknownCommand, WrongWords, BadName, BadKey, BadValue, BadNumber, BadIdentifier, BadTime, NoSuchSlot, RepeatedColumn}
 use Rattle.script_places.specs.declared.types.NamedCell.{NamedCell}
+use Rattle.script_places.specs.declared.types.NamedItem.{NamedItem}
 use Rattle.script_places.specs.declared.types.Time.{Time}
 use Rattle.script_places.specs.declared.place.Place.{Place}
 use Rattle.script_places.specs.declared.place.Place.TheVariants as places
 use Rattle.script_places.specs.Words.{Word, before, behind}
 use Rattle.script_places.specs.Names.{is_name, is_key}
 use Rattle.script_places.specs.Columns.{has_name}
+use Rattle.script_places.specs.Groups.{groups}
 use Rattle.script_places.specs.Counts.{takes_rest, fits}
 use Rattle.script_places.specs.Places.{Meaning, Makes, Form}
-use Rattle.script_places.specs.Spelling.{value_word, FitsValue, cell_word, FitsCell, column_word, FitsColumn, time_words, FitsTime, Writes}
+use Rattle.script_places.specs.Spelling.{value_word, FitsValue, cell_word, FitsCell, column_word, FitsColumn, time_words, FitsTime, WritesIdent, item_words, FitsItem, Writes}
 
 -- The words are those of the places, one after the other, and the command is made of their meanings.
 abbrev pub Spells : {C : Type 0} → ℕ → (places : List Place) → Makes C places → C → List Word → Type 0
@@ -30,6 +34,10 @@ First (w ∷ ws) P = P w
 abbrev pub IsNumber : ℕ → ℕ → Word → Type 0
 IsNumber least most w = (n : ℕ) × (w ≡ decimal n) × (least ≤ n) × (n ≤ most)
 
+-- an identifier of this kind
+abbrev pub IsIdentifier : Kind → Word → Type 0
+IsIdentifier kind w = (i : IdentValue) × WritesIdent kind i w
+
 abbrev pub IsValue : Word → Type 0
 IsValue w = (value : Value) × (w ≡ value_word value) × FitsValue value
 
@@ -41,6 +49,9 @@ IsColumn w = (column : NewColumn) × (w ≡ column_word column) × FitsColumn co
 
 abbrev pub IsTime : List Word → Type 0
 IsTime ws = (time : Time) × (ws ≡ time_words time) × FitsTime time
+
+abbrev pub IsItem : List Word → Type 0
+IsItem ws = (item : NamedItem) × (ws ≡ item_words item) × FitsItem item
 
 -- What stands before the first `=` is no name, or else what stands behind it is no value.
 abbrev pub CellRefused : Cause → Word → Type 0
@@ -61,6 +72,17 @@ ColumnsRefused earlier cause (w ∷ ws) =
     × (((has_name earlier column.name ≡ true) × (cause ≡ RepeatedColumn))
     ⊎ ((has_name earlier column.name ≡ false) × ColumnsRefused (earlier ++ (column ∷ [])) cause ws)))
 
+-- The first word is no key, or else what follows is not `delete` alone, and a word of it is no cell.
+abbrev pub ItemRefused : Cause → List Word → Type 0
+ItemRefused cause [] = ⊥
+ItemRefused cause (w ∷ ws) =
+    ((is_key w ≡ false) × (cause ≡ BadKey)) ⊎ ((is_key w ≡ true) × ¬ (ws ≡ codes "delete" ∷ []) × CellsRefused cause ws)
+
+-- What stands between two slashes is no item, and what stands before it are items.
+abbrev pub ItemsRefused : Cause → List (List Word) → Type 0
+ItemsRefused cause [] = ⊥
+ItemsRefused cause (group ∷ groups) = ItemRefused cause group ⊎ (IsItem group × ItemsRefused cause groups)
+
 -- The place has no meaning here, for this cause.
 abbrev pub RefusedAt : ℕ → Place → Cause → List Word → Type 0
 RefusedAt slots places.Tablets cause ws = ⊥
@@ -68,10 +90,12 @@ RefusedAt slots places.Name cause ws = First ws (λ w. (is_name w ≡ false) × 
 RefusedAt slots places.Key cause ws = First ws (λ w. (is_key w ≡ false) × (cause ≡ BadKey))
 RefusedAt slots (places.Number least most) cause ws = First ws (λ w. ¬ (IsNumber least most w) × (cause ≡ BadNumber))
 RefusedAt slots places.Slot cause ws = First ws (λ w. ¬ (IsNumber 1 slots w) × (cause ≡ NoSuchSlot))
+RefusedAt slots (places.Identifier kind) cause ws = First ws (λ w. ¬ (IsIdentifier kind w) × (cause ≡ BadIdentifier))
 RefusedAt slots places.Column cause ws = First ws (λ w. ¬ (IsColumn w) × (cause ≡ BadName))
 RefusedAt slots places.Time cause ws = ¬ (IsTime ws) × (cause ≡ BadTime)
 RefusedAt slots places.Cells cause ws = CellsRefused cause ws
 RefusedAt slots places.Columns cause ws = ColumnsRefused [] cause ws
+RefusedAt slots places.Items cause ws = ItemsRefused cause (groups ws)
 
 -- The first place that has no meaning has none for this cause.
 abbrev pub Refused : ℕ → List Place → Cause → List Word → Type 0

@@ -1,6 +1,9 @@
 pub mod Columns
 pub mod Counts
 pub mod Grammar
+pub mod Groups
+pub mod Identifiers
+pub mod Items
 pub mod Names
 pub mod Numbers
 pub mod Places

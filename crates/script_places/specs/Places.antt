@@ -1,19 +1,24 @@
 -- What the places of a command make of its words, from left to right.
 use Rattle.std.specs.Prelude.{ℕ, if◌then◌else◌, List, [], ◌∷◌, Result, Ok, Err, bytes_eq}
 use Rattle.table_schema.specs.declared.column.NewColumn.{NewColumn}
+use Rattle.yb_ident.specs.IdentValue.{IdentValue}
 use Rattle.script_words.specs.declared.cause.Cause.{Cause}
 use Rattle.script_words.specs.declared.cause.Cause.TheVariants.{WrongWords, BadNumber, BadTime, NoSuchSlot}
 use Rattle.script_words.specs.Reading.{◌>>=◌}
 use Rattle.script_places.specs.declared.types.NamedCell.{NamedCell}
+use Rattle.script_places.specs.declared.types.NamedItem.{NamedItem}
 use Rattle.script_places.specs.declared.types.Time.{Time}
 use Rattle.script_places.specs.declared.place.Place.{Place}
 use Rattle.script_places.specs.declared.place.Place.TheVariants as places
 use Rattle.script_places.specs.Words.{Word, next_of, wanted}
 use Rattle.script_places.specs.Names.{name_at, key_at}
 use Rattle.script_places.specs.Numbers.{number_at}
+use Rattle.script_places.specs.Identifiers.{identifier_at}
 use Rattle.script_places.specs.Values.{cells_from}
 use Rattle.script_places.specs.Columns.{column_at, columns_from}
 use Rattle.script_places.specs.Times.{time_of}
+use Rattle.script_places.specs.Groups.{groups}
+use Rattle.script_places.specs.Items.{items_from}
 use Rattle.script_places.specs.Counts.{fits}
 
 -- what the words of a place mean
@@ -23,10 +28,12 @@ Meaning places.Name = Word
 Meaning places.Key = Word
 Meaning (places.Number least most) = ℕ
 Meaning places.Slot = ℕ
+Meaning (places.Identifier kind) = IdentValue
 Meaning places.Column = NewColumn
 Meaning places.Time = Time
 Meaning places.Cells = List NamedCell
 Meaning places.Columns = List NewColumn
+Meaning places.Items = List NamedItem
 
 -- the meaning of the place's words, which are the first of these, and the words behind them
 abbrev pub at : ℕ → (place : Place) → List Word → Result (Meaning place × List Word) Cause
@@ -35,10 +42,12 @@ at slots places.Name ws = name_at ws
 at slots places.Key ws = key_at ws
 at slots (places.Number least most) ws = number_at BadNumber least most ws
 at slots places.Slot ws = number_at NoSuchSlot 1 slots ws
+at slots (places.Identifier kind) ws = identifier_at kind ws
 at slots places.Column ws = column_at ws
 at slots places.Time ws = wanted BadTime (time_of ws) >>= λ time. Ok (time, [])
 at slots places.Cells ws = cells_from [] ws >>= λ cells. Ok (cells, [])
 at slots places.Columns ws = columns_from [] ws >>= λ columns. Ok (columns, [])
+at slots places.Items ws = items_from [] (groups ws) >>= λ items. Ok (items, [])
 
 -- what makes a command of the meanings of these places
 abbrev pub Makes : Type 0 → List Place → Type 0

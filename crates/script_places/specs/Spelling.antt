@@ -6,7 +6,13 @@ use Rattle.row_values.specs.declared.value.Value.TheVariants as values
 use Rattle.table_schema.specs.declared.kind.Kind.{Kind}
 use Rattle.table_schema.specs.declared.kind.Kind.TheVariants as kinds
 use Rattle.table_schema.specs.declared.column.NewColumn.{NewColumn}
+use Rattle.yb_ident.specs.declared.kind.Kind as identified
+use Rattle.yb_ident.specs.IdentValue.{IdentValue}
+use Rattle.yb_ident.specs.Layout.{Reads}
 use Rattle.script_places.specs.declared.types.NamedCell.{NamedCell}
+use Rattle.script_places.specs.declared.types.NamedItem.{NamedItem}
+use Rattle.script_places.specs.declared.types.NamedOp.{NamedOp}
+use Rattle.script_places.specs.declared.types.NamedOp.TheVariants as ops
 use Rattle.script_places.specs.declared.types.Time.{Time}
 use Rattle.script_places.specs.declared.types.Time.TheVariants as times
 use Rattle.script_places.specs.declared.place.Place.{Place}
@@ -15,6 +21,7 @@ use Rattle.script_places.specs.Words.{Word}
 use Rattle.script_places.specs.Names.{is_name, is_key}
 use Rattle.script_places.specs.Values.{has_no_quote}
 use Rattle.script_places.specs.Columns.{has_name}
+use Rattle.script_places.specs.Groups.{slash}
 use Rattle.script_places.specs.Places.{Meaning}
 
 abbrev pub value_word : Value → Word
@@ -63,6 +70,31 @@ FitsTime (times.MinusMinutes n) = n ≤ 10000000
 FitsTime (times.MinusSeconds n) = n ≤ 10000000
 FitsTime (times.Exact n) = n < 2 ^ 62
 
+-- The word is one of the four forms in which the identifier, of this kind, is written as a UUID.
+abbrev pub WritesIdent : identified.Kind → IdentValue → Word → Type 0
+WritesIdent kind i w = (i.kind ≡ kind) × Reads w i
+
+abbrev pub op_words : NamedOp → List Word
+op_words (ops.Upsert cells) = map cell_word cells
+op_words ops.Delete = codes "delete" ∷ []
+
+-- 1 to 16 cells, or a delete
+abbrev pub FitsOp : NamedOp → Type 0
+FitsOp (ops.Upsert cells) = AllByRecursion FitsCell cells × (1 ≤ length cells) × (length cells ≤ 16)
+FitsOp ops.Delete = Unit {0}
+
+abbrev pub item_words : NamedItem → List Word
+item_words item = item.key ∷ op_words item.op
+
+abbrev pub FitsItem : NamedItem → Type 0
+FitsItem item = (is_key item.key ≡ true) × FitsOp item.op
+
+-- the groups one after the other, with a slash between each two
+abbrev pub joined : List (List Word) → List Word
+joined [] = []
+joined (group ∷ []) = group
+joined (group ∷ other ∷ groups) = group ++ (slash ∷ joined (other ∷ groups))
+
 -- These are the words of the place that mean this.
 abbrev pub Writes : ℕ → (place : Place) → Meaning place → List Word → Type 0
 Writes slots places.Tablets _ ws = ws ≡ codes "tablets" ∷ []
@@ -70,9 +102,12 @@ Writes slots places.Name name ws = (ws ≡ name ∷ []) × (is_name name ≡ tru
 Writes slots places.Key key ws = (ws ≡ key ∷ []) × (is_key key ≡ true)
 Writes slots (places.Number least most) n ws = (ws ≡ decimal n ∷ []) × (least ≤ n) × (n ≤ most)
 Writes slots places.Slot n ws = (ws ≡ decimal n ∷ []) × (1 ≤ n) × (n ≤ slots)
+Writes slots (places.Identifier kind) i ws = (w : Word) × (ws ≡ w ∷ []) × WritesIdent kind i w
 Writes slots places.Column column ws = (ws ≡ column_word column ∷ []) × FitsColumn column
 Writes slots places.Time time ws = (ws ≡ time_words time) × FitsTime time
 Writes slots places.Cells cells ws =
     (ws ≡ map cell_word cells) × AllByRecursion FitsCell cells × (1 ≤ length cells) × (length cells ≤ 16)
 Writes slots places.Columns columns ws =
     (ws ≡ map column_word columns) × AllByRecursion FitsColumn columns × AreNew [] columns × (1 ≤ length columns) × (length columns ≤ 16)
+Writes slots places.Items items ws =
+    (ws ≡ joined (map item_words items)) × AllByRecursion FitsItem items × (1 ≤ length items) × (length items ≤ 64)

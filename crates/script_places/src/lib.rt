@@ -6,6 +6,9 @@
 #![tactic(auto)]
 
 mod column;
+mod groups;
+mod identifiers;
+mod item;
 mod laws;
 mod names;
 mod numbers;
@@ -16,11 +19,16 @@ mod values;
 mod words;
 
 pub use column::{column_at, columns};
-pub use laws::numbers_are_decimal;
+pub use identifiers::identifier;
+pub use item::items;
+pub use laws::{numbers_are_decimal, what_spells_a_form_is_read_as_it};
 pub use names::{key_at, name_at};
-pub use numbers::number_at;
+pub use numbers::{number_at, slot_at};
 pub use place::{Place, counted};
 pub use times::time;
 pub use types::{NamedCell, NamedItem, NamedOp, Time};
 pub use values::cells;
 pub use words::next_of;
+
+#[cfg(test)]
+mod tests;

@@ -1,6 +1,7 @@
 //! Decimal numbers.
 
 ghost use Rattle.std.specs.Prelude.{◌≡◌, ◌≤◌, IfSome, IfOk};
+ghost use Rattle.script_words.specs.declared.cause.Cause.TheVariants.{NoSuchSlot};
 ghost use Rattle.script_words.specs.Reading.{Gives};
 ghost use Rattle.script_places.specs.Numbers.{number_from, number_of, number_in, number_at};
 
@@ -70,4 +71,12 @@ pub fn number_at(
         Some(n) => Ok((n, rest)),
         None => Err(LineError::Refused(cause)),
     }
+}
+
+/// The next word as a slot, from 1 to this many, and the words behind it.
+pub fn slot_at(words: &[Bytes], slots: u32) -> Result<(u32, &[Bytes]), LineError>
+    ensures exact { Gives (λ x. (x.0, x.1.now)) result (number_at NoSuchSlot 1 slots words.now) }
+{
+    let (slot, rest) = number_at(words, Cause::NoSuchSlot, 1, slots as u64)?;
+    Ok((slot as u32, rest))
 }

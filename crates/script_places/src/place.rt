@@ -3,8 +3,10 @@ ghost use Rattle.script_words.specs.declared.cause.Cause.TheVariants.{WrongWords
 ghost use Rattle.script_words.specs.Reading.{Gives};
 ghost use Rattle.script_places.specs.Counts.{takes_rest, rest_fits, word_fits, fits};
 
+use crate::groups::items_fit;
 use row_values::Bytes;
 use script_words::{Cause, LineError};
+use yb_ident::Kind;
 
 /// What a place among the words of a command asks for.
 #[derive(Clone, Copy, Debug)]
@@ -19,6 +21,8 @@ pub enum Place {
     Number { least: u64, most: u64 },
     /// A decimal number from 1 to the count of slots.
     Slot,
+    /// An identifier of this kind.
+    Identifier { kind: Kind },
     /// A column, `name:kind`.
     Column,
     /// A time, one word or two, which are the last.
@@ -27,12 +31,18 @@ pub enum Place {
     Cells,
     /// 1 to 16 columns, whose names differ, which are the last.
     Columns,
+    /// 1 to 64 items with a word `/` between each two, which are the last. An item is a key and 1 to
+    /// 16 cells, or a key and `delete`.
+    Items,
 }
 
 fn takes_rest(place: Place) -> bool
     ensures exact { result ≡ takes_rest place }
 {
-    matches!(place, Place::Time | Place::Cells | Place::Columns)
+    matches!(
+        place,
+        Place::Time | Place::Cells | Place::Columns | Place::Items
+    )
 }
 
 fn rest_fits(place: Place, words: &[Bytes]) -> bool
@@ -41,6 +51,7 @@ fn rest_fits(place: Place, words: &[Bytes]) -> bool
     let count = words.len();
     match place {
         Place::Time => 1 <= count && count <= 2,
+        Place::Items => items_fit(words),
         _ => 1 <= count && count <= 16,
     }
 }

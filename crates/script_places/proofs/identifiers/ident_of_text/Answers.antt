@@ -1,0 +1,22 @@
+use Rattle.std.proofs.Common.{rules, sym, ap, ◌∙◌}
+use denote.Enum.Bare.{same_true, same_false}
+use Rattle.yb_ident.specs.contracts.kind.Kind.{the_type}
+use Rattle.yb_ident.specs.IdentValue.{IdentValue}
+use Rattle.yb_ident.specs.declared.ident.IdentRefused.{IdentRefused}
+use Rattle.script_places.proofs.IdentWords.{ident_again, none_of_kind, none_refused}
+use Rattle.script_places.proofs.identifiers.ident_of_text.Goals as goal
+
+pub returns-then-eq : goal.returns-then-eq
+returns-then-eq c =
+    let seen = ap (λ (i : IdentValue). i.kind) c.id.view_is in
+    let same = same_true the_type (search rules) _ _ (sym c.eq.ensures ∙ c.if-eq.true) in
+    record { exact = sym (ident_again c.args.kind c.in-Ok.id c.args.text.now (sym seen ∙ same, c.in-Ok.ensures.found)) }
+
+pub returns-else-eq : goal.returns-else-eq
+returns-else-eq c =
+    let seen = ap (λ (i : IdentValue). i.kind) c.id.view_is in
+    let other = same_false the_type _ _ (sym c.eq.ensures ∙ c.if-eq.false) in
+    record { exact = sym (none_of_kind IdentRefused c.args.kind c.args.text.now c.in-Ok.id c.in-Ok.ensures.only (λ same. other (seen ∙ same))) }
+
+pub returns-in_default : goal.returns-in_default
+returns-in_default c = record { exact = sym (none_refused c.args.kind c.args.text.now c.in_default.ensures.refused) }

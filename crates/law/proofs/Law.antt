@@ -1,33 +1,53 @@
 -- Each entry of a legal history keeps what holds, and so the history is right.
 use Rattle.std.proofs.Common.{ℕ, ◌≡◌, ◌≤◌, max, List, [], ◌∷◌, true, sym, subst, arith, eqb, eqb-true, le_trans, le_refl, map, fold}
 use Rattle.model.specs.Ids.{has}
+use Rattle.model.specs.Activity.{Interval}
 use Rattle.model.specs.Journal as made
-use Rattle.model.specs.Acts.{Act, Look, Change, Write, Read, Cutoff, Compact, Restart, Stats}
+use Rattle.model.specs.Acts.{Act, Split, CreateSchedule, DeleteSchedule, TakeSnapshot, Restore, Look, Change, Write, Read, Cutoff, Compact, Send, Process, Ack, Advance, Remove, Prune, Restart, Stats}
 use Rattle.model.specs.Parts.{Parts}
 use Rattle.model.specs.Entries.{Entry, slots_of, clock_at, stamp_of, ActAsked}
-use Rattle.model.specs.History.{outcome, told, replay, journal_of, Legal, Right}
+use Rattle.model.specs.History.{outcome, told, replay, journal_of, activity_of, Legal, Right}
 use Rattle.law_store.proofs.Keys.{either_way}
+use Rattle.law_invariants.specs.Remembered.{activity_after}
 use Rattle.law_invariants.specs.Invariant.{Inv, Keeps, Later}
 use Rattle.law_invariants.proofs.Ticking.{KeepsAll}
 use Rattle.law_changes.proofs.Changing.{catalog_change_keeps}
+use Rattle.law_splits.proofs.Splitting.{split_change_keeps}
+use Rattle.law_cleanup.proofs.Snapshots.{remove_keeps}
+use Rattle.law_cleanup.proofs.Pruning.{prune_keeps}
 use Rattle.law_rows.proofs.Keeping.{stats_keeps, restart_keeps, compact_keeps, cutoff_keeps}
 use Rattle.law_rows.proofs.Writing.{write_keeps}
 use Rattle.law_rows.proofs.Reading.{read_keeps}
 use Rattle.law_rows.proofs.Looking.{look_keeps}
-use Rattle.law.specs.Covering.{ActCovered, Covered}
+use Rattle.law_commands.proofs.Sending.{send_keeps}
+use Rattle.law_commands.proofs.Processing.{process_keeps}
+use Rattle.law_commands.proofs.Acking.{ack_keeps}
+use Rattle.law_moves.proofs.Commanding.{schedule_change_keeps}
+use Rattle.law_moves.proofs.Moves.{advance_keeps}
+use Rattle.law.specs.Covering.{AdvanceCovered, ActCovered, Covered}
 use Rattle.law.proofs.Starting.{start_holds}
 
 -- each act that is covered keeps what holds
-act_keeps : (act : Act) (slots n : ℕ) (ps : Parts) (changes : List made.Change) → Later (slots_of act) ps n → ActAsked slots act → ActCovered act → Inv ps changes → KeepsAll act n ps changes (outcome act n ps)
-act_keeps (Look ask) slots n ps changes later asked covered inv = look_keeps ask n ps changes later asked inv
-act_keeps (Change command plan) slots n ps changes later asked covered inv = catalog_change_keeps command plan ps changes n covered asked.0 later inv
-act_keeps (Write place version batch) slots n ps changes later asked covered inv = write_keeps ps changes n place version batch later asked.0.0 inv
-act_keeps (Read places version key at columns) slots n ps changes later asked covered inv = read_keeps slots ps changes n places version key at columns later asked.1 inv
-act_keeps (Cutoff slot) slots n ps changes later asked covered inv = cutoff_keeps ps changes n slot later asked.0 inv
-act_keeps (Compact slot) slots n ps changes later asked covered inv = compact_keeps ps changes n slot later asked.0 inv
-act_keeps (Restart slot) slots n ps changes later asked covered inv = restart_keeps ps changes n slot later inv
-act_keeps (Stats slot) slots n ps changes later asked covered inv = stats_keeps ps changes n slot later inv
-act_keeps _ slots n ps changes later asked covered inv = absurd covered
+act_keeps : (act : Act) (slots n : ℕ) (ps : Parts) (activity : List Interval) (changes : List made.Change) → Later (slots_of act) ps n → ActAsked slots act → ActCovered act → Inv ps activity changes → KeepsAll act n ps activity changes (outcome act n ps)
+act_keeps (Look ask) slots n ps activity changes later asked covered inv = look_keeps ask n ps activity changes later asked inv
+act_keeps (Change (Split namespace table code) plan) slots n ps activity changes later asked covered inv = split_change_keeps ps activity changes n namespace table code plan later asked.0 inv
+act_keeps (Change (CreateSchedule interval retention namespace) plan) slots n ps activity changes later asked covered inv = schedule_change_keeps (CreateSchedule interval retention namespace) plan ps activity changes n tt later inv
+act_keeps (Change (DeleteSchedule schedule) plan) slots n ps activity changes later asked covered inv = schedule_change_keeps (DeleteSchedule schedule) plan ps activity changes n tt later inv
+act_keeps (Change (TakeSnapshot schedule) plan) slots n ps activity changes later asked covered inv = schedule_change_keeps (TakeSnapshot schedule) plan ps activity changes n tt later inv
+act_keeps (Change (Restore schedule to) plan) slots n ps activity changes later asked covered inv = schedule_change_keeps (Restore schedule to) plan ps activity changes n tt later inv
+act_keeps (Change command plan) slots n ps activity changes later asked covered inv = catalog_change_keeps command plan ps activity changes n covered asked.0 later inv
+act_keeps (Write place version batch) slots n ps activity changes later asked covered inv = write_keeps ps activity changes n place version batch later asked.0.0 inv
+act_keeps (Read places version key at columns) slots n ps activity changes later asked covered inv = read_keeps slots ps activity changes n places version key at columns later asked.1 inv
+act_keeps (Cutoff slot) slots n ps activity changes later asked covered inv = cutoff_keeps ps activity changes n slot later asked.0 inv
+act_keeps (Compact slot) slots n ps activity changes later asked covered inv = compact_keeps ps activity changes n slot later asked.0 inv
+act_keeps (Send operation slot) slots n ps activity changes later asked covered inv = send_keeps ps activity changes n operation slot later asked.0 inv
+act_keeps (Process slot other) slots n ps activity changes later asked covered inv = process_keeps ps activity changes n slot other later asked.0.0 inv
+act_keeps (Ack operation slot) slots n ps activity changes later asked covered inv = ack_keeps ps activity changes n operation slot later asked.0 inv
+act_keeps (Advance operation) slots n ps activity changes later asked covered inv = advance_keeps ps activity changes n operation later inv (λ kind. absurd (subst AdvanceCovered kind covered))
+act_keeps (Remove target plan) slots n ps activity changes later asked covered inv = remove_keeps ps activity changes n target plan later asked.0 inv
+act_keeps Prune slots n ps activity changes later asked covered inv = prune_keeps ps activity changes n later inv
+act_keeps (Restart slot) slots n ps activity changes later asked covered inv = restart_keeps ps activity changes n slot later inv
+act_keeps (Stats slot) slots n ps activity changes later asked covered inv = stats_keeps ps activity changes n slot later inv
 
 -- a touched clock is below the stamp
 
@@ -46,17 +66,20 @@ stamps_later e ps is = λ slot touched. let l = below_greatest (slots_of e.event
 
 -- what a legal history leaves, and that it is right
 pub record Holds (slots : ℕ) (history : List Entry) : Type 0 where
-  pub inv : Inv (replay slots history) (journal_of slots history)
+  pub inv : Inv (replay slots history) (activity_of slots history) (journal_of slots history)
   pub right : Right slots history
 
 pub legal_holds : (history : List Entry) (slots : ℕ) → Legal slots history → Covered history → Holds slots history
-unfolding replay journal_of
+unfolding replay journal_of activity_of
 legal_holds [] slots legal covered = record { inv = start_holds slots; right = tt }
 legal_holds (e ∷ earlier) slots legal covered =
     let before = legal_holds earlier slots legal.0 covered.0 in
     let step = legal.1 in
-    let keeps : KeepsAll e.event.act e.stamp (replay slots earlier) (journal_of slots earlier) (outcome e.event.act e.stamp (replay slots earlier))
-    = act_keeps e.event.act slots e.stamp (replay slots earlier) (journal_of slots earlier) (stamps_later e (replay slots earlier) step.stamp) step.asked.act covered.1 before.inv in
-    let now : Keeps e.event.act e.reply e.stamp (replay slots earlier) (told e.event.act (outcome e.event.act e.stamp (replay slots earlier)) e.stamp (replay slots earlier)) (journal_of slots earlier)
-    = subst (λ r. Keeps e.event.act r e.stamp (replay slots earlier) (told e.event.act (outcome e.event.act e.stamp (replay slots earlier)) e.stamp (replay slots earlier)) (journal_of slots earlier)) (sym step.reply) keeps in
+    let ps = replay slots earlier in
+    let o = outcome e.event.act e.stamp ps in
+    let activity = activity_of slots earlier in
+    let keeps : KeepsAll e.event.act e.stamp ps activity (journal_of slots earlier) o
+    = act_keeps e.event.act slots e.stamp ps activity (journal_of slots earlier) (stamps_later e ps step.stamp) step.asked.act covered.1 before.inv in
+    let now : Keeps e.event.act e.reply e.stamp ps (told e.event.act o e.stamp ps) (activity_after e.event.act o e.stamp ps activity) (journal_of slots earlier)
+    = subst (λ r. Keeps e.event.act r e.stamp ps (told e.event.act o e.stamp ps) (activity_after e.event.act o e.stamp ps activity) (journal_of slots earlier)) (sym step.reply) keeps in
     record { inv = now.inv; right = (before.right, (now.right, now.inv.late)) }

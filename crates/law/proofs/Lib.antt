@@ -2,3 +2,8 @@ pub mod Starting
 pub mod Standing
 pub mod Law
 pub mod Naming
+pub mod Recording
+pub mod Slots
+pub mod Following
+pub mod Running
+pub mod Runs

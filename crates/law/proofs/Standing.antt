@@ -1,35 +1,19 @@
 -- The tablets stand for the journal: the reads of a live store and of frozen sets are those of the view.
-use Rattle.std.proofs.Common.{ℕ, ◌≡◌, List, [], ◌∷◌, Option, Some, None, true, false, not, ◌⊎◌, inl, inr, refl, sym, ap, subst, ◌∙◌, eqb, arith}
+use Rattle.std.proofs.Common.{ℕ, ◌≡◌, List, Option, Some, None, true, false, not, refl, sym, ap, ◌∙◌, eqb, arith}
 use Rattle.std.proofs.lemmas.Bool.Decides.{nat_tests}
 use Rattle.std.specs.Option.{is_some}
-use Rattle.model.specs.Ids.{Id, In, same}
+use Rattle.model.specs.Ids.{In}
 use Rattle.model.specs.Times.{is_open}
 use Rattle.model.specs.Store.{in_range}
-use Rattle.model.specs.Activity.{Interval, last_from, last_of}
+use Rattle.model.specs.Activity.{Interval}
 use Rattle.model.specs.Journal.{Change, table_at, row_at}
 use Rattle.model.specs.Tablets.{FrozenSet, is_vacant}
 use Rattle.model.specs.Parts.{Parts}
 use Rattle.model.specs.Stands.{Stands, LiveStands, FrozenStands, awaited, counted}
-use Rattle.law_store.proofs.Keys.{either_way}
 use Rattle.law_invariants.specs.Invariant.{Inv, TurnsAt, is_awaited}
 use Rattle.law_invariants.proofs.Finding.{same_equal, second_fails, filter_in}
+use Rattle.law_invariants.proofs.Lasting.{last_in}
 use Rattle.law_invariants.proofs.Ticking.{not_true}
-
--- the last interval of a tablet is one of the tablet's
-last_found : (is : List Interval) (tablet : Id) (found : Option Interval) (i : Interval) → last_from is tablet found ≡ Some i → (In i is × (same i.tablet tablet ≡ true)) ⊎ (found ≡ Some i)
-last_found [] tablet found i e = inr e
-last_found (j ∷ js) tablet found i e = either_way (same j.tablet tablet)
-    (λ s. elim (last_found js tablet (Some j) i (rw s at e)) [
-      | inl h ↦ inl (inr h.0, h.1)
-      | inr q ↦ (let is : j ≡ i = cc in inl (inl is, subst (λ k. same k.tablet tablet ≡ true) is s))
-    ])
-    (λ s. elim (last_found js tablet found i (rw s at e)) [
-      | inl h ↦ inl (inr h.0, h.1)
-      | inr q ↦ inr q
-    ])
-
-pub last_in : (is : List Interval) (tablet : Id) (i : Interval) → last_of is tablet ≡ Some i → In i is × (same i.tablet tablet ≡ true)
-last_in is tablet i e = elim (last_found is tablet None i e) [ inl h ↦ h | inr q ↦ cc ]
 
 -- an interval that doesn't begin at the point of awaited rows had ended by it
 ended_then : (point from : ℕ) (to : Option ℕ) → not (eqb from point) ≡ true → TurnsAt point from to → is_awaited (Some point) to ≡ false
@@ -48,8 +32,8 @@ counted_came (Some point) is i isin turns = ended_then point i.from i.to (filter
 range_same : (low high from to code : ℕ) → low ≡ from → high ≡ to → in_range low high code ≡ true → in_range from to code ≡ true
 range_same low high from to code e f h = rw (← e, ← f) h
 
-live_stands : (ps : Parts) (changes : List Change) (slot : ℕ) → is_vacant (ps.tablet slot).presence ≡ false → Inv ps changes → LiveStands ps changes slot
-live_stands ps changes slot present inv = record {
+live_stands : (ps : Parts) (activity : List Interval) (changes : List Change) (slot : ℕ) → is_vacant (ps.tablet slot).presence ≡ false → Inv ps activity changes → LiveStands ps changes slot
+live_stands ps activity changes slot present inv = record {
   reads = λ i key x last ranged cut by before point there. (
       let t = ps.tablet slot in
       let found = last_in (counted (awaited ps t) ps.master.activity) t.tablet i last in
@@ -60,9 +44,9 @@ live_stands ps changes slot present inv = record {
       ∙ ap (λ k. row_at changes x k key) (sym g.table_is));
 }
 
-frozen_stands : (ps : Parts) (changes : List Change) (slot : ℕ) (f : FrozenSet) → is_vacant (ps.tablet slot).presence ≡ false → In f (ps.tablet slot).frozen → Inv ps changes
+frozen_stands : (ps : Parts) (activity : List Interval) (changes : List Change) (slot : ℕ) (f : FrozenSet) → is_vacant (ps.tablet slot).presence ≡ false → In f (ps.tablet slot).frozen → Inv ps activity changes
     → FrozenStands ps changes slot f
-frozen_stands ps changes slot f present held inv = record {
+frozen_stands ps activity changes slot f present held inv = record {
   reads = λ i key x listed is active ranged cut by there. (
       let t = ps.tablet slot in
       let s = inv.slots slot in
@@ -70,8 +54,8 @@ frozen_stands ps changes slot f present held inv = record {
       g.sets f held key x (range_same t.low t.high i.low i.high _ g.low_is g.high_is ranged) cut by active ∙ ap (λ k. row_at changes x k key) (sym g.table_is));
 }
 
-pub all_stand : (ps : Parts) (changes : List Change) → Inv ps changes → Stands ps changes
-all_stand ps changes inv = record {
-  live = λ slot present. live_stands ps changes slot present inv;
-  frozen = λ slot f present held. frozen_stands ps changes slot f present held inv;
+pub all_stand : (ps : Parts) (activity : List Interval) (changes : List Change) → Inv ps activity changes → Stands ps changes
+all_stand ps activity changes inv = record {
+  live = λ slot present. live_stands ps activity changes slot present inv;
+  frozen = λ slot f present held. frozen_stands ps activity changes slot f present held inv;
 }

@@ -3,28 +3,45 @@
 //! in the dispatch.
 #![tactic(auto)]
 
-ghost use Rattle.std.specs.Prelude.{ℕ, List};
+ghost use Rattle.std.specs.Prelude.{ℕ, List, ◌++◌};
 ghost use Rattle.model.specs.Acts.{Act};
-ghost use Rattle.model.specs.Entries.{ActAsked, Entry};
-ghost use Rattle.model.specs.History.{Legal, Right, replay, journal_of};
-ghost use Rattle.model.specs.Stands.{Cover, Stands};
+ghost use Rattle.model.specs.Scripts.{Numbered, ScriptAsked};
+ghost use Rattle.model.specs.Running.{run_of};
+ghost use Rattle.model.specs.Entries.{ActAsked, AllOf, Entry};
+ghost use Rattle.model.specs.History.{Legal, Right, replay, journal_of, activity_of};
+ghost use Rattle.model.specs.Stands.{Cover, RecordFacts, Stands};
 ghost use Rattle.law_local.specs.Agreeing.{PlanNames};
 ghost use Rattle.law_invariants.specs.Invariant.{Inv};
 ghost use Rattle.law.specs.Covering.{Covered};
+ghost use Rattle.law.specs.Scripts.{ScriptCovered};
 
 /// A legal history of covered acts is right: each reply is that of one list of stamped changes. What
-/// holds after each entry holds of the parts that the history leaves, and the ranges of each table's
-/// active tablets cover the codes, none twice. Each tablet stands for the journal: what is read of its
-/// live store from its cutoff on, and of a frozen set up to its time, is the view's row.
+/// holds after each entry holds of the parts that the history leaves. At each time at which the view
+/// has a table, the ranges of its tablets that were active then cover the codes, none twice, tablets
+/// that were removed since counted in. Each tablet stands for the journal: what is read of its live
+/// store from its cutoff on, and of a frozen set up to its time, is the view's row. And the states of
+/// the records of operations say of the parts what they have to.
 pub fn legal_is_right()
     ensures right { (slots : ℕ) (history : List Entry) → Legal slots history → Covered history → Right slots history }
-    ensures holds { (slots : ℕ) (history : List Entry) → Legal slots history → Covered history → Inv (replay slots history) (journal_of slots history) }
+    ensures holds { (slots : ℕ) (history : List Entry) → Legal slots history → Covered history → Inv (replay slots history) (activity_of slots history) (journal_of slots history) }
     ensures stands { (slots : ℕ) (history : List Entry) → Legal slots history → Covered history → Stands (replay slots history) (journal_of slots history) }
-    ensures cover { (slots : ℕ) (history : List Entry) → Legal slots history → Covered history → Cover (replay slots history).master.activity (journal_of slots history) }
+    ensures facts { (slots : ℕ) (history : List Entry) → Legal slots history → Covered history → RecordFacts (replay slots history) (journal_of slots history) }
+    ensures cover { (slots : ℕ) (history : List Entry) → Legal slots history → Covered history → Cover (activity_of slots history) (journal_of slots history) }
 {}
 
 /// A step on what a legal history leaves depends on its touched parts alone: what that asks of the
 /// master's plans is so.
 pub fn plans_are_named()
     ensures named { (slots : ℕ) (history : List Entry) (act : Act) → Legal slots history → Covered history → ActAsked slots act → PlanNames act (replay slots history).master }
+{}
+
+/// The history of a script whose commands meet what is asked of them, and are of the covered ones, is
+/// legal, and right: each reply is that of one list of stamped changes. The same is so of what stood
+/// before any of its entries, as of a part of it that was kept. A program whose history is that of the
+/// book's run cites this.
+pub fn runs_are_right()
+    ensures legal { (slots : ℕ) (commands : List Numbered) → AllOf (λ c. ScriptAsked c.command) commands → AllOf (λ c. ScriptCovered c.command) commands → Legal slots (run_of slots commands).history }
+    ensures right { (slots : ℕ) (commands : List Numbered) → AllOf (λ c. ScriptAsked c.command) commands → AllOf (λ c. ScriptCovered c.command) commands → Right slots (run_of slots commands).history }
+    ensures legal_before { (slots : ℕ) (later earlier : List Entry) → Legal slots (later ++ earlier) → Legal slots earlier }
+    ensures right_before { (slots : ℕ) (later earlier : List Entry) → Right slots (later ++ earlier) → Right slots earlier }
 {}

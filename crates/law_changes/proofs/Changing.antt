@@ -19,6 +19,7 @@ use Rattle.law_changes.proofs.Namespaces.{create_namespace_keeps, drop_namespace
 use Rattle.law_changes.proofs.Schemas.{add_column_keeps, drop_column_keeps, rename_table_keeps}
 use Rattle.law_changes.proofs.Dropping.{drop_table_keeps}
 use Rattle.law_changes.proofs.Creating.{create_table_keeps}
+use Rattle.model.specs.Activity.{Interval}
 
 stale_window : (s : Option Schedule) (Judged : Reply → Schedule → ℕ → ℕ → Type 0) (kept : List ℕ) (m : Master) (n to : ℕ) → ((t : Schedule) → Judged (Refused (StalePlan kept)) t n to)
     → WindowRightOf Judged s (Refused (StalePlan kept)) m n to
@@ -31,49 +32,49 @@ stale_right (Restore schedule to) slots kept n ps changes = stale_window (schedu
 stale_right (CloneNamespace source target to) slots kept n ps changes = stale_window (schedule_of ps.master.schedules (known (namespace_named ps.master.catalog.namespaces source))) CloneWindowRight kept ps.master n _ (λ s. tt)
 stale_right _ slots kept n ps changes = tt
 
-by_cases : (b : Bool) (why : Refusal) (act : Act) (n : ℕ) (ps : Parts) (changes : List Made) (o : Outcome) → KeepsAll act n ps changes (refused why) → (b ≡ true → KeepsAll act n ps changes o)
-    → KeepsAll act n ps changes (judged (If (not b) why ∷ []) o)
-by_cases true why act n ps changes o no_ go = go refl
-by_cases false why act n ps changes o no_ go = no_
+by_cases : (b : Bool) (why : Refusal) (act : Act) (n : ℕ) (ps : Parts) (activity : List Interval) (changes : List Made) (o : Outcome) → KeepsAll act n ps activity changes (refused why) → (b ≡ true → KeepsAll act n ps activity changes o)
+    → KeepsAll act n ps activity changes (judged (If (not b) why ∷ []) o)
+by_cases true why act n ps activity changes o no_ go = go refl
+by_cases false why act n ps activity changes o no_ go = no_
 
 -- a command keeps what holds where it does under its own plan
-pub change_keeps : (command : Command) (slots : List ℕ) (ps : Parts) (changes : List Made) (n : ℕ) → Later (slots_of (Change command slots)) ps n → Inv ps changes
-    → (same_slots slots (plan_of command ps.master) ≡ true → KeepsAll (Change command slots) n ps changes (planned command slots n ps))
-    → KeepsAll (Change command slots) n ps changes (outcome (Change command slots) n ps)
+pub change_keeps : (command : Command) (slots : List ℕ) (ps : Parts) (activity : List Interval) (changes : List Made) (n : ℕ) → Later (slots_of (Change command slots)) ps n → Inv ps activity changes
+    → (same_slots slots (plan_of command ps.master) ≡ true → KeepsAll (Change command slots) n ps activity changes (planned command slots n ps))
+    → KeepsAll (Change command slots) n ps activity changes (outcome (Change command slots) n ps)
 unfolding change
-change_keeps command slots ps changes n later inv keeps =
+change_keeps command slots ps activity changes n later inv keeps =
     let kept = plan_of command ps.master in
-    by_cases (same_slots slots kept) (StalePlan kept) (Change command slots) n ps changes (planned command slots n ps)
-    (refused_keeps (Change command slots) (StalePlan kept) n ps changes later inv (stale_right command slots kept n ps changes) refl) keeps
+    by_cases (same_slots slots kept) (StalePlan kept) (Change command slots) n ps activity changes (planned command slots n ps)
+    (refused_keeps (Change command slots) (StalePlan kept) n ps activity changes later inv (stale_right command slots kept n ps changes) refl) keeps
 
-list_tablets_keeps : (ps : Parts) (changes : List Made) (n : ℕ) (namespace slots : List ℕ) → Later (0 ∷ slots) ps n → Inv ps changes
-    → KeepsAll (Change (ListTablets namespace) slots) n ps changes (list_tablets namespace ps)
+list_tablets_keeps : (ps : Parts) (activity : List Interval) (changes : List Made) (n : ℕ) (namespace slots : List ℕ) → Later (0 ∷ slots) ps n → Inv ps activity changes
+    → KeepsAll (Change (ListTablets namespace) slots) n ps activity changes (list_tablets namespace ps)
 unfolding list_tablets
-list_tablets_keeps ps changes n namespace slots later inv =
+list_tablets_keeps ps activity changes n namespace slots later inv =
     let act = Change (ListTablets namespace) slots in
     let m = ps.master in
     let ns = namespace_named m.catalog.namespaces namespace in
-    by_checks act n ps changes (If (is_none ns) UnknownNamespace ∷ []) (answered (Tablets (tablet_lines m (known ns))))
-    (λ why. refused_keeps act why n ps changes later inv tt refl)
-    (λ passes. record { right = tt; inv = nothing_told act (Tablets (tablet_lines m (known ns))) n ps changes later inv })
+    by_checks act n ps activity changes (If (is_none ns) UnknownNamespace ∷ []) (answered (Tablets (tablet_lines m (known ns))))
+    (λ why. refused_keeps act why n ps activity changes later inv tt refl)
+    (λ passes. record { right = tt; inv = nothing_told act (Tablets (tablet_lines m (known ns))) n ps activity changes later inv })
 
-planned_keeps : (command : Command) (slots : List ℕ) (ps : Parts) (changes : List Made) (n : ℕ) → IsOfCatalog command → CommandAsked command → Later (0 ∷ slots) ps n → Inv ps changes
-    → same_slots slots (plan_of command ps.master) ≡ true → KeepsAll (Change command slots) n ps changes (planned command slots n ps)
-planned_keeps (CreateNamespace name) slots ps changes n of asked later inv plan = create_namespace_keeps ps changes n name slots later inv
-planned_keeps (DropNamespace name) slots ps changes n of asked later inv plan = drop_namespace_keeps ps changes n name slots later inv
-planned_keeps (CreateTable namespace table tablets columns) slots ps changes n of asked later inv plan = create_table_keeps ps changes n namespace table tablets columns slots later asked plan inv
-planned_keeps (AddColumn namespace table name kind) slots ps changes n of asked later inv plan = add_column_keeps ps changes n namespace table name kind slots later inv
-planned_keeps (DropColumn namespace table name) slots ps changes n of asked later inv plan = drop_column_keeps ps changes n namespace table name slots later inv
-planned_keeps (RenameTable namespace table name) slots ps changes n of asked later inv plan = rename_table_keeps ps changes n namespace table name slots later inv
-planned_keeps (DropTable namespace table) slots ps changes n of asked later inv plan = drop_table_keeps ps changes n namespace table slots later plan inv
-planned_keeps ListSchedules slots ps changes n of asked later inv plan = record { right = tt; inv = nothing_told (Change ListSchedules slots) (Schedules (schedule_lines n ps.master)) n ps changes later inv }
-planned_keeps ListSnapshots slots ps changes n of asked later inv plan = record { right = tt; inv = nothing_told (Change ListSnapshots slots) (Snapshots (snapshot_lines ps.master)) n ps changes later inv }
-planned_keeps ListRestorations slots ps changes n of asked later inv plan = record { right = tt; inv = nothing_told (Change ListRestorations slots) (Restorations (restoration_lines ps.master)) n ps changes later inv }
-planned_keeps ListClones slots ps changes n of asked later inv plan = record { right = tt; inv = nothing_told (Change ListClones slots) (Clones (clone_lines ps.master)) n ps changes later inv }
-planned_keeps (ListTablets namespace) slots ps changes n of asked later inv plan = list_tablets_keeps ps changes n namespace slots later inv
-planned_keeps _ slots ps changes n of asked later inv plan = absurd of
+planned_keeps : (command : Command) (slots : List ℕ) (ps : Parts) (activity : List Interval) (changes : List Made) (n : ℕ) → IsOfCatalog command → CommandAsked command → Later (0 ∷ slots) ps n → Inv ps activity changes
+    → same_slots slots (plan_of command ps.master) ≡ true → KeepsAll (Change command slots) n ps activity changes (planned command slots n ps)
+planned_keeps (CreateNamespace name) slots ps activity changes n of asked later inv plan = create_namespace_keeps ps activity changes n name slots later inv
+planned_keeps (DropNamespace name) slots ps activity changes n of asked later inv plan = drop_namespace_keeps ps activity changes n name slots later inv
+planned_keeps (CreateTable namespace table tablets columns) slots ps activity changes n of asked later inv plan = create_table_keeps ps activity changes n namespace table tablets columns slots later asked plan inv
+planned_keeps (AddColumn namespace table name kind) slots ps activity changes n of asked later inv plan = add_column_keeps ps activity changes n namespace table name kind slots later inv
+planned_keeps (DropColumn namespace table name) slots ps activity changes n of asked later inv plan = drop_column_keeps ps activity changes n namespace table name slots later inv
+planned_keeps (RenameTable namespace table name) slots ps activity changes n of asked later inv plan = rename_table_keeps ps activity changes n namespace table name slots later inv
+planned_keeps (DropTable namespace table) slots ps activity changes n of asked later inv plan = drop_table_keeps ps activity changes n namespace table slots later plan inv
+planned_keeps ListSchedules slots ps activity changes n of asked later inv plan = record { right = tt; inv = nothing_told (Change ListSchedules slots) (Schedules (schedule_lines n ps.master)) n ps activity changes later inv }
+planned_keeps ListSnapshots slots ps activity changes n of asked later inv plan = record { right = tt; inv = nothing_told (Change ListSnapshots slots) (Snapshots (snapshot_lines ps.master)) n ps activity changes later inv }
+planned_keeps ListRestorations slots ps activity changes n of asked later inv plan = record { right = tt; inv = nothing_told (Change ListRestorations slots) (Restorations (restoration_lines ps.master)) n ps activity changes later inv }
+planned_keeps ListClones slots ps activity changes n of asked later inv plan = record { right = tt; inv = nothing_told (Change ListClones slots) (Clones (clone_lines ps.master)) n ps activity changes later inv }
+planned_keeps (ListTablets namespace) slots ps activity changes n of asked later inv plan = list_tablets_keeps ps activity changes n namespace slots later inv
+planned_keeps _ slots ps activity changes n of asked later inv plan = absurd of
 
 -- a command on namespaces and tables keeps what holds
-pub catalog_change_keeps : (command : Command) (slots : List ℕ) (ps : Parts) (changes : List Made) (n : ℕ) → IsOfCatalog command → CommandAsked command → Later (slots_of (Change command slots)) ps n → Inv ps changes
-    → KeepsAll (Change command slots) n ps changes (outcome (Change command slots) n ps)
-catalog_change_keeps command slots ps changes n of asked later inv = change_keeps command slots ps changes n later inv (λ plan. planned_keeps command slots ps changes n of asked later inv plan)
+pub catalog_change_keeps : (command : Command) (slots : List ℕ) (ps : Parts) (activity : List Interval) (changes : List Made) (n : ℕ) → IsOfCatalog command → CommandAsked command → Later (slots_of (Change command slots)) ps n → Inv ps activity changes
+    → KeepsAll (Change command slots) n ps activity changes (outcome (Change command slots) n ps)
+catalog_change_keeps command slots ps activity changes n of asked later inv = change_keeps command slots ps activity changes n later inv (λ plan. planned_keeps command slots ps activity changes n of asked later inv plan)

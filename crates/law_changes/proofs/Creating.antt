@@ -1,35 +1,47 @@
 -- A table is made: its tablets are made in free slots, and their activity begins.
-use Rattle.std.proofs.Common.{ℕ, ◌≡◌, ◌≤◌, ◌<◌, ◌+◌, ◌*◌, ◌/◌, List, [], ◌∷◌, length, take, Option, Some, None, true, false, cond, ◌&&◌, inl, inr, refl, sym, ap, subst, ◌∙◌, arith, not, eqb, leb, ltb, le_trans, le_refl, le_of_lt, leb-true, ltb-false, ◌==◌}
+use Rattle.std.proofs.Common.{ℕ, ◌≡◌, ◌≤◌, ◌<◌, ◌+◌, ◌*◌, ◌/◌, List, [], ◌∷◌, ◌++◌, length, take, Option, Some, None, true, false, cond, ◌&&◌, inl, inr, refl, sym, ap, subst, ◌∙◌, arith, not, eqb, leb, ltb, le_trans, le_refl, le_of_lt, leb-true, ltb-false, ◌==◌}
 use Rattle.std.specs.Prelude.{is_none}
 use Rattle.std.specs.Option.{is_some}
 use Rattle.std.specs.List.{list_any}
 use Rattle.std.proofs.lemmas.Bool.{true≢false}
 use Rattle.std.proofs.lemmas.Bool.Decides.{nat_tests}
-use Rattle.model.specs.Ids.{Id, In, has, same, same_slots}
-use Rattle.model.specs.Schema.{NewColumn, numbered}
+use Rattle.model.specs.Ids.{Kind, Namespace, Table, Tablet as TabletKind, Schedule, Snapshot, Restoration, Clone, Id, no_id, In, has, same, same_slots}
+use Rattle.model.specs.Schema.{NewColumn, first_schema, numbered}
 use Rattle.model.specs.Activity.{Interval}
-use Rattle.model.specs.Catalog.{namespace_named, current_named, current_tables}
+use Rattle.model.specs.Catalog.{Catalog, NamespaceRecord, owner_of, namespace_named, current_named, current_tables}
+use Rattle.model.specs.Drawn.{drawn_of}
+use Rattle.model.specs.Times.{is_open}
+use Rattle.std.specs.Str.{bytes_eq}
+use Rattle.law_store.proofs.Keys.{either_way}
 use Rattle.model.specs.Journal.{Change as Made, ChangeAct, TableMade, table_at}
 use Rattle.model.specs.Tablets.{Tablet, Mark, Make, RestoreFromKind, is_done, act_for, effect}
 use Rattle.model.specs.Records.{Listed, RestorationRecord, RestorationState, Restoring}
 use Rattle.model.specs.Stands.{awaited_in, awaited_of, first_of_two, is_restore}
 use Rattle.model.specs.Entries.{CommandAsked}
 use Rattle.model.specs.Acts.{CreateTable, Change, UnknownNamespace, Busy, NameTaken, TooMany, SlotsFull}
-use Rattle.model.specs.Parts.{Master, Parts, Check, If}
+use Rattle.model.specs.Parts.{Master, Parts, Drawn, Check, If}
 use Rattle.model.specs.Operations.{holder}
 use Rattle.model.specs.Looks.{names, known, plan_of, free_slots, least_slots}
 use Rattle.model.specs.Changes.{accepts, tell_made, table_id, most_tables, create_table}
 use Rattle.model.specs.Changed.{changed, table_made, begins, shares, next_table, next_tablet}
 use Rattle.model.specs.History.{with}
-use Rattle.law_invariants.specs.Invariant.{IsGood, SlotGood, MasterGood, Inv, Later}
-use Rattle.law_invariants.proofs.Finding.{not_same, apart_by_number, in_append, in_first, in_second, both_pass}
-use Rattle.law_invariants.proofs.Ticking.{by_checks, refused_keeps, KeepsAll}
-use Rattle.law_invariants.proofs.Records.{owner_beside}
+use Rattle.law_invariants.specs.Remembered.{Remembered}
+use Rattle.law_invariants.proofs.Remembering.{forgotten_on}
+use Rattle.law_invariants.proofs.Operating.{NotHeld, not_held, Onward, operations_on}
+use Rattle.law_invariants.proofs.Ordering.{orders_on, obeyed_on, placed_works}
+use Rattle.law_invariants.proofs.Working.{before_any, TablesDrawn, tables_drawn, all_listed}
+use Rattle.law_invariants.specs.Invariant.{IsGood, SlotGood, SlotWorks, MasterGood, Inv, Later}
+use Rattle.law_invariants.proofs.Finding.{same_equal, some_is, not_same, apart_by_number, in_append, in_first, in_second, both_pass}
+use Rattle.law_invariants.proofs.Ticking.{by_checks, refused_keeps, KeepsAll, tablet_before}
+use Rattle.law_invariants.proofs.Records.{owners_first, owner_last, owner_beside}
 use Rattle.law_invariants.proofs.Journaling.{made_here, made_others, made_rows, made_keeps, no_rows, nothing_late}
 use Rattle.law_invariants.proofs.Covering.{made_covers}
 use Rattle.law_invariants.proofs.Cataloguing.{CatalogStands, catalog_of, catalog_table_made}
+use Rattle.law_invariants.proofs.Hearing.{clocks_rise, rows_on}
+use Rattle.law_invariants.proofs.Undoing.{one_more, journal_on}
 use Rattle.law_changes.proofs.Told.{slots_told, master_early, slots_equal}
-use Rattle.law_changes.proofs.Quiet.{Carries, good_carried}
+use Rattle.law_invariants.specs.Operations.{OperationsGood}
+use Rattle.law_changes.proofs.Quiet.{same_names, marks_stay, Carries, good_carried}
 use Rattle.law_changes.proofs.Plans.{has_in, in_has}
 use Rattle.law_changes.proofs.Free.{RiseFrom, rise_in, AreFree, least_free}
 
@@ -39,7 +51,7 @@ none_listed : (ls : List Listed) (tablet : Id) → ((l : Listed) → In l ls →
 none_listed [] tablet apart = refl
 none_listed (l ∷ ls) tablet apart = let k = apart l (inl refl) in rw k (none_listed ls tablet (λ m isin. apart m (inr isin)))
 
-awaited_none : (state : RestorationState) (r : RestorationRecord) (tablet : Id) (done : List Mark) → ((l : Listed) → In l r.listed → same l.tablet tablet ≡ false) → awaited_of state r tablet done ≡ None
+pub awaited_none : (state : RestorationState) (r : RestorationRecord) (tablet : Id) (done : List Mark) → ((l : Listed) → In l r.listed → same l.tablet tablet ≡ false) → awaited_of state r tablet done ≡ None
 awaited_none (Restoring point serving) r tablet done apart =
     ap (λ b. cond (b && not (is_done done r.id RestoreFromKind)) (Some point) None) (none_listed r.listed tablet apart)
 awaited_none _ r tablet done apart = refl
@@ -107,6 +119,11 @@ share_home (slot ∷ slots) place count n m v w (inr inv) (inl f) same_ = absurd
     let r : m.drawn.tablets + (place + 1) < v.tablet.number = share_number slots (place + 1) count n m v inv in omega arith)
 share_home (slot ∷ slots) place count n m v w (inr inv) (inr inw) same_ = share_home slots (place + 1) count n m v w inv inw same_
 
+share_table : (slots : List ℕ) (place count n : ℕ) (m : Master) (w : Interval) → In w (shares slots place count n m) → w.table.number ≤ m.drawn.tables + 1
+share_table [] place count n m w isin = absurd isin
+share_table (slot ∷ slots) place count n m w (inl e) = (let q : m.drawn.tables + 1 ≡ w.table.number = ap (λ v. v.table.number) e in omega arith)
+share_table (slot ∷ slots) place count n m w (inr isin) = share_table slots (place + 1) count n m w isin
+
 -- the slot of each new interval is told to make its tablet
 share_told : (slots : List ℕ) (place count n low : ℕ) (m : Master) (w : Interval) → RiseFrom low slots → In w (shares slots place count n m)
     → act_for (tell_made (shares slots place count n m)) w.slot ≡ Make w.tablet w.table w.low w.high 1
@@ -117,6 +134,10 @@ share_told (slot ∷ slots) place count n low m w rise (inr isin) =
     let behind : slot + 1 ≤ w.slot = rise_in slots (slot + 1) w.slot rise.1 (share_slot slots (place + 1) count n m w isin) in
     let apart : eqb slot w.slot ≡ false = grind (arith, nat_tests) in
     rw apart (share_told slots (place + 1) count n (slot + 1) m w rise.1 isin)
+
+made_told : (slots : List ℕ) (count n : ℕ) (m : Master) (w : Interval) (slot : ℕ) → RiseFrom 1 slots → In w (shares slots 0 count n m) → w.slot ≡ slot
+    → act_for (tell_made (shares slots 0 count n m)) slot ≡ Make w.tablet w.table w.low w.high 1
+made_told slots count n m w slot rise isin at = ap (act_for (tell_made (shares slots 0 count n m))) (sym at) ∙ share_told slots 0 count n 1 m w rise isin
 
 -- each slot of the plan has one
 share_at : (slots : List ℕ) (place count n : ℕ) (m : Master) (slot : ℕ) → In slot slots → (w : Interval) × (In w (shares slots place count n m) × (w.slot ≡ slot))
@@ -132,11 +153,14 @@ table_made_act m ns name columns = TableMade (next_table m) ns name (numbered 1 
 abbrev pub with_made : Master → ℕ → Id → List ℕ → List NewColumn → List Made → List Made
 with_made m n ns name columns changes = with n (table_made_act m ns name columns) changes
 
+-- a new tablet is listed by no restoration
+pub new_unlisted : (m : Master) (changes : List Made) (place : ℕ) (r : RestorationRecord) (l : Listed) → In r m.restorations → In l r.listed → MasterGood m changes → same l.tablet (next_tablet m (place + 1)) ≡ false
+new_unlisted m changes place r l isin lists h =
+    let tablet = next_tablet m (place + 1) in not_same l.tablet tablet (apart_by_number l.tablet tablet (let q : l.tablet.number ≤ m.drawn.tablets = h.listed r l isin lists in omega arith))
+
 -- a new tablet awaits no rows
-new_awaits : (m : Master) (changes : List Made) (place : ℕ) → MasterGood m changes → awaited_in m.restorations (next_tablet m (place + 1)) [] ≡ None
-new_awaits m changes place h =
-    let tablet = next_tablet m (place + 1) in
-    none_awaited m.restorations tablet [] (λ r l isin lists. not_same l.tablet tablet (apart_by_number l.tablet tablet (let q : l.tablet.number ≤ m.drawn.tablets = h.listed r l isin lists in omega arith)))
+pub new_awaits : (m : Master) (changes : List Made) (place : ℕ) → MasterGood m changes → awaited_in m.restorations (next_tablet m (place + 1)) [] ≡ None
+new_awaits m changes place h = none_awaited m.restorations (next_tablet m (place + 1)) [] (λ r l isin lists. new_unlisted m changes place r l isin lists h)
 
 -- the new table was never in the view
 never_made : (m : Master) (changes : List Made) (x : ℕ) → MasterGood m changes → table_at changes x (next_table m) ≡ None
@@ -161,6 +185,11 @@ good_begins m n changes ns name tablets columns slots t slot place low high h dr
       high_is = refl;
       viewed = λ x active. ap is_some (made_here n id ns name (numbered 1 columns) changes x (leb-true n x (both_pass (leb n x) true active).0));
       waits = λ point waits. (let q : None ≡ Some point = sym (new_awaits m changes place h) ∙ waits in cc);
+      comes = λ r point kept awaits. (
+          let none = awaited_none r.state r (next_tablet m (place + 1)) [] (λ l lists. new_unlisted m changes place r l kept lists h) in
+          let q : None ≡ Some point = sym none ∙ awaits in absurd (grind arith));
+      serves = λ opened settled. refl;
+      hidden = λ at hides. absurd (let q = hides in grind arith);
       stands = λ counted key x within cut soon there. sym (made_rows n id ns name (numbered 1 columns) changes x id key ∙ no_rows changes x id key (never_made m changes x h));
       sets = λ f held. absurd held;
     }
@@ -185,7 +214,7 @@ slot_placed m n changes ns name tablets columns slots t i w before h drawn free 
     let told_w : (v : Interval) → In v (shares slots 0 tablets n m) → v.slot ≡ i → act_for (tell_made (shares slots 0 tablets n m)) i ≡ Make v.tablet v.table v.low v.high 1 =
     λ v lists at. ap (act_for (tell_made (shares slots 0 tablets n m))) (sym at) ∙ share_told slots 0 tablets n 1 m v free.rise lists in
     record {
-      good = record { sorted = tt; below = tt; cutoff = le_refl n; set_past = λ f held. absurd held };
+      good = record { sorted = tt; below = tt; cutoff = le_refl n; keys = tt; set_past = λ f held. absurd held; set_sorted = λ f held. absurd held; set_keys = λ f held. absurd held };
       home = λ present j lists same_. elim (in_append m.activity (shares slots 0 tablets n m) j lists) [
         | inl old ↦ absurd (let q : j.tablet.number ≤ m.drawn.tablets = drawn j old in let e : j.tablet.number ≡ w.tablet.number = ap (λ k. k.number) same_ in omega arith)
         | inr made ↦ share_home slots 0 tablets n m j w made listed (ap (λ k. k.number) same_) ∙ is
@@ -222,6 +251,7 @@ carries_made m n changes ns name tablets columns slots i before old = record {
   viewed = λ x active is. made_keeps n (next_table m) ns name (numbered 1 columns) changes x i.table is;
   shown = λ x is. ap is_some (sym (made_others n (next_table m) ns name (numbered 1 columns) changes x i.table (old_table m i.table old))) ∙ is;
   rows = λ x key soon. made_rows n (next_table m) ns name (numbered 1 columns) changes x i.table key;
+  same_ = record { fixed = λ other to. refl; switched = λ other point is. is; before = λ other point is. before_any changes other point _ changes is };
 }
 
 -- a slot that gets none
@@ -268,15 +298,13 @@ slot_aside m n changes ns name tablets columns slots t i before free aside g =
     }
 
 master_made : (m : Master) (n : ℕ) (changes : List Made) (ns : Id) (name : List ℕ) (tablets : ℕ) (columns : List NewColumn) (slots : List ℕ)
-    → m.clock < n → 0 < tablets → AreFree m tablets slots → ((i : Interval) → In i m.activity → i.table.number ≤ m.drawn.tables)
+    → m.clock < n → AreFree m tablets slots → ((i : Interval) → In i m.activity → i.table.number ≤ m.drawn.tables)
     → CatalogStands (table_made ns name tablets columns slots n m) (with_made m n ns name columns changes) → MasterGood m changes
     → MasterGood (table_made ns name tablets columns slots n m) (with_made m n ns name columns changes)
-master_made m n changes ns name tablets columns slots before pos free drawn stands h = record {
+master_made m n changes ns name tablets columns slots before free drawn stands h = record {
   namespaces = stands.namespaces;
   tables = stands.tables;
-  cover = made_covers m.activity changes slots tablets n m ns name (numbered 1 columns) pos free.long
-      (λ i isin. not_same i.table (next_table m) (apart_by_number i.table (next_table m) (let l : i.table.number ≤ m.drawn.tables = drawn i isin in omega arith)))
-      (λ x. ap is_some (never_made m changes x h)) h.cover;
+  marks = stands.marks;
   past = λ owner to is. le_trans (h.past owner to is) (le_of_lt before);
   complete = λ s isin. le_trans (h.complete s isin) (le_of_lt before);
   listed = λ r l isin lists. le_trans (h.listed r l isin lists) (omega arith);
@@ -287,6 +315,139 @@ master_made m n changes ns name tablets columns slots before pos free drawn stan
         let e : i.tablet.number ≡ l.tablet.number = ap (λ k. k.number) is in
         let b : l.tablet.number ≤ m.drawn.tablets = h.listed r l isin lists in omega arith)
   ];
+}
+
+-- what is remembered of all tablets
+
+shares_same : (slots : List ℕ) (place count n : ℕ) (m : Master) (activity : List Interval) → shares slots place count n (record m { activity = activity }) ≡ shares slots place count n m
+shares_same [] place count n m activity = refl
+shares_same (slot ∷ slots) place count n m activity =
+    ap (λ is. begins slot (next_tablet m (place + 1)) (next_table m) (place * 65536 / count) ((place + 1) * 65536 / count) n ∷ is) (shares_same slots (place + 1) count n m activity)
+
+remembered_made : (m : Master) (n : ℕ) (changes : List Made) (ns : Id) (name : List ℕ) (tablets : ℕ) (columns : List NewColumn) (slots : List ℕ) (activity : List Interval) → m.clock < n → length slots ≡ tablets
+    → OperationsGood m changes → Remembered m activity
+    → Remembered (table_made ns name tablets columns slots n m) (activity ++ shares slots 0 tablets n m)
+remembered_made m n changes ns name tablets columns slots activity before long ops h =
+    let k = table_made ns name tablets columns slots n m in
+    let made = shares slots 0 tablets n m in
+    record {
+      kept = λ i isin. elim (in_append m.activity made i isin) [
+        | inl old ↦ in_first activity made i (h.kept i old)
+        | inr new ↦ in_second activity made i new
+      ];
+      each = λ i isin. elim (in_append activity made i isin) [
+        | inl old ↦ (elim (h.each i old) [
+          | inl here ↦ inl (in_first m.activity made i here)
+          | inr gone ↦ inr (forgotten_on m k i (record { clock = le_of_lt before; schedules = refl; restorations = refl; clones = refl })
+              (owner_beside m.catalog.owners (record { table = next_table m; namespace = ns }) i.table (old_table m i.table (h.drawn_table i old)))
+              (λ j known same_. elim (in_append m.activity made j known) [
+                | inl kept ↦ gone.unknown j kept same_
+                | inr new ↦ absurd (
+                    let q : m.drawn.tablets + 0 < j.tablet.number = share_number slots 0 tablets n m j new in
+                    let e : j.tablet.number ≡ i.tablet.number = ap (λ id. id.number) same_ in
+                    let l : i.tablet.number ≤ m.drawn.tablets = h.drawn i old in omega arith)
+              ]) gone)
+        ])
+        | inr new ↦ inl (in_second m.activity made i new)
+      ];
+      drawn = λ i isin. elim (in_append activity made i isin) [
+        | inl old ↦ le_trans (h.drawn i old) (omega arith)
+        | inr new ↦ (
+            let s = share_is slots 0 tablets n m i (omega (arith, long)) new in
+            let number : i.tablet.number ≡ m.drawn.tablets + (s.place + 1) = ap (λ v. v.tablet.number) s.is in
+            let l : s.place < tablets = s.drawn in
+            let q : i.tablet.number ≤ m.drawn.tablets + tablets = omega arith in q)
+      ];
+      drawn_table = λ i isin. elim (in_append activity made i isin) [
+        | inl old ↦ le_trans (h.drawn_table i old) (omega arith)
+        | inr new ↦ (let s = share_is slots 0 tablets n m i (omega (arith, long)) new in let e : i.table.number ≡ m.drawn.tables + 1 = ap (λ v. v.table.number) s.is in omega arith)
+      ];
+      reserved = λ c p i known unseen paired isin. elim (in_append activity made i isin) [
+        | inl old ↦ h.reserved c p i known unseen paired old
+        | inr new ↦ (
+            let g = (ops.clones c known).pairs p paired in
+            let s = share_is slots 0 tablets n m i (omega (arith, long)) new in (
+              λ e. absurd (let l1 : m.drawn.tablets + 0 < i.tablet.number = share_number slots 0 tablets n m i new in let l2 = g.drawn in let q : i.tablet.number ≡ p.target.number = ap (λ k. k.number) e in omega arith),
+              λ e. absurd (let l1 : i.table.number ≡ m.drawn.tables + 1 = ap (λ v. v.table.number) s.is in let l2 = g.drawn_table in let q : i.table.number ≡ p.table.number = ap (λ k. k.number) e in omega arith),
+            ))
+      ];
+    }
+
+-- operations go on: the namespace is not held, and the slots were free
+
+more_drawn : (d : Drawn) (tablets : ℕ) (kind : Kind) → drawn_of kind d ≤ drawn_of kind (record d { tables = d.tables + 1; tablets = d.tablets + tablets })
+more_drawn d tablets Namespace = le_refl _
+more_drawn d tablets Table = omega arith
+more_drawn d tablets TabletKind = omega arith
+more_drawn d tablets Schedule = le_refl _
+more_drawn d tablets Snapshot = le_refl _
+more_drawn d tablets Restoration = le_refl _
+more_drawn d tablets Clone = le_refl _
+
+abbrev made_catalog : Id → List ℕ → List NewColumn → ℕ → Master → Catalog
+made_catalog ns name columns n m = record m.catalog {
+  tables = m.catalog.tables ++ record { id = next_table m; namespace = ns; name = name; schema = first_schema columns; from = n; to = None } ∷ [];
+  owners = m.catalog.owners ++ record { table = next_table m; namespace = ns } ∷ [];
+}
+
+abbrev made_drawn : ℕ → Master → Drawn
+made_drawn tablets m = record m.drawn { tables = m.drawn.tables + 1; tablets = m.drawn.tablets + tablets }
+
+-- the owners are namespaces that were drawn
+owners_made : (m : Master) (ns : Id) → ns.number ≤ m.drawn.namespaces → ((table owner : Id) → owner_of m.catalog.owners table ≡ Some owner → owner.number ≤ m.drawn.namespaces) → owner_of m.catalog.owners (next_table m) ≡ None
+    → (table owner : Id) → owner_of (m.catalog.owners ++ record { table = next_table m; namespace = ns } ∷ []) table ≡ Some owner → owner.number ≤ m.drawn.namespaces
+owners_made m ns drawn h none table owner is = either_way (same (next_table m) table)
+    (λ e.
+    let mine = owner_last m.catalog.owners (record { table = next_table m; namespace = ns }) none in
+    let q : Some ns ≡ Some owner = sym mine ∙ ap (owner_of (m.catalog.owners ++ record { table = next_table m; namespace = ns } ∷ [])) (same_equal (next_table m) table e) ∙ is in
+    let k : ns ≡ owner = cc in subst (λ id. id.number ≤ m.drawn.namespaces) k drawn)
+    (λ e. h table owner (sym (owner_beside m.catalog.owners (record { table = next_table m; namespace = ns }) table e) ∙ is))
+
+current_there : (rs : List NamespaceRecord) (name : List ℕ) (ns : Id) → namespace_named rs name ≡ Some ns → (r : NamespaceRecord) × (In r rs × (r.id ≡ ns))
+current_there [] name ns e = absurd (let q = e in grind arith)
+current_there (r ∷ rs) name ns e = either_way (is_open r.to && bytes_eq r.name name)
+    (λ b. let q : Some r.id ≡ Some ns = rw b at e in (r, (inl refl, (let k : r.id ≡ ns = cc in k))))
+    (λ b. let k = current_there rs name ns (rw b at e) in (k.0, (inr k.1.0, k.1.1)))
+
+current_drawn : (m : Master) (changes : List Made) (namespace : List ℕ) → is_none (namespace_named m.catalog.namespaces namespace) ≡ false → MasterGood m changes → (known (namespace_named m.catalog.namespaces namespace)).number ≤ m.drawn.namespaces
+current_drawn m changes namespace there h =
+    let r = current_there m.catalog.namespaces namespace (known (namespace_named m.catalog.namespaces namespace)) (some_is (namespace_named m.catalog.namespaces namespace) no_id there) in
+    subst (λ id. id.number ≤ m.drawn.namespaces) r.1.1 (h.namespaces.drawn_before r.0 r.1.0)
+
+onward_made : (m : Master) (n : ℕ) (changes : List Made) (ns : Id) (name : List ℕ) (tablets : ℕ) (columns : List NewColumn) (slots : List ℕ) → m.clock < n → MasterGood m changes → TablesDrawn m → NotHeld m ns
+    → AreFree m tablets slots → Onward m n (made_catalog ns name columns n m) (m.activity ++ shares slots 0 tablets n m) (made_drawn tablets m) changes (with_made m n ns name columns changes)
+onward_made m n changes ns name tablets columns slots before h drawn unheld free = record {
+  clock = le_of_lt before;
+  drawn = more_drawn m.drawn tablets;
+  owned = λ table owner is. owners_first m.catalog.owners (record { table = next_table m; namespace = ns } ∷ []) table owner is;
+  owners = λ table l. owner_beside m.catalog.owners (record { table = next_table m; namespace = ns }) table (old_table m table l);
+  tables = drawn;
+  kept = λ i isin. (i, (in_first m.activity (shares slots 0 tablets n m) i isin, inl refl));
+  came = λ j isin. elim (in_append m.activity (shares slots 0 tablets n m) j isin) [
+    | inl old ↦ inl (j, (old, inl refl))
+    | inr made ↦ inr (
+        let s = share_is slots 0 tablets n m j (let e = free.long in omega arith) made in
+        let at : In j.slot slots = share_slot slots 0 tablets n m j made in
+        record {
+          drawn = (let q : m.drawn.tablets + 0 < j.tablet.number = share_number slots 0 tablets n m j made in omega arith);
+          later = (let e : j.from ≡ n = ap (λ v. v.from) s.is in omega arith);
+          free = λ other of. (
+              let mine : owner_of (m.catalog.owners ++ record { table = next_table m; namespace = ns } ∷ []) (next_table m) ≡ Some ns
+              = owner_last m.catalog.owners (record { table = next_table m; namespace = ns }) (h.tables.owners_drawn (next_table m) (omega arith)) in
+              let q : Some ns ≡ Some other = sym mine ∙ ap (λ v. owner_of (m.catalog.owners ++ record { table = next_table m; namespace = ns } ∷ []) v.table) (sym s.is) ∙ of in
+              let is : ns ≡ other = cc in subst (NotHeld m) is unheld);
+          unreserved = free.unreserved j.slot at;
+          vacant = λ i listed is. free.vacant j.slot at i listed is;
+        })
+  ];
+  fixed = λ other to. refl;
+  tables_held = λ other r isin of held. elim (in_append m.catalog.tables (record { id = next_table m; namespace = ns; name = name; schema = first_schema columns; from = n; to = None } ∷ []) r isin) [
+    | inl old ↦ old
+    | inr new ↦ (elim new as (λ _. In r m.catalog.tables) [ inl e ↦ absurd (held (subst (NotHeld m) (ap (λ k. k.namespace) e ∙ of) unheld)) | inr none ↦ absurd none ])
+  ];
+  names = same_names m;
+  switched = λ other point is. is;
+  before = λ other point is. before_any changes other point (with_made m n ns name columns changes) changes is;
 }
 
 abbrev pub create_table_checks : List ℕ → List ℕ → ℕ → Master → List Check
@@ -313,11 +474,11 @@ planned_free m namespace table tablets columns found enough =
     some_there None e = cc
     some_there (Some id) e = refl
 
-pub create_table_keeps : (ps : Parts) (changes : List Made) (n : ℕ) (namespace table : List ℕ) (tablets : ℕ) (columns : List NewColumn) (slots : List ℕ) → Later (0 ∷ slots) ps n
-    → CommandAsked (CreateTable namespace table tablets columns) → same_slots slots (plan_of (CreateTable namespace table tablets columns) ps.master) ≡ true → Inv ps changes
-    → KeepsAll (Change (CreateTable namespace table tablets columns) slots) n ps changes (create_table namespace table tablets columns slots n ps)
+pub create_table_keeps : (ps : Parts) (activity : List Interval) (changes : List Made) (n : ℕ) (namespace table : List ℕ) (tablets : ℕ) (columns : List NewColumn) (slots : List ℕ) → Later (0 ∷ slots) ps n
+    → CommandAsked (CreateTable namespace table tablets columns) → same_slots slots (plan_of (CreateTable namespace table tablets columns) ps.master) ≡ true → Inv ps activity changes
+    → KeepsAll (Change (CreateTable namespace table tablets columns) slots) n ps activity changes (create_table namespace table tablets columns slots n ps)
 unfolding create_table changed
-create_table_keeps ps changes n namespace table tablets columns slots later asked plan inv =
+create_table_keeps ps activity changes n namespace table tablets columns slots later asked plan inv =
     let m = ps.master in
     let command = CreateTable namespace table tablets columns in
     let ns = known (namespace_named m.catalog.namespaces namespace) in
@@ -326,22 +487,52 @@ create_table_keeps ps changes n namespace table tablets columns slots later aske
     let k = table_made ns table tablets columns slots n m in
     let before : m.clock < n = master_early slots ps n later in
     let told_made = tell_made (shares slots 0 tablets n m) in
-    by_checks (Change command slots) n ps changes (create_table_checks namespace table tablets m) (accepts command slots told_made (next_table m ∷ []))
-    (λ why. refused_keeps (Change command slots) why n ps changes later inv tt refl)
+    by_checks (Change command slots) n ps activity changes (create_table_checks namespace table tablets m) (accepts command slots told_made (next_table m ∷ []))
+    (λ why. refused_keeps (Change command slots) why n ps activity changes later inv tt refl)
     (λ passes.
     let enough : tablets ≤ length (free_slots m) = ltb-false (length (free_slots m)) tablets passes.1.1.1.1.0 in
     let least : slots ≡ take tablets (free_slots m) = slots_equal slots (plan_of command m) plan ∙ planned_free m namespace table tablets columns passes.0 enough in
     let free : AreFree m tablets slots = subst (AreFree m tablets) (sym least) (least_free m tablets enough) in
-    let stands : CatalogStands k new = catalog_table_made m n namespace table tablets columns slots changes (le_of_lt before) passes.1.1.0 asked.5 (catalog_of m changes h) in
+    let stands : CatalogStands k new = catalog_table_made m n namespace table tablets columns slots changes (le_of_lt before) passes.0 passes.1.1.0 asked.5 (catalog_of m changes h) in
+    let unheld = not_held m ns passes.1.0 in
+    let o = onward_made m n changes ns table tablets columns slots before h (tables_drawn m activity inv.remembered) unheld free in
+    let catalog = made_catalog ns table columns n m in
+    let more = m.activity ++ shares slots 0 tablets n m in
+    let drawn = made_drawn tablets m in
     record {
       right = tt;
       inv = record {
-        master = master_made m n changes ns table tablets columns slots before asked.2.0 free (λ i isin. ((inv.slots i.slot).each i isin refl).drawn_table) stands h;
-        slots = slots_told command slots told_made (next_table m ∷ []) n ps k new
+        operations = operations_on m n catalog more drawn m.sent changes new o (λ id. marks_stay m n catalog more drawn changes id (le_of_lt before) inv.operations)
+            (owners_made m ns (current_drawn m changes namespace passes.0 h) inv.operations.owners (h.tables.owners_drawn (next_table m) (omega arith))) (λ mark isin. isin) (all_listed m changes h) inv.operations;
+        rows_past = rows_on m n catalog more drawn m.sent changes new ps.tablet _ (le_of_lt before) (clocks_rise (Change command slots) (accepts command slots told_made (next_table m ∷ [])) n ps (λ slot e. tablet_before (0 ∷ slots) ps n slot later e))
+            (λ i isin. inl (in_first m.activity (shares slots 0 tablets n m) i isin)) (λ c table_ key op isin is. elim isin as (λ _. In c changes) [ inl e ↦ absurd (let q = ap (λ k. k.act) e ∙ is in grind arith) | inr old ↦ old ]) inv.rows_past;
+        journal = journal_on m n catalog more drawn m.sent changes new (one_more changes (record { stamp = n; act = table_made_act m ns table columns }) (λ table_ key op e. let q = e in grind arith) (λ other point. refl)) o.fixed (le_refl _) (omega arith) o.owners inv.journal;
+        works = slots_told (SlotWorks k new) command slots told_made (next_table m ∷ []) n ps
             (λ i is from. (
             let isin : In i slots = in_has slots i is in
             let s = share_at slots 0 tablets n m i isin in
-            let e : act_for told_made i ≡ Make s.0.tablet s.0.table s.0.low s.0.high 1 = ap (act_for told_made) (sym s.1.1) ∙ share_told slots 0 tablets n 1 m s.0 free.rise s.1.0 in
+            let w = s.0 in
+            let e : act_for told_made i ≡ Make w.tablet w.table w.low w.high 1 = made_told slots tablets n m w i free.rise s.1.0 s.1.1 in
+            subst (λ a. SlotWorks k new i (effect a n (ps.tablet i))) (sym e)
+            (placed_works m n catalog more drawn m.sent changes new i (effect (Make w.tablet w.table w.low w.high 1) n (ps.tablet i)) w o inv.operations
+            (record { vacant = λ j listed at. free.vacant i isin j listed at; unreserved = free.unreserved i isin })
+            (in_second m.activity (shares slots 0 tablets n m) w s.1.0) s.1.1 refl
+            (let q : m.drawn.tablets + 0 < w.tablet.number = share_number slots 0 tablets n m w s.1.0 in omega arith)
+            (share_table slots 0 tablets n m w s.1.0))))
+            (λ i others. record {
+              orders = orders_on m n catalog more drawn m.sent changes new i (ps.tablet i) o (inv.works i).orders;
+              obeyed = obeyed_on m n catalog more drawn m.sent changes new i (ps.tablet i) o (λ c serving at d key isin is paired. made_rows n (next_table m) ns table (numbered 1 columns) changes c.to d.source key) inv.operations (inv.works i).obeyed;
+            });
+        remembered = subst (λ is. Remembered k (activity ++ is)) (sym (shares_same slots 0 tablets n m activity)) (remembered_made m n changes ns table tablets columns slots activity before free.long inv.operations inv.remembered);
+        cover = made_covers activity changes slots tablets n (record m { activity = activity }) ns table (numbered 1 columns) asked.2.0 free.long
+            (λ i isin. not_same i.table (next_table m) (apart_by_number i.table (next_table m) (let l : i.table.number ≤ m.drawn.tables = inv.remembered.drawn_table i isin in omega arith)))
+            (λ x. ap is_some (never_made m changes x h)) inv.cover;
+        master = master_made m n changes ns table tablets columns slots before free (λ i isin. ((inv.slots i.slot).each i isin refl).drawn_table) stands h;
+        slots = slots_told (SlotGood k new) command slots told_made (next_table m ∷ []) n ps
+            (λ i is from. (
+            let isin : In i slots = in_has slots i is in
+            let s = share_at slots 0 tablets n m i isin in
+            let e : act_for told_made i ≡ Make s.0.tablet s.0.table s.0.low s.0.high 1 = made_told slots tablets n m s.0 i free.rise s.1.0 s.1.1 in
             subst (λ a. SlotGood k new i (effect a n (ps.tablet i))) (sym e)
             (slot_placed m n changes ns table tablets columns slots (ps.tablet i) i s.0 before h (λ j listed. ((inv.slots j.slot).each j listed refl).drawn) free isin s.1.0 s.1.1)))
             (λ i aside. slot_aside m n changes ns table tablets columns slots (ps.tablet i) i before free aside (inv.slots i));

@@ -1,5 +1,5 @@
 -- The free slots that a plan takes differ, and hold no tablet.
-use Rattle.std.proofs.Common.{ℕ, suc, zero, ◌≡◌, ◌≤◌, ◌<◌, ◌+◌, List, [], ◌∷◌, length, map, take, Bool, true, false, ◌||◌, inl, inr, sym, ap, ◌∙◌, arith, not, le_trans, length-take-le}
+use Rattle.std.proofs.Common.{ℕ, suc, zero, ◌≡◌, ◌≤◌, ◌<◌, ◌+◌, List, [], ◌∷◌, length, map, take, Bool, true, false, ◌||◌, inl, inr, refl, sym, ap, ◌∙◌, arith, not, le_trans, length-take-le}
 use Rattle.std.specs.List.{filter}
 use Rattle.std.proofs.lemmas.Bool.{cond_both, true≢false}
 use Rattle.model.specs.Ids.{In, has}
@@ -57,12 +57,18 @@ pub record AreFree (m : Master) (count : ℕ) (slots : List ℕ) : Type 0 where
   pub rise : RiseFrom 1 slots
   pub to : (slot : ℕ) → In slot slots → slot ≤ m.slots
   pub vacant : (slot : ℕ) → In slot slots → (i : Interval) → In i m.activity → i.slot ≡ slot → ⊥
+  pub unreserved : (slot : ℕ) → In slot slots → has (reserved m.clones) slot ≡ false
 
 no_tablet : (m : Master) (slot : ℕ) (i : Interval) → is_free m slot ≡ true → In i m.activity → i.slot ≡ slot → ⊥
 no_tablet m slot i free isin is =
     let there : has (map (λ i. i.slot) m.activity) slot ≡ true = ap (has (map (λ i. i.slot) m.activity)) (sym is) ∙ has_in (map (λ i. i.slot) m.activity) i.slot (map_in (λ i. i.slot) m.activity i isin) in
     let taken : is_free m slot ≡ false = ap (λ b. not (b || has (reserved m.clones) slot)) there in
     true≢false (sym free ∙ taken)
+
+neither_has : (a b : Bool) → not (a || b) ≡ true → b ≡ false
+neither_has true b e = absurd (let q = e in grind arith)
+neither_has false true e = absurd (let q = e in grind arith)
+neither_has false false e = refl
 
 pub least_free : (m : Master) (count : ℕ) → count ≤ length (free_slots m) → AreFree m count (take count (free_slots m))
 least_free m count enough =
@@ -73,4 +79,5 @@ least_free m count enough =
       rise = rise_take (free_slots m) count 1 (rise_filter all (is_free m) 1 (rise_counting m.slots 1));
       to = λ slot h. (let l : slot < 1 + m.slots = in_counting m.slots 1 slot (isin slot h).0 in omega arith);
       vacant = λ slot h i listed is. no_tablet m slot i (isin slot h).1 listed is;
+      unreserved = λ slot h. neither_has (has (map (λ i. i.slot) m.activity) slot) (has (reserved m.clones) slot) (isin slot h).1;
     }

@@ -1,49 +1,139 @@
 -- Namespaces are made and dropped.
-use Rattle.std.proofs.Common.{ℕ, ◌<◌, List, [], ◌∷◌, refl, ◌==◌, le_of_lt}
-use Rattle.std.specs.Prelude.{is_none}
+use Rattle.std.proofs.Common.{ℕ, ◌≡◌, ◌≤◌, ◌<◌, ◌+◌, List, [], ◌∷◌, Option, Some, None, Bool, true, false, cond, not, ◌&&◌, ◌⊎◌, inl, inr, refl, sym, ap, subst, ◌∙◌, le_trans, arith, ◌==◌, le_of_lt, le_refl}
+use Rattle.std.specs.Prelude.{is_none, is_some}
 use Rattle.model.specs.Journal.{Change as Made, NamespaceMade, NamespaceDropped}
-use Rattle.model.specs.Catalog.{namespace_named, current_tables, by_id}
+use Rattle.model.specs.Catalog.{NamespaceRecord, namespace_named, current_tables, by_id, kept_from}
 use Rattle.model.specs.Records.{schedule_of}
 use Rattle.model.specs.Acts.{CreateNamespace, DropNamespace, Change, NameTaken, TooMany, UnknownNamespace, Busy, NotEmpty, UnderSchedule}
-use Rattle.model.specs.Parts.{Master, Parts, Check, If}
-use Rattle.model.specs.Operations.{holder}
+use Rattle.model.specs.Parts.{Master, Parts, Drawn, Check, If}
+use Rattle.model.specs.Operations.{holder, time_of_user}
 use Rattle.model.specs.Looks.{names, known}
-use Rattle.model.specs.Changes.{named, count_namespaces, most_namespaces, first_table, schedule_id, accepts, create_namespace, drop_namespace}
-use Rattle.model.specs.Changed.{changed, next_namespace}
+use Rattle.model.specs.Changes.{named, clone_named, count_namespaces, most_namespaces, first_table, schedule_id, accepts, create_namespace, drop_namespace}
+use Rattle.model.specs.Changed.{changed, next_namespace, namespace_made, namespace_dropped}
 use Rattle.model.specs.History.{with}
 use Rattle.law_invariants.specs.Invariant.{Inv, Later}
 use Rattle.law_invariants.proofs.Ticking.{by_checks, refused_keeps, KeepsAll}
 use Rattle.law_invariants.proofs.Journaling.{namespace_made_quiet, namespace_dropped_quiet, nothing_late}
 use Rattle.law_invariants.proofs.Cataloguing.{catalog_of, catalog_namespace_made, catalog_namespace_dropped}
+use Rattle.law_invariants.proofs.Working.{before_any}
+use Rattle.law_invariants.proofs.Undoing.{one_more}
 use Rattle.law_changes.proofs.Told.{master_early}
-use Rattle.law_changes.proofs.Quiet.{quiet_keeps}
+use Rattle.law_changes.proofs.Quiet.{quiet_keeps, quiet_works, same_drawn, KeepsCatalog, same_names, marks_stay}
+use Rattle.std.proofs.lemmas.Bool.{true≢false}
+use Rattle.std.specs.Option.{option_or}
+use Rattle.std.specs.Str.{bytes_eq}
+use Rattle.model.specs.Times.{is_open, ended}
+use Rattle.model.specs.Records.{Schedule as ScheduleRecord, CloneRecord, is_visible}
+use Rattle.model.specs.Schedules.{floor}
+use Rattle.model.specs.Cleanup.{floor_of}
+use Rattle.law_store.proofs.Keys.{either_way, key_self}
+use Rattle.law_invariants.specs.Operations.{OperationsGood}
+use Rattle.law_invariants.proofs.Finding.{passes_both, same_equal, in_added, in_mapped}
+use Rattle.law_invariants.proofs.Records.{kept_by, kept_beside}
+use Rattle.law_invariants.proofs.Operating.{WasNamed, NewName}
+use Rattle.model.specs.Ids.{Id, In, same, Kind, Namespace, Table, Tablet, Schedule, Snapshot, Restoration, Clone}
+use Rattle.model.specs.Drawn.{drawn_of}
+use Rattle.model.specs.Activity.{Interval}
+
+-- what operations read of the catalog stays: a new namespace has a new number and no reserved name, and its mark is the stamp
+
+pub unreserved_name : (cs : List CloneRecord) (name : List ℕ) → is_some (clone_named cs name) ≡ false → (c : CloneRecord) → In c cs → is_visible c.state ≡ false → name ≡ c.target → ⊥
+unreserved_name [] name none c isin unseen is = isin
+unreserved_name (q ∷ cs) name none c isin unseen is = either_way (bytes_eq q.target name && not (is_visible q.state))
+    (λ b. let k : true ≡ false = rw b at none in true≢false k)
+    (λ b. elim isin as (λ _. ⊥) [
+      | inl e ↦ (
+          let still : not (is_visible q.state) ≡ true = ap (λ k. not (is_visible k.state)) e ∙ ap not unseen in
+          let here : bytes_eq q.target name ≡ true = ap (λ k. bytes_eq k.target name) e ∙ ap (λ k. bytes_eq c.target k) is ∙ key_self c.target in
+          true≢false (sym (passes_both (bytes_eq q.target name) (not (is_visible q.state)) here still) ∙ b))
+      | inr rest ↦ unreserved_name cs name (rw b at none) c rest unseen is
+    ])
+
+pub not_either : {A : Type 0} (a b : Option A) → is_some (option_or a b) ≡ false → is_some b ≡ false
+not_either None b e = e
+not_either (Some x) b e = absurd (true≢false e)
+
+no_schedule : (ss : List ScheduleRecord) (ns : Id) → ((s : ScheduleRecord) → In s ss → s.namespace ≡ ns → ⊥) → schedule_of ss ns ≡ None
+no_schedule [] ns apart = refl
+no_schedule (s ∷ ss) ns apart = either_way (same s.namespace ns)
+    (λ b. absurd (apart s (inl refl) (same_equal s.namespace ns b)))
+    (λ b. ap (λ q. cond q (Some s) (schedule_of ss ns)) b ∙ no_schedule ss ns (λ k isin. apart k (inr isin)))
+
+namespace_made_keeps : (m : Master) (n : ℕ) (name : List ℕ) (changes : List Made) → m.clock ≤ n → is_some (named m name) ≡ false → OperationsGood m changes
+    → KeepsCatalog m n (namespace_made name n m).catalog (namespace_made name n m).drawn
+namespace_made_keeps m n name changes le free ops = record {
+  tables_held = λ ns r isin of held. isin;
+  names = in_added (λ r. WasNamed m r ⊎ NewName m r) m.catalog.namespaces (record { id = next_namespace m; name = name; from = n; to = None }) (λ r isin. same_names m r isin)
+      (inr (record { drawn = omega arith; free = λ c isin unseen is. unreserved_name m.clones name (not_either (namespace_named m.catalog.namespaces name) (clone_named m.clones name) free) c isin unseen is }));
+  kept = λ ns. either_way (same (next_namespace m) ns)
+      (λ e.
+      let is : next_namespace m ≡ ns = same_equal (next_namespace m) ns e in
+      let none : schedule_of m.schedules ns ≡ None = no_schedule m.schedules ns (λ s isin same_.
+      let l = (ops.schedules s isin).drawn_namespace in let q : s.namespace.number ≡ m.drawn.namespaces + 1 = ap (λ i. i.number) (same_ ∙ sym is) in omega arith) in
+      let k = namespace_made name n m in
+      let floor_is : floor_of k ns n ≡ n = ap (λ s. floor s (time_of_user k ns) n) none in
+      let old : kept_from m.catalog.kept_from ns ≤ n = le_trans (ops.kept ns) (floor_within m ns n le none) in
+      subst (λ y. kept_from k.catalog.kept_from ns ≤ y) (sym floor_is) (kept_by m.catalog.kept_from (next_namespace m) n n ns old (le_refl n)))
+      (λ e. subst (λ y. y ≤ floor_of (namespace_made name n m) ns n) (sym (kept_beside m.catalog.kept_from (next_namespace m) n ns e))
+      (marks_stay m n (namespace_made name n m).catalog m.activity (namespace_made name n m).drawn changes ns le ops));
+}
+  where
+    floor_within : (m : Master) (ns : Id) (n : ℕ) → m.clock ≤ n → schedule_of m.schedules ns ≡ None → floor_of m ns m.clock ≤ n
+    floor_within m ns n le none = subst (λ y. y ≤ n) (sym (ap (λ s. floor s (time_of_user m ns) m.clock) none)) le
+
+namespace_dropped_keeps : (m : Master) (n : ℕ) (id : Id) (changes : List Made) → m.clock ≤ n → OperationsGood m changes → KeepsCatalog m n (namespace_dropped id n m).catalog m.drawn
+namespace_dropped_keeps m n id changes le ops = record {
+  tables_held = λ ns r isin of held. isin;
+  names = in_mapped {A = NamespaceRecord} {B = NamespaceRecord} (λ r. record r { to = cond (same r.id id) (ended n r.to) r.to }) (λ r. WasNamed m r ⊎ NewName m r) m.catalog.namespaces
+      (λ r isin. inl (record { was = r; kept = isin; id_is = refl; name_is = refl; opened = λ e. was_open (same r.id id) n r.to e }));
+  kept = λ ns. marks_stay m n (namespace_dropped id n m).catalog m.activity m.drawn changes ns le ops;
+}
+  where
+    was_open : (b : Bool) (n : ℕ) (to : Option ℕ) → is_open (cond b (ended n to) to) ≡ true → is_open to ≡ true
+    was_open b n None e = refl
+    was_open true n (Some x) e = e
+    was_open false n (Some x) e = e
 
 abbrev pub create_namespace_checks : List ℕ → Master → List Check
 create_namespace_checks name m = names (named m name) NameTaken ∷ If (count_namespaces m == most_namespaces) (TooMany most_namespaces) ∷ []
 
-pub create_namespace_keeps : (ps : Parts) (changes : List Made) (n : ℕ) (name slots : List ℕ) → Later (0 ∷ slots) ps n → Inv ps changes
-    → KeepsAll (Change (CreateNamespace name) slots) n ps changes (create_namespace name slots n ps)
+one_drawn : (d : Drawn) (kind : Kind) → drawn_of kind d ≤ drawn_of kind (record d { namespaces = d.namespaces + 1 })
+one_drawn d Namespace = omega arith
+one_drawn d Table = le_refl _
+one_drawn d Tablet = le_refl _
+one_drawn d Schedule = le_refl _
+one_drawn d Snapshot = le_refl _
+one_drawn d Restoration = le_refl _
+one_drawn d Clone = le_refl _
+
+pub create_namespace_keeps : (ps : Parts) (activity : List Interval) (changes : List Made) (n : ℕ) (name slots : List ℕ) → Later (0 ∷ slots) ps n → Inv ps activity changes
+    → KeepsAll (Change (CreateNamespace name) slots) n ps activity changes (create_namespace name slots n ps)
 unfolding create_namespace changed
-create_namespace_keeps ps changes n name slots later inv =
+create_namespace_keeps ps activity changes n name slots later inv =
     let m = ps.master in
     let act = Change (CreateNamespace name) slots in
     let before : m.clock < n = master_early slots ps n later in
-    by_checks act n ps changes (create_namespace_checks name m) (accepts (CreateNamespace name) slots [] (next_namespace m ∷ []))
-    (λ why. refused_keeps act why n ps changes later inv tt refl)
+    by_checks act n ps activity changes (create_namespace_checks name m) (accepts (CreateNamespace name) slots [] (next_namespace m ∷ []))
+    (λ why. refused_keeps act why n ps activity changes later inv tt refl)
     (λ passes. record {
       right = tt;
-      inv = quiet_keeps (CreateNamespace name) slots [] (next_namespace m ∷ []) n ps changes (with n (NamespaceMade (next_namespace m) name) changes) later inv
+      inv = quiet_keeps (CreateNamespace name) slots [] (next_namespace m ∷ []) n ps activity changes (with n (NamespaceMade (next_namespace m) name) changes) later inv refl
           (record {
             clock = le_of_lt before;
             slots = refl;
             activity = refl;
             restorations = refl;
+            clones = refl;
             schedules = refl;
             owners = refl;
             drawn = refl;
             drawn_tables = refl;
             quiet = namespace_made_quiet n (next_namespace m) name changes;
+            same_ = record { fixed = λ other to. refl; switched = λ other point is. is; before = λ other point is. before_any changes other point _ changes is };
           })
+          (quiet_works ps activity changes (with n (NamespaceMade (next_namespace m) name) changes) n _ _ inv (le_of_lt before) (one_drawn m.drawn) refl (namespace_made_quiet n (next_namespace m) name changes) (λ ns point is. is) (λ ns point is. before_any changes ns point _ changes is)
+          (one_more changes _ (λ table key op e. let q = e in grind arith) (λ ns point. refl))
+          (namespace_made_keeps m n name changes (le_of_lt before) passes.0 inv.operations))
           (catalog_namespace_made m n name slots changes (le_of_lt before) passes.0 (catalog_of m changes inv.master)) (nothing_late n (NamespaceMade (next_namespace m) name) changes m.clock before inv.master.past inv.late) (λ i. tt);
     })
 
@@ -56,29 +146,34 @@ drop_namespace_checks name m =
     ∷ names (schedule_id (schedule_of m.schedules (known ns))) UnderSchedule
     ∷ []
 
-pub drop_namespace_keeps : (ps : Parts) (changes : List Made) (n : ℕ) (name slots : List ℕ) → Later (0 ∷ slots) ps n → Inv ps changes
-    → KeepsAll (Change (DropNamespace name) slots) n ps changes (drop_namespace name slots n ps)
+pub drop_namespace_keeps : (ps : Parts) (activity : List Interval) (changes : List Made) (n : ℕ) (name slots : List ℕ) → Later (0 ∷ slots) ps n → Inv ps activity changes
+    → KeepsAll (Change (DropNamespace name) slots) n ps activity changes (drop_namespace name slots n ps)
 unfolding drop_namespace changed
-drop_namespace_keeps ps changes n name slots later inv =
+drop_namespace_keeps ps activity changes n name slots later inv =
     let m = ps.master in
     let act = Change (DropNamespace name) slots in
     let ns = known (namespace_named m.catalog.namespaces name) in
     let before : m.clock < n = master_early slots ps n later in
-    by_checks act n ps changes (drop_namespace_checks name m) (accepts (DropNamespace name) slots [] [])
-    (λ why. refused_keeps act why n ps changes later inv tt refl)
+    by_checks act n ps activity changes (drop_namespace_checks name m) (accepts (DropNamespace name) slots [] [])
+    (λ why. refused_keeps act why n ps activity changes later inv tt refl)
     (λ passes. record {
       right = tt;
-      inv = quiet_keeps (DropNamespace name) slots [] [] n ps changes (with n (NamespaceDropped ns) changes) later inv
+      inv = quiet_keeps (DropNamespace name) slots [] [] n ps activity changes (with n (NamespaceDropped ns) changes) later inv refl
           (record {
             clock = le_of_lt before;
             slots = refl;
             activity = refl;
             restorations = refl;
+            clones = refl;
             schedules = refl;
             owners = refl;
             drawn = refl;
             drawn_tables = refl;
             quiet = namespace_dropped_quiet n ns changes;
+            same_ = record { fixed = λ other to. refl; switched = λ other point is. is; before = λ other point is. before_any changes other point _ changes is };
           })
+          (quiet_works ps activity changes (with n (NamespaceDropped ns) changes) n _ _ inv (le_of_lt before) (same_drawn m.drawn) refl (namespace_dropped_quiet n ns changes) (λ ns point is. is) (λ ns point is. before_any changes ns point _ changes is)
+          (one_more changes _ (λ table key op e. let q = e in grind arith) (λ ns point. refl))
+          (namespace_dropped_keeps m n ns changes (le_of_lt before) inv.operations))
           (catalog_namespace_dropped m n name slots [] changes (le_of_lt before) (catalog_of m changes inv.master)) (nothing_late n (NamespaceDropped ns) changes m.clock before inv.master.past inv.late) (λ i. tt);
     })

@@ -1,17 +1,16 @@
 -- What an accepted command leaves: the master as it changed it, and each tablet of its plan as it was told.
-use Rattle.std.proofs.Common.{ℕ, ◌≡◌, ◌<◌, List, [], ◌∷◌, Bool, true, false, cond, ◌&&◌, ◌||◌, refl, ap, ◌∙◌, arith, not, eqb, eqb-true}
+use Rattle.std.proofs.Common.{ℕ, ◌≡◌, ◌<◌, List, [], ◌∷◌, Bool, true, false, cond, ◌&&◌, ◌||◌, refl, sym, ap, ◌∙◌, arith, not, eqb, eqb-true}
 use Rattle.std.proofs.lemmas.Bool.{cond_both}
 use Rattle.std.proofs.lemmas.Bool.Decides.{nat_tests}
 use Rattle.model.specs.Ids.{Id, has, same_slots}
-use Rattle.model.specs.Journal.{Change as Made}
-use Rattle.model.specs.Tablets.{TabletAct, Told, act_for, effect, Clock}
-use Rattle.model.specs.Acts.{Command, Change}
-use Rattle.model.specs.Parts.{Master, Parts}
-use Rattle.model.specs.Entries.{clock_at}
+use Rattle.model.specs.Tablets.{Tablet, TabletAct, Told, act_for, effect, Clock}
+use Rattle.model.specs.Acts.{Act, Command, Change}
+use Rattle.model.specs.Parts.{Parts, Outcome}
+use Rattle.model.specs.Entries.{clock_at, slots_of}
 use Rattle.model.specs.Changes.{accepts, tell}
 use Rattle.model.specs.History.{told}
 use Rattle.law_store.proofs.Keys.{either_way}
-use Rattle.law_invariants.specs.Invariant.{SlotGood, Later}
+use Rattle.law_invariants.specs.Invariant.{Later}
 use Rattle.law_invariants.proofs.Finding.{both_pass}
 use Rattle.law_invariants.proofs.Ticking.{not_true}
 
@@ -33,15 +32,22 @@ untouched_has i slots e f = behind (eqb 0 i) (has slots i) (eqb i 0) f e
     behind false true false f e = cc
     behind false true true f e = cc
 
--- what holds of the slots of the plan after what they are told, and of the others as they are, holds of each
-pub slots_told : (command : Command) (slots : List ℕ) (tablets : List Told) (made : List Id) (n : ℕ) (ps : Parts) (k : Master) (new : List Made)
-    → ((i : ℕ) → has slots i ≡ true → eqb i 0 ≡ false → SlotGood k new i (effect (act_for tablets i) n (ps.tablet i)))
-    → ((i : ℕ) → (eqb i 0 ≡ false → has slots i ≡ false) → SlotGood k new i (ps.tablet i))
-    → (i : ℕ) → SlotGood k new i ((told (Change command slots) (accepts command slots tablets made) n ps).tablet i)
-slots_told command slots tablets made n ps k new mine others i =
-    cond_both (has (0 ∷ slots) i && not (eqb i 0)) (effect (act_for tablets i) n (ps.tablet i)) (ps.tablet i) (λ t. SlotGood k new i t)
-    (λ e. let h = touched_has i slots e in mine i h.0 h.1)
-    (λ e. others i (untouched_has i slots e))
+-- what holds of the slots that an act names besides the master, after what they are told, and of the others as they are, holds of each
+pub slots_hear : (P : ℕ → Tablet → Type 0) (act : Act) (slots : List ℕ) (o : Outcome) (n : ℕ) (ps : Parts) → slots_of act ≡ 0 ∷ slots
+    → ((i : ℕ) → has slots i ≡ true → eqb i 0 ≡ false → P i (effect (act_for o.tablets i) n (ps.tablet i)))
+    → ((i : ℕ) → (eqb i 0 ≡ false → has slots i ≡ false) → P i (ps.tablet i))
+    → (i : ℕ) → P i ((told act o n ps).tablet i)
+slots_hear P act slots o n ps named mine others i =
+    cond_both (has (slots_of act) i && not (eqb i 0)) (effect (act_for o.tablets i) n (ps.tablet i)) (ps.tablet i) (P i)
+    (λ e. let h = touched_has i slots (ap (λ ss. has ss i && not (eqb i 0)) (sym named) ∙ e) in mine i h.0 h.1)
+    (λ e. others i (untouched_has i slots (ap (λ ss. has ss i && not (eqb i 0)) (sym named) ∙ e)))
+
+-- as those of a command's plan
+pub slots_told : (P : ℕ → Tablet → Type 0) (command : Command) (slots : List ℕ) (tablets : List Told) (made : List Id) (n : ℕ) (ps : Parts)
+    → ((i : ℕ) → has slots i ≡ true → eqb i 0 ≡ false → P i (effect (act_for tablets i) n (ps.tablet i)))
+    → ((i : ℕ) → (eqb i 0 ≡ false → has slots i ≡ false) → P i (ps.tablet i))
+    → (i : ℕ) → P i ((told (Change command slots) (accepts command slots tablets made) n ps).tablet i)
+slots_told P command slots tablets made n ps mine others = slots_hear P (Change command slots) slots (accepts command slots tablets made) n ps refl mine others
 
 -- the clocks of the master and of the plan's tablets are below the stamp
 pub master_early : (slots : List ℕ) (ps : Parts) (n : ℕ) → Later (0 ∷ slots) ps n → ps.master.clock < n

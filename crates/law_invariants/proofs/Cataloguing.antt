@@ -2,7 +2,7 @@
 use Rattle.std.proofs.Common.{inl, inr, length, ℕ, ◌≡◌, ◌≤◌, ◌+◌, false, List, [], ◌∷◌, Option, Some, None, refl, sym, ap, subst, ◌∙◌, arith, le_refl}
 use Rattle.std.specs.Option.{is_some, is_none, option_or}
 use Rattle.model.specs.Ids.{Id, In}
-use Rattle.model.specs.Schema.{Column, ColumnKind, NewColumn, column_named}
+use Rattle.model.specs.Schema.{Column, ColumnKind, NewColumn, column_named, first_schema, with_column, without_column}
 use Rattle.model.specs.Records.{IdPair}
 use Rattle.model.specs.Catalog.{tables_at, TableRecord, namespace_named, current_named}
 use Rattle.model.specs.Journal.{Change, ChangeAct, TableRenamed, TableDropped, ColumnAdded, ColumnDropped}
@@ -13,9 +13,10 @@ use Rattle.model.specs.Looks.{known, table_of, the_table, no_table}
 use Rattle.model.specs.Changed.{changed, next_namespace, next_table, pair_tables, new_clone, owners_of, clone_time}
 use Rattle.model.specs.Changes.{named, clone_named, table_id}
 use Rattle.model.specs.History.{with, with_table, with_command, id_of_column}
-use Rattle.law_invariants.specs.Invariant.{NamespacesStand, TablesStand, MasterGood}
+use Rattle.law_invariants.specs.Invariant.{NamespacesStand, TablesStand, MarksStand, MasterGood}
 use Rattle.law_invariants.proofs.Finding.{some_is, not_some_is, in_mapped}
 use Rattle.law_invariants.proofs.Ticking.{namespaces_later, tables_later}
+use Rattle.law_invariants.proofs.Marks.{marked_named, marks_namespace_made, marks_namespace_dropped, marks_table_made, marks_table_dropped, marks_table_changed, marks_owned}
 use Rattle.law_invariants.proofs.Names.{names_kept, names_further, names_made, names_dropped}
 use Rattle.law_invariants.proofs.Records.{IsCurrent, current_named_is}
 use Rattle.law_invariants.proofs.Tables.{tables_namespace_made, tables_namespace_dropped, tables_made, tables_dropped, tables_reserved, tables_column_added, tables_column_dropped, tables_renamed}
@@ -24,9 +25,10 @@ use Rattle.law_invariants.proofs.Tables.{tables_namespace_made, tables_namespace
 pub record CatalogStands (m : Master) (changes : List Change) : Type 0 where
   pub namespaces : NamespacesStand m.catalog.namespaces m.clock m.drawn.namespaces changes
   pub tables : TablesStand m.catalog m.clock m.drawn.tables changes
+  pub marks : MarksStand m.catalog
 
 pub catalog_of : (m : Master) (changes : List Change) → MasterGood m changes → CatalogStands m changes
-catalog_of m changes h = record { namespaces = h.namespaces; tables = h.tables }
+catalog_of m changes h = record { namespaces = h.namespaces; tables = h.tables; marks = h.marks }
 
 -- Options
 
@@ -51,6 +53,7 @@ catalog_namespace_made m n name slots changes le free h = record {
   namespaces = names_made m.catalog.namespaces m.clock m.drawn.namespaces (m.drawn.namespaces + 1) n (next_namespace m) name changes le (omega arith) (le_refl _)
       (none_left (namespace_named m.catalog.namespaces name) (clone_named m.clones name) free) h.namespaces;
   tables = tables_namespace_made m.catalog _ m.clock m.drawn.tables n (next_namespace m) name changes le h.tables;
+  marks = marks_namespace_made m.catalog (record { id = next_namespace m; name = name; from = n; to = None }) n h.marks;
 }
 
 pub catalog_namespace_dropped : (m : Master) (n : ℕ) (name : List ℕ) (slots : List ℕ) (ids : List Id) (changes : List Change) → m.clock ≤ n → CatalogStands m changes
@@ -61,19 +64,21 @@ catalog_namespace_dropped m n name slots ids changes le h =
     record {
       namespaces = names_dropped m.catalog.namespaces m.clock m.drawn.namespaces n ns changes le h.namespaces;
       tables = tables_namespace_dropped m.catalog _ m.clock m.drawn.tables n ns changes le h.tables;
+      marks = marks_namespace_dropped m.catalog ns n h.marks;
     }
 
 -- Tables
 
 pub catalog_table_made : (m : Master) (n : ℕ) (namespace table : List ℕ) (tablets : ℕ) (columns : List NewColumn) (slots : List ℕ) (changes : List Change) → m.clock ≤ n
-    → is_some (table_id (current_named m.catalog.tables (known (namespace_named m.catalog.namespaces namespace)) table)) ≡ false → NamesDiffer columns → CatalogStands m changes
+    → is_none (namespace_named m.catalog.namespaces namespace) ≡ false → is_some (table_id (current_named m.catalog.tables (known (namespace_named m.catalog.namespaces namespace)) table)) ≡ false → NamesDiffer columns → CatalogStands m changes
     → CatalogStands (changed (CreateTable namespace table tablets columns) slots n m) (with_command (CreateTable namespace table tablets columns) (next_table m ∷ []) n m changes)
 unfolding changed
-catalog_table_made m n namespace table tablets columns slots changes le free differ h =
+catalog_table_made m n namespace table tablets columns slots changes le there free differ h =
     let ns = known (namespace_named m.catalog.namespaces namespace) in
     record {
       namespaces = names_kept m.catalog.namespaces m.clock m.drawn.namespaces n m.drawn.namespaces _ changes le (le_refl _) tt h.namespaces;
       tables = tables_made m.catalog m.clock m.drawn.tables n (next_table m) ns table columns changes le refl (not_table (current_named m.catalog.tables ns table) free) differ h.tables;
+      marks = marks_table_made m.catalog (record { id = next_table m; namespace = ns; name = table; schema = first_schema columns; from = n; to = None }) _ (marked_named m.catalog namespace there h.marks) h.marks;
     }
 
 -- the table that a command names is current, and its change is in the journal
@@ -96,6 +101,7 @@ catalog_column_added m n namespace table name kind slots ids changes le known_ f
     subst (CatalogStands (changed (AddColumn namespace table name kind) slots n m)) (sym (tabled (table_of m namespace table) act n changes known_)) (record {
       namespaces = names_kept m.catalog.namespaces m.clock m.drawn.namespaces n m.drawn.namespaces _ changes le (le_refl _) tt h.namespaces;
       tables = tables_column_added m.catalog m.clock m.drawn.tables n t name kind changes le is.listed is.current (not_some_is (column_named t.schema.columns name) free) h.tables;
+      marks = marks_table_changed m.catalog t t.name (with_column name kind t.schema) n is.listed h.marks;
     })
 
 pub catalog_column_dropped : (m : Master) (n : ℕ) (namespace table name : List ℕ) (slots : List ℕ) (ids : List Id) (changes : List Change) → m.clock ≤ n → is_none (table_of m namespace table) ≡ false
@@ -112,6 +118,7 @@ catalog_column_dropped m n namespace table name slots ids changes le known_ ther
     subst (CatalogStands (changed (DropColumn namespace table name) slots n m)) (sym (tabled (table_of m namespace table) act n changes known_)) (record {
       namespaces = names_kept m.catalog.namespaces m.clock m.drawn.namespaces n m.drawn.namespaces _ changes le (le_refl _) tt h.namespaces;
       tables = subst P number (tables_column_dropped m.catalog m.clock m.drawn.tables n t name column.0 changes le is.listed is.current column.1 h.tables);
+      marks = marks_table_changed m.catalog t t.name (without_column name t.schema) n is.listed h.marks;
     })
 
 pub catalog_table_renamed : (m : Master) (n : ℕ) (namespace table name : List ℕ) (slots : List ℕ) (ids : List Id) (changes : List Change) → m.clock ≤ n → is_none (table_of m namespace table) ≡ false
@@ -126,6 +133,7 @@ catalog_table_renamed m n namespace table name slots ids changes le known_ free 
       namespaces = names_kept m.catalog.namespaces m.clock m.drawn.namespaces n m.drawn.namespaces _ changes le (le_refl _) tt h.namespaces;
       tables = tables_renamed m.catalog m.clock m.drawn.tables n t name changes le is.listed is.current
           (ap (λ k. current_named m.catalog.tables k name) is.namespace_is ∙ not_table (table_of m namespace name) free) h.tables;
+      marks = marks_table_changed m.catalog t name t.schema n is.listed h.marks;
     })
 
 pub catalog_table_dropped : (m : Master) (n : ℕ) (namespace table : List ℕ) (slots : List ℕ) (ids : List Id) (changes : List Change) → m.clock ≤ n → is_none (table_of m namespace table) ≡ false → CatalogStands m changes
@@ -137,6 +145,7 @@ catalog_table_dropped m n namespace table slots ids changes le known_ h =
     subst (CatalogStands (changed (DropTable namespace table) slots n m)) (sym (tabled (table_of m namespace table) act n changes known_)) (record {
       namespaces = names_kept m.catalog.namespaces m.clock m.drawn.namespaces n m.drawn.namespaces _ changes le (le_refl _) tt h.namespaces;
       tables = tables_dropped m.catalog m.clock m.drawn.tables n t.id changes le h.tables;
+      marks = marks_table_dropped m.catalog t.id n h.marks;
     })
 
 -- Commands that leave the catalog's records
@@ -167,6 +176,7 @@ catalog_left (CloneNamespace source target to) m n slots ids changes le leaves h
 catalog_left _ m n slots ids changes le leaves h = record {
   namespaces = namespaces_later m.catalog.namespaces m.clock n m.drawn.namespaces changes le h.namespaces;
   tables = tables_later m.catalog m.clock n m.drawn.tables changes le h.tables;
+  marks = h.marks;
 }
 
 -- the tables of pairs have the next identifiers
@@ -187,4 +197,5 @@ catalog_clone_begun m n source target to slots ids changes le h =
           (in_mapped (λ p. record { table = p.target; namespace = clone.target_id }) (λ o. o.table.number ≤ m.drawn.tables + length clone.tables) clone.tables
           (pairs_drawn (tables_at m.catalog.tables (known (namespace_named m.catalog.namespaces source)) (clone_time to n)) m.drawn.tables))
           h.tables;
+      marks = marks_owned m.catalog _ h.marks;
     }

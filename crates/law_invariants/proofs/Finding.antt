@@ -1,5 +1,5 @@
 -- Members of lists, and the first member that passes a test.
-use Rattle.std.proofs.Common.{ℕ, ◌≡◌, ◌≢◌, ◌<◌, Bool, true, false, cond, ◌&&◌, List, [], ◌∷◌, ◌++◌, Option, Some, None, ◌⊎◌, inl, inr, map, refl, sym, ap, subst, ◌∙◌, eqb, eqb-true, arith}
+use Rattle.std.proofs.Common.{ℕ, ◌≡◌, ◌≢◌, ◌<◌, Bool, true, false, cond, ◌&&◌, ◌||◌, List, [], ◌∷◌, ◌++◌, Option, Some, None, ◌⊎◌, inl, inr, map, refl, sym, ap, subst, ◌∙◌, eqb, eqb-true, arith}
 use Rattle.std.specs.List.{filter, find}
 use Rattle.std.specs.Option.{option_map, is_some, is_none, unwrap_or}
 use Rattle.std.proofs.lemmas.Bool.{cond_both}
@@ -17,6 +17,15 @@ both_pass false b h = cc
 pub passes_both : (a b : Bool) → a ≡ true → b ≡ true → (a && b) ≡ true
 passes_both true b h q = q
 passes_both false b h q = cc
+
+pub either_passes : (a b : Bool) → b ≡ true → (a || b) ≡ true
+either_passes true b e = refl
+either_passes false b e = e
+
+-- one of them passes
+pub either_is : {P : Type 0} (a b : Bool) → (a || b) ≡ true → (a ≡ true → P) → (b ≡ true → P) → P
+either_is true b e one other = one refl
+either_is false b e one other = other e
 
 -- where the one fails, both do
 pub first_fails : (a b : Bool) → a ≡ false → (a && b) ≡ false

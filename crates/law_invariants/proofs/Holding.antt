@@ -33,7 +33,7 @@ none_hold (i ∷ is) table code x apart =
 
 -- The tablets of a table end
 
-early : (x n : ℕ) (to : Option ℕ) → x < n → before_end x (ended n to) ≡ before_end x to
+pub early : (x n : ℕ) (to : Option ℕ) → x < n → before_end x (ended n to) ≡ before_end x to
 early x n None l = lt-ltb x n l
 early x n (Some e) l = refl
 

@@ -1,4 +1,5 @@
 pub mod Finding
+pub mod Remembering
 pub mod Ticking
 pub mod Frame
 pub mod Rewriting
@@ -8,8 +9,18 @@ pub mod Journaling
 pub mod Covering
 pub mod Names
 pub mod Columns
+pub mod Rising
 pub mod Records
 pub mod Looking
 pub mod Tables
+pub mod Marks
 pub mod Cataloguing
 pub mod Placing
+pub mod Operating
+pub mod Ordering
+pub mod Lasting
+pub mod Working
+pub mod Undoing
+pub mod Hearing
+pub mod Awaits
+pub mod Marked

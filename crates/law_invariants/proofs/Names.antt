@@ -20,17 +20,17 @@ has_name name r = is_open r.to && bytes_eq r.name name
 abbrev pub is_namespace : Id → NamespaceRecord → Bool
 is_namespace id r = is_open r.to && same r.id id
 
-abbrev id_of : Option NamespaceRecord → Option Id
+abbrev pub id_of : Option NamespaceRecord → Option Id
 id_of found = option_map {T = NamespaceRecord} (λ r. r.id) found
 
-abbrev title_of : Option NamespaceRecord → Option (List ℕ)
+abbrev pub title_of : Option NamespaceRecord → Option (List ℕ)
 title_of found = option_map {T = NamespaceRecord} (λ r. r.name) found
 
-named_found : (rs : List NamespaceRecord) (name : List ℕ) → namespace_named rs name ≡ id_of (find (has_name name) rs)
+pub named_found : (rs : List NamespaceRecord) (name : List ℕ) → namespace_named rs name ≡ id_of (find (has_name name) rs)
 named_found [] name = refl
 named_found (r ∷ rs) name = either_way (has_name name r) (λ t. rw t refl) (λ n. rw n (named_found rs name))
 
-name_found : (rs : List NamespaceRecord) (id : Id) → name_of rs id ≡ title_of (find (is_namespace id) rs)
+pub name_found : (rs : List NamespaceRecord) (id : Id) → name_of rs id ≡ title_of (find (is_namespace id) rs)
 name_found [] id = refl
 name_found (r ∷ rs) id = either_way (is_namespace id r) (λ t. rw t refl) (λ n. rw n (name_found rs id))
 

@@ -1,5 +1,5 @@
 -- Two tablets of a table never have one code at one time: where one is open, the other's interval ended before it began.
-use Rattle.std.proofs.Common.{ℕ, ◌≡◌, ◌≢◌, ◌≤◌, ◌<◌, ◌+◌, ◌*◌, ◌%◌, max, List, [], ◌∷◌, Option, Some, None, Bool, true, ◌&&◌, inl, inr, refl, sym, ap, ◌∙◌, arith, ltb-true, le-leb, fold}
+use Rattle.std.proofs.Common.{ℕ, ◌≡◌, ◌≢◌, ◌≤◌, ◌<◌, ◌+◌, ◌*◌, ◌%◌, max, List, [], ◌∷◌, Option, Some, None, Bool, true, cond, ◌&&◌, inl, inr, refl, sym, ap, ◌∙◌, arith, ltb-true, le-leb, fold}
 use Rattle.std.proofs.lemmas.Bool.Decides.{nat_tests}
 use Rattle.row_values.specs.Codes.{code_of, code_step}
 use Rattle.model.specs.Ids.{Id, In, same}
@@ -7,6 +7,7 @@ use Rattle.model.specs.Times.{before_end}
 use Rattle.model.specs.Store.{in_range}
 use Rattle.model.specs.Activity.{Interval, active_at}
 use Rattle.model.specs.Stands.{holders}
+use Rattle.law_store.proofs.Keys.{either_way}
 use Rattle.law_invariants.specs.Invariant.{OverBy}
 use Rattle.law_invariants.proofs.Finding.{passes_both}
 
@@ -14,7 +15,7 @@ use Rattle.law_invariants.proofs.Finding.{passes_both}
 abbrev pub holds : Interval → Id → ℕ → ℕ → Bool
 holds i table c x = same i.table table && (active_at x i && in_range i.low i.high c)
 
-one_holder : (is : List Interval) (i : Interval) (table : Id) (c x : ℕ) → In i is → holds i table c x ≡ true → 1 ≤ holders is table c x
+pub one_holder : (is : List Interval) (i : Interval) (table : Id) (c x : ℕ) → In i is → holds i table c x ≡ true → 1 ≤ holders is table c x
 one_holder [] i table c x isin h = absurd isin
 one_holder (j ∷ js) i table c x (inl e) h = let k : holds j table c x ≡ true = ap (λ y. holds y table c x) e ∙ h in rw k (omega arith)
 one_holder (j ∷ js) i table c x (inr isin) h = let rest = one_holder js i table c x isin h in omega arith
@@ -30,6 +31,31 @@ two_holders (k ∷ ks) i j table c x (inr ini) (inl f) apart hi hj =
     let rest = one_holder ks i table c x ini hi in rw here (omega arith)
 two_holders (k ∷ ks) i j table c x (inr ini) (inr inj) apart hi hj =
     let rest = two_holders ks i j table c x ini inj apart hi hj in omega arith
+
+-- a code that is held has a holder
+pub holder_there : (is : List Interval) (table : Id) (c x : ℕ) → 1 ≤ holders is table c x → (i : Interval) × (In i is × (holds i table c x ≡ true))
+holder_there [] table c x some = absurd (omega (arith, some))
+holder_there (i ∷ is) table c x some = either_way (holds i table c x)
+    (λ e. (i, (inl refl, e)))
+    (λ e. let all : 1 ≤ cond (holds i table c x) 1 0 + holders is table c x = some in
+    let rest : 1 ≤ 0 + holders is table c x = rw e at all in
+    let r = holder_there is table c x (omega (arith, rest)) in (r.0, (inr r.1.0, r.1.1)))
+
+-- where at most one holds the code, two that hold it are one
+pub same_holder : (is : List Interval) (i j : Interval) (table : Id) (c x : ℕ) → holders is table c x ≤ 1 → In i is → In j is → holds i table c x ≡ true → holds j table c x ≡ true → i ≡ j
+same_holder [] i j table c x le ini inj hi hj = absurd ini
+same_holder (k ∷ ks) i j table c x le (inl e) (inl f) hi hj = sym e ∙ f
+same_holder (k ∷ ks) i j table c x le (inl e) (inr inj) hi hj =
+    let here : holds k table c x ≡ true = ap (λ y. holds y table c x) e ∙ hi in
+    let rest = one_holder ks j table c x inj hj in
+    let both : cond (holds k table c x) 1 0 + holders ks table c x ≤ 1 = le in
+    let clash : 1 + holders ks table c x ≤ 1 = rw here at both in absurd (omega (arith, rest, clash))
+same_holder (k ∷ ks) i j table c x le (inr ini) (inl f) hi hj =
+    let here : holds k table c x ≡ true = ap (λ y. holds y table c x) f ∙ hj in
+    let rest = one_holder ks i table c x ini hi in
+    let both : cond (holds k table c x) 1 0 + holders ks table c x ≤ 1 = le in
+    let clash : 1 + holders ks table c x ≤ 1 = rw here at both in absurd (omega (arith, rest, clash))
+same_holder (k ∷ ks) i j table c x le (inr ini) (inr inj) hi hj = same_holder ks i j table c x (let all : cond (holds k table c x) 1 0 + holders ks table c x ≤ 1 = le in omega arith) ini inj hi hj
 
 code_small : (key : List ℕ) (h : ℕ) → h < 65536 → fold code_step h key < 65536
 code_small [] h l = l

@@ -18,7 +18,8 @@ use Rattle.model.specs.Looks as looks
 use Rattle.model.specs.Looks.{look_keys, look_table, table_asked, known, the_table, batch_fault, holding, first_code, other_code, code_outside, place_of, active_in}
 use Rattle.model.specs.Right.{TableFound, IsActivePlace, PlacesRight, LookPlacesRight, holds_keys}
 use Rattle.law_store.proofs.Keys.{either_way}
-use Rattle.law_invariants.specs.Invariant.{MasterGood, Inv, IsPast, EndsBy}
+use Rattle.law_invariants.specs.Remembered.{Remembered}
+use Rattle.law_invariants.specs.Invariant.{MasterGood, Covered, Inv, IsPast, EndsBy}
 use Rattle.law_invariants.proofs.Finding.{both_pass, passes_both, same_equal, same_self, map_in, in_mapped, find_is, find_none, some_is, not_some_is}
 use Rattle.law_invariants.proofs.Overlap.{two_holders, holds, code_below}
 use Rattle.law_invariants.proofs.Looking.{IsAsked, asked, view_found, table_found, asked_kept, step}
@@ -79,8 +80,8 @@ not_ended (Some e) from time n less ends before = absurd (let b : n < e = ltb-tr
 abbrev pub AllPast : Master → Type 0
 AllPast m = (i : Interval) → In i m.activity → IsPast m.clock i.from i.to
 
-pub all_past : (ps : Parts) (changes : List Change) → Inv ps changes → AllPast ps.master
-all_past ps changes inv = λ i isin. ((inv.slots i.slot).each i isin refl).past
+pub all_past : (ps : Parts) (activity : List Interval) (changes : List Change) → Inv ps activity changes → AllPast ps.master
+all_past ps activity changes inv = λ i isin. ((inv.slots i.slot).each i isin refl).past
 
 pub active_has : (m : Master) (n : ℕ) (table : Id) (i : Interval) → m.clock < n → AllPast m → In i m.activity → i.table ≡ table → active_at n i ≡ true → In i (active_in m table)
 active_has m n table i less past isin is active =
@@ -140,8 +141,8 @@ table_places m n changes namespace table at less good past =
 abbrev pub AlikeBySlot : Master → Type 0
 AlikeBySlot m = (i j : Interval) → In i m.activity → In j m.activity → i.slot ≡ j.slot → place_of i ≡ place_of j
 
-pub alike : (ps : Parts) (changes : List Change) → Inv ps changes → AlikeBySlot ps.master
-alike ps changes inv = λ i j ini inj e.
+pub alike : (ps : Parts) (activity : List Interval) (changes : List Change) → Inv ps activity changes → AlikeBySlot ps.master
+alike ps activity changes inv = λ i j ini inj e.
     let g = (inv.slots i.slot).each i ini refl in
     let k = (inv.slots i.slot).each j inj (sym e) in
     let tablets : i.tablet ≡ j.tablet = sym g.tablet_is ∙ k.tablet_is in
@@ -163,17 +164,17 @@ first_below : (batch : List NamedItem) → first_code batch < 65536
 first_below [] = omega arith
 first_below (item ∷ items) = code_below item.key
 
-one_home : (home : Option Interval) (m : Master) (n : ℕ) (changes : List Change) (namespace table : List ℕ) (x : ℕ) (batch : List NamedItem) (id : Id) (f : TableFound changes x n namespace table) → f.id ≡ id
-    → m.clock < n → MasterGood m changes → AllPast m → AlikeBySlot m → 1 ≤ length batch → holding m id (first_code batch) ≡ home → other_code home batch ≡ None
+one_home : (home : Option Interval) (m : Master) (n : ℕ) (activity : List Interval) (changes : List Change) (namespace table : List ℕ) (x : ℕ) (batch : List NamedItem) (id : Id) (f : TableFound changes x n namespace table) → f.id ≡ id
+    → m.clock < n → Remembered m activity → Covered activity changes → AllPast m → AlikeBySlot m → 1 ≤ length batch → holding m id (first_code batch) ≡ home → other_code home batch ≡ None
     → PlacesRight changes x n namespace table batch m.activity (map place_of (option_to_list home))
-one_home None m n changes namespace table x batch id f is less good past same_place some e none = record {
+one_home None m n activity changes namespace table x batch id f is less remembered cover past same_place some e none = record {
   found = f;
   each = λ place isin. absurd isin;
   all = λ i isin table_is active held.
       absurd (true≢false (sym (first_held batch i some held)
       ∙ find_none (λ i. in_range i.low i.high (first_code batch)) (active_in m id) e i (active_has m n id i less past isin (table_is ∙ is) active)));
 }
-one_home (Some h) m n changes namespace table x batch id f is less good past same_place some e none =
+one_home (Some h) m n activity changes namespace table x batch id f is less remembered cover past same_place some e none =
     let at_home = find_is (λ i. in_range i.low i.high (first_code batch)) (active_in m id) h e in
     let a = active_only m n id h less past at_home.listed in
     record {
@@ -187,14 +188,14 @@ one_home (Some h) m n changes namespace table x batch id f is less good past sam
           (λ s. absurd (
           let hh : holds h id (first_code batch) n ≡ true = passes_both _ _ (subst (λ k. same h.table k ≡ true) a.1.0 (same_self h.table)) (passes_both _ _ a.1.1 at_home.passes) in
           let hi : holds i id (first_code batch) n ≡ true = passes_both _ _ (subst (λ k. same i.table k ≡ true) (table_is ∙ is) (same_self i.table)) (passes_both _ _ active (first_held batch i some held)) in
-          let two = two_holders m.activity h i id (first_code batch) n a.0 isin (λ k. let q : eqb h.slot i.slot ≡ true = grind (arith, nat_tests) in true≢false (sym q ∙ s)) hh hi in
-          let one = good.cover.once id (first_code batch) n (first_below batch) in omega arith)));
+          let two = two_holders activity h i id (first_code batch) n (remembered.kept h a.0) (remembered.kept i isin) (λ k. let q : eqb h.slot i.slot ≡ true = grind (arith, nat_tests) in true≢false (sym q ∙ s)) hh hi in
+          let one = cover.once id (first_code batch) n (first_below batch) in omega arith)));
     }
 
-pub keys_places : (ps : Parts) (n : ℕ) (changes : List Change) (namespace table : List ℕ) (batch : List NamedItem) (at : Option ℕ) → ps.master.clock < n → Inv ps changes → 1 ≤ length batch
+pub keys_places : (ps : Parts) (n : ℕ) (activity : List Interval) (changes : List Change) (namespace table : List ℕ) (batch : List NamedItem) (at : Option ℕ) → ps.master.clock < n → Inv ps activity changes → 1 ≤ length batch
     → LookPlacesRight (look_keys namespace table batch at n ps.master).reply changes (time_of at n) n namespace table batch ps.master.activity
 unfolding look_keys
-keys_places ps n changes namespace table batch at less inv some =
+keys_places ps n activity changes namespace table batch at less inv some =
     let m = ps.master in
     let t = the_table (table_asked m.catalog.tables (known (namespace_named m.catalog.namespaces namespace)) table at) in
     let fault = batch_fault t.schema.columns batch in
@@ -206,4 +207,4 @@ keys_places ps n changes namespace table batch at less inv some =
     places_opening m n changes namespace table at batch (If (is_some fault) (unwrap_or fault UnknownColumn) ∷ last) o (asked m n changes less inv.master)
     (λ f is. step P (is_some fault) (unwrap_or fault UnknownColumn) last o (λ _. tt)
     (λ _. step P (is_some other) (CrossTablet (first_code batch) (unwrap_or other 0)) [] o (λ _. tt)
-    (λ none. one_home home m n changes namespace table (time_of at n) batch t.id f is less inv.master (all_past ps changes inv) (alike ps changes inv) some refl (not_some_is other none))))
+    (λ none. one_home home m n activity changes namespace table (time_of at n) batch t.id f is less inv.remembered inv.cover (all_past ps activity changes inv) (alike ps activity changes inv) some refl (not_some_is other none))))

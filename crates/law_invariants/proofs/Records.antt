@@ -249,6 +249,12 @@ kept_rises (q ∷ qs) ns from k = either_way (same q.namespace ns)
     rw t (either_way (same ns k) (λ s. rw (alike ∙ s) (rw s (omega arith))) (λ s. rw (alike ∙ s) (rw s (le_refl _)))))
     (λ n. rw n (either_way (same q.namespace k) (λ s. rw s (le_refl _)) (λ s. rw s (kept_rises qs ns from k))))
 
+pub kept_beside : (ks : List KeptFrom) (ns : Id) (from : ℕ) (k : Id) → same ns k ≡ false → kept_from (set_kept_from ks ns from) k ≡ kept_from ks k
+kept_beside [] ns from k apart = rw apart refl
+kept_beside (q ∷ qs) ns from k apart = either_way (same q.namespace ns)
+    (λ e. let far : same q.namespace k ≡ false = ap (λ i. same i k) (same_equal q.namespace ns e) ∙ apart in rw (e, apart, far) refl)
+    (λ e. rw e (ap (cond (same q.namespace k) q.from) (kept_beside qs ns from k apart)))
+
 pub kept_by : (ks : List KeptFrom) (ns : Id) (from time : ℕ) (k : Id) → kept_from ks k ≤ time → from ≤ time → kept_from (set_kept_from ks ns from) k ≤ time
 kept_by [] ns from time k le l = either_way (same ns k) (λ s. rw s l) (λ s. rw s (omega arith))
 kept_by (q ∷ qs) ns from time k le l = either_way (same q.namespace ns)

@@ -1,10 +1,11 @@
 -- A tablet's versions give way to others that read the same from a later cutoff on.
 use Rattle.std.proofs.Common.{ℕ, ◌≡◌, ◌≤◌, ◌+◌, List, ◌∙◌, le_trans, lt_of_lt_of_le}
-use Rattle.model.specs.Store.{Version, Below, read_of}
+use Rattle.model.specs.Store.{Version, Below, in_range, read_of}
 use Rattle.model.specs.Journal.{Change}
 use Rattle.model.specs.Tablets.{Tablet}
 use Rattle.model.specs.Parts.{Master}
-use Rattle.law_store.specs.Sorted.{Sorted}
+use Rattle.law_store.specs.Sorted.{Sorted, EachKey}
+use Rattle.row_values.specs.Codes.{code_of}
 use Rattle.law_invariants.specs.Invariant.{SlotGood}
 use Rattle.law_invariants.proofs.Ticking.{over_later}
 
@@ -13,10 +14,10 @@ abbrev pub rewritten : Tablet → ℕ → List Version → ℕ → Tablet
 rewritten t n vs c = record t { clock = n; versions = vs; cutoff = c }
 
 pub rewriting_keeps : (m : Master) (n : ℕ) (changes : List Change) (slot : ℕ) (t : Tablet) (vs : List Version) (c : ℕ) → t.clock ≤ n → t.cutoff ≤ c → c ≤ n
-    → Sorted vs → Below (n + 1) vs → ((key : List ℕ) (x : ℕ) → c ≤ x → read_of vs key x ≡ read_of t.versions key x)
+    → Sorted vs → Below (n + 1) vs → EachKey (λ key. in_range t.low t.high (code_of key)) vs → ((key : List ℕ) (x : ℕ) → c ≤ x → read_of vs key x ≡ read_of t.versions key x)
     → SlotGood m changes slot t → SlotGood m changes slot (rewritten t n vs c)
-rewriting_keeps m n changes slot t vs c le up within sorted below same h = record {
-  good = record { sorted = sorted; below = below; cutoff = within; set_past = λ f held. lt_of_lt_of_le (h.good.set_past f held) le };
+rewriting_keeps m n changes slot t vs c le up within sorted below keys same h = record {
+  good = record { sorted = sorted; below = below; cutoff = within; keys = keys; set_past = λ f held. lt_of_lt_of_le (h.good.set_past f held) le; set_sorted = h.good.set_sorted; set_keys = h.good.set_keys };
   home = h.home;
   numbered = h.numbered;
   each = λ i isin is. let g = h.each i isin is in record {
@@ -33,6 +34,9 @@ rewriting_keeps m n changes slot t vs c le up within sorted below same h = recor
     high_is = g.high_is;
     viewed = g.viewed;
     waits = g.waits;
+    comes = g.comes;
+    serves = g.serves;
+    hidden = g.hidden;
     stands = λ counted key x ranged cut before there. same key x cut ∙ g.stands counted key x ranged (le_trans up cut) before there;
     sets = g.sets;
   };

@@ -7,7 +7,7 @@ use Rattle.std.proofs.lemmas.Bool.Decides.{nat_tests}
 use Rattle.std.specs.Str.{bytes_eq}
 use Rattle.row_values.specs.declared.value.Item.{Item}
 use Rattle.model.specs.Ids.{Id, same, In}
-use Rattle.model.specs.Times.{is_open, holds_at}
+use Rattle.model.specs.Times.{is_open, holds_at, ended_by}
 use Rattle.model.specs.Schema as schema
 use Rattle.model.specs.Schema.{Schema, Column, ColumnKind, NewColumn, column_named, first_schema}
 use Rattle.model.specs.Catalog.{Catalog, NamespaceRecord, TableRecord, KeptFrom, Owner, table_named, current_named, end_table, change_table, owner_of, kept_from, set_kept_from}
@@ -17,6 +17,7 @@ use Rattle.model.specs.Entries.{NamesDiffer}
 use Rattle.model.specs.History.{rows_made}
 use Rattle.law_store.proofs.Keys.{either_way, equal_keys, key_self}
 use Rattle.law_invariants.specs.Invariant.{IsPast, view_of, view_at, ColumnsStand, NamespacesStand, TablesStand}
+use Rattle.law_invariants.proofs.Rising.{rise_ended, rise_added, rise_top, rise_over}
 use Rattle.law_invariants.proofs.Finding.{both_pass, passes_both, first_fails, second_fails, not_passing, none_or_some, same_equal, same_self, not_same, in_added, in_mapped, none_found}
 use Rattle.law_invariants.proofs.Names.{names_kept}
 use Rattle.law_invariants.proofs.Columns.{columns_made, columns_added, columns_dropped, dropped_alike}
@@ -73,6 +74,7 @@ tables_kept c namespaces marks time drawn m more change changes le further leave
   unique = h.unique;
   found = h.found;
   columns = h.columns;
+  rise = h.rise;
   viewed = λ id ns x owned kept. tables_stay change changes x id leaves ∙ h.viewed id ns x owned (le_trans (rises ns) kept);
   unmade = λ id x none. tables_stay change changes x id leaves ∙ h.unmade id x none;
   inside = λ id x v there. h.inside id x v (sym (tables_stay change changes x id leaves) ∙ there);
@@ -109,6 +111,7 @@ tables_reserved c os time drawn m more changes le further by h =
       unique = h.unique;
       found = h.found;
       columns = h.columns;
+      rise = h.rise;
       viewed = λ id ns x owned kept. none_or_some (owner_of c.owners id)
           (λ none. h.unmade id x none ∙ none_or_some (record_at c.tables id x)
           (λ gone. sym (ap (option_map view_of) gone))
@@ -189,6 +192,7 @@ tables_made c time drawn n id ns name columns changes le fresh free differ h =
           (λ s isin holds. record_first c.tables (r ∷ []) s.id x s (h.found x s isin holds))
           (λ holds. here x (held_from x n holds));
       columns = in_added (λ s. ColumnsStand s.schema) c.tables r h.columns (columns_made columns differ);
+      rise = rise_added c.tables r (λ s isin e. absurd (let b = h.drawn_before s isin in let q : id.number ≡ s.id.number = ap (λ i. i.number) e in omega arith)) h.rise;
       viewed = λ k k_ns x owned kept. either_way (same id k)
           (λ t. let is : id ≡ k = same_equal id k t in
           let P : Id → Type 0 = λ j. table_at (change ∷ changes) x j ≡ view_at (c.tables ++ r ∷ []) x j in
@@ -227,6 +231,7 @@ tables_dropped c time drawn n id changes le h =
       found = λ x. in_mapped (end_one id n) (λ s. holds_at x s.from s.to ≡ true → record_at rs s.id x ≡ Some s) c.tables
           (λ s isin holds. record_ended c.tables id n s.id x s (h.found x s isin (end_held (same s.id id) x n s.from s.to holds)) holds);
       columns = in_mapped (end_one id n) (λ s. ColumnsStand s.schema) c.tables h.columns;
+      rise = rise_ended c.tables id n h.rise;
       viewed = λ k ns x owned kept. table_ways x n
           (λ before. table_before change changes x k before ∙ h.viewed k ns x owned kept ∙ sym (view_before c.tables id n k x before))
           (λ since. table_since change changes x k since ∙ either_way (same id k)
@@ -256,9 +261,9 @@ turn_inside d (Some v) w e = (v, (refl, d.inside v w e))
 
 -- a current table goes on under another name and schema; of the current tables it alone may have had the name
 pub tables_changed : (c : Catalog) (time drawn n : ℕ) (t : TableRecord) (name : List ℕ) (s : Schema) (act : ChangeAct) (changes : List Change) → time ≤ n → In t c.tables → is_open t.to ≡ true
-    → ((r : TableRecord) → current_named c.tables t.namespace name ≡ Some r → r.id ≡ t.id) → ColumnsStand s → IsTableChange act t name s.columns
+    → ((r : TableRecord) → current_named c.tables t.namespace name ≡ Some r → r.id ≡ t.id) → ColumnsStand s → t.schema.next ≤ s.next → IsTableChange act t name s.columns
     → TablesStand c time drawn changes → TablesStand (record c { tables = change_table t name s n c.tables }) n drawn (record { stamp = n; act = act } ∷ changes)
-tables_changed c time drawn n t name s act changes le isin current alone stand d h =
+tables_changed c time drawn n t name s act changes le isin current alone stand further d h =
     let change : Change = record { stamp = n; act = act } in
     let id = t.id in
     let ended = end_table id n c.tables in
@@ -300,6 +305,8 @@ tables_changed c time drawn n t name s act changes le isin current alone stand d
           (record_ended c.tables id n r.id x r (h.found x r r_in (end_held (same r.id id) x n r.from r.to holds)) holds)))
           (λ holds. here x (held_from x n holds));
       columns = in_added (λ r. ColumnsStand r.schema) ended new (in_mapped (end_one id n) (λ r. ColumnsStand r.schema) c.tables h.columns) stand;
+      rise = rise_added ended new (in_mapped (end_one id n) (λ r. id ≡ r.id → (r.schema.next ≤ s.next) × (ended_by n r.to ≡ true)) c.tables
+          (λ r r_in e. (le_trans (rise_top c.tables t r h.rise isin current r_in (sym e)) further, rise_over r id time n (sym e) (h.past r r_in) le))) (rise_ended c.tables id n h.rise);
       viewed = λ k ns x owned kept. table_ways x n
           (λ before. table_before change changes x k before ∙ h.viewed k ns x owned kept
           ∙ sym (ap (option_map view_of) (record_beside ended new k x (first_fails (holds_at x n None) (same id k) (begun_not x n before))) ∙ view_before c.tables id n k x before))
@@ -333,7 +340,7 @@ pub tables_column_added : (c : Catalog) (time drawn n : ℕ) (t : TableRecord) (
 tables_column_added c time drawn n t name kind changes le isin current free h =
     let column : Column = record { id = t.schema.next; name = name; kind = kind } in
     tables_changed c time drawn n t t.name (schema.with_column name kind t.schema) (ColumnAdded t.id column) changes le isin current
-    (alone_named c time drawn t changes isin current h) (columns_added name kind t.schema free (h.columns t isin))
+    (alone_named c time drawn t changes isin current h) (columns_added name kind t.schema free (h.columns t isin)) (omega arith)
     (record { turn = with_column column; after = λ k before then_. refl; turned = refl; none = refl; inside = λ v w e. let q : record v { columns = v.columns ++ column ∷ [] } ≡ w = cc in sym (ap (λ u. u.namespace) q) }) h
 
 pub tables_column_dropped : (c : Catalog) (time drawn n : ℕ) (t : TableRecord) (name : List ℕ) (column : Column) (changes : List Change) → time ≤ n → In t c.tables → is_open t.to ≡ true
@@ -342,7 +349,7 @@ pub tables_column_dropped : (c : Catalog) (time drawn n : ℕ) (t : TableRecord)
 tables_column_dropped c time drawn n t name column changes le isin current found h =
     let view : List Column → Option TableView = λ columns. Some (record (view_of t) { columns = columns }) in
     tables_changed c time drawn n t t.name (schema.without_column name t.schema) (ColumnDropped t.id column.id) changes le isin current
-    (alone_named c time drawn t changes isin current h) (columns_dropped name t.schema (h.columns t isin))
+    (alone_named c time drawn t changes isin current h) (columns_dropped name t.schema (h.columns t isin)) (le_refl _)
     (record {
       turn = without_column column.id;
       after = λ k before then_. refl;
@@ -356,5 +363,5 @@ pub tables_renamed : (c : Catalog) (time drawn n : ℕ) (t : TableRecord) (name 
     → TablesStand (record c { tables = change_table t name t.schema n c.tables }) n drawn (record { stamp = n; act = TableRenamed t.id name } ∷ changes)
 tables_renamed c time drawn n t name changes le isin current free h =
     tables_changed c time drawn n t name t.schema (TableRenamed t.id name) changes le isin current
-    (λ r e. let q : None ≡ Some r = sym free ∙ e in cc) (h.columns t isin)
+    (λ r e. let q : None ≡ Some r = sym free ∙ e in cc) (h.columns t isin) (le_refl _)
     (record { turn = renamed name; after = λ k before then_. refl; turned = refl; none = refl; inside = λ v w e. let q : record v { name = name } ≡ w = cc in sym (ap (λ u. u.namespace) q) }) h

@@ -11,7 +11,12 @@ use Rattle.model.specs.Acts.{Act, Reply, Refused, Refusal}
 use Rattle.model.specs.Parts.{Master, Parts, Check, If, Outcome, judged, refused, answered}
 use Rattle.model.specs.Entries.{slots_of, clock_at}
 use Rattle.model.specs.History.{told, with_changes, ReplyRight}
-use Rattle.law_invariants.specs.Invariant.{EndsBy, OverBy, IsPast, NamespacesStand, TablesStand, IsGood, SlotGood, MasterGood, Inv, Keeps, Later, Passes}
+use Rattle.law_invariants.specs.Remembered.{activity_after, Remembered}
+use Rattle.law_invariants.specs.Invariant.{EndsBy, OverBy, IsPast, NamespacesStand, TablesStand, IsGood, SlotGood, Covered, MasterGood, Inv, Keeps, Later, Passes}
+use Rattle.law_invariants.proofs.Remembering.{activity_stays, remembered_ticked_if}
+use Rattle.law_invariants.proofs.Hearing.{clocks_rise, rows_ticked_if}
+use Rattle.law_invariants.proofs.Undoing.{journal_ticked_if}
+use Rattle.law_invariants.proofs.Working.{tables_drawn, all_listed, operations_ticked_if, works_ticked_if, work_later_if}
 
 pub ends_later : (to : Option ℕ) (from m n : ℕ) → m ≤ n → EndsBy m from to → EndsBy n from to
 ends_later None from m n le h = tt
@@ -46,6 +51,7 @@ tables_later c m n drawn changes le h = record {
   unique = h.unique;
   found = h.found;
   columns = h.columns;
+  rise = h.rise;
   viewed = h.viewed;
   unmade = h.unmade;
   inside = h.inside;
@@ -57,7 +63,7 @@ pub master_ticked : (m : Master) (n : ℕ) (changes : List Change) → m.clock �
 master_ticked m n changes le h = record {
   namespaces = namespaces_later m.catalog.namespaces m.clock n m.drawn.namespaces changes le h.namespaces;
   tables = tables_later m.catalog m.clock n m.drawn.tables changes le h.tables;
-  cover = h.cover;
+  marks = h.marks;
   past = λ ns to is. le_trans (h.past ns to is) le;
   complete = λ s isin. le_trans (h.complete s isin) le;
   listed = h.listed;
@@ -79,6 +85,9 @@ good_ticked m n changes t i le h = record {
   high_is = h.high_is;
   viewed = h.viewed;
   waits = h.waits;
+  comes = h.comes;
+  serves = h.serves;
+  hidden = h.hidden;
   stands = h.stands;
   sets = h.sets;
 }
@@ -109,7 +118,10 @@ tablet_ticked m n changes slot t le h = record {
     sorted = h.good.sorted;
     below = below_later t.versions (t.clock + 1) (n + 1) (omega arith) h.good.below;
     cutoff = le_trans h.good.cutoff le;
+    keys = h.good.keys;
     set_past = λ f held. lt_of_lt_of_le (h.good.set_past f held) le;
+    set_sorted = h.good.set_sorted;
+    set_keys = h.good.set_keys;
   };
   home = h.home;
   numbered = h.numbered;
@@ -127,6 +139,9 @@ tablet_ticked m n changes slot t le h = record {
     high_is = g.high_is;
     viewed = g.viewed;
     waits = g.waits;
+    comes = g.comes;
+    serves = g.serves;
+    hidden = g.hidden;
     stands = g.stands;
     sets = g.sets;
   };
@@ -179,29 +194,37 @@ pub master_before : (slots : List ℕ) (ps : Parts) (n : ℕ) → Later slots ps
 master_before slots ps n later e = le_of_lt (later 0 e)
 
 -- an act that tells the parts nothing keeps what holds
-pub nothing_told : (act : Act) (reply : Reply) (n : ℕ) (ps : Parts) (changes : List Change) → Later (slots_of act) ps n → Inv ps changes → Inv (told act (answered reply) n ps) changes
-nothing_told act reply n ps changes later inv = record {
+pub nothing_told : (act : Act) (reply : Reply) (n : ℕ) (ps : Parts) (activity : List Interval) (changes : List Change) → Later (slots_of act) ps n → Inv ps activity changes → Inv (told act (answered reply) n ps) (activity_after act (answered reply) n ps activity) changes
+nothing_told act reply n ps activity changes later inv = let is = sym (activity_stays act [] reply n ps activity) in record {
   master = master_ticked_if (has (slots_of act) 0) ps.master n changes (master_before (slots_of act) ps n later) inv.master;
+  remembered = subst (Remembered (told act (answered reply) n ps).master) is (remembered_ticked_if (has (slots_of act) 0) ps.master n activity (master_before (slots_of act) ps n later) inv.remembered);
+  cover = subst (λ is. Covered is changes) is inv.cover;
+  operations = operations_ticked_if (has (slots_of act) 0) ps.master n changes (master_before (slots_of act) ps n later) (tables_drawn ps.master activity inv.remembered) (all_listed ps.master changes inv.master) inv.operations;
+  journal = journal_ticked_if (has (slots_of act) 0) ps.master n changes inv.journal;
+  rows_past = rows_ticked_if (has (slots_of act) 0) ps.master n changes ps.tablet (told act (answered reply) n ps).tablet (master_before (slots_of act) ps n later)
+      (clocks_rise act (answered reply) n ps (λ slot e. tablet_before (slots_of act) ps n slot later e)) inv.rows_past;
+  works = λ slot. works_ticked_if (has (slots_of act) 0) ps.master n changes slot _ (master_before (slots_of act) ps n later) (tables_drawn ps.master activity inv.remembered) inv.operations
+      (work_later_if ps.master n changes slot (has (slots_of act) slot && not (eqb slot 0)) (ps.tablet slot) (tablet_before (slots_of act) ps n slot later) (inv.works slot));
   slots = λ slot. slot_ticked_if (has (slots_of act) 0) ps.master n changes slot _ (master_before (slots_of act) ps n later)
       (slots_ticked ps.master n changes slot (has (slots_of act) slot && not (eqb slot 0)) (ps.tablet slot) (tablet_before (slots_of act) ps n slot later) (inv.slots slot));
   late = inv.late;
 }
 
+-- what is to be shown of an act's outcome
+abbrev pub KeepsAll : Act → ℕ → Parts → List Interval → List Change → Outcome → Type 0
+KeepsAll act n ps activity changes o = Keeps act o.reply n ps (told act o n ps) (activity_after act o n ps activity) changes
+
 -- an act that is refused keeps what holds, where its reply says nothing more
-pub refused_keeps : (act : Act) (why : Refusal) (n : ℕ) (ps : Parts) (changes : List Change) → Later (slots_of act) ps n → Inv ps changes
-    → ReplyRight act (Refused why) n ps changes → with_changes act (Refused why) n ps changes ≡ changes → Keeps act (Refused why) n ps (told act (refused why) n ps) changes
-refused_keeps act why n ps changes later inv right same_ = record {
+pub refused_keeps : (act : Act) (why : Refusal) (n : ℕ) (ps : Parts) (activity : List Interval) (changes : List Change) → Later (slots_of act) ps n → Inv ps activity changes
+    → ReplyRight act (Refused why) n ps changes → with_changes act (Refused why) n ps changes ≡ changes → KeepsAll act n ps activity changes (refused why)
+refused_keeps act why n ps activity changes later inv right same_ = record {
   right = right;
-  inv = subst (Inv (told act (refused why) n ps)) (sym same_) (nothing_told act (Refused why) n ps changes later inv);
+  inv = subst (Inv (told act (refused why) n ps) (activity_after act (refused why) n ps activity)) (sym same_) (nothing_told act (Refused why) n ps activity changes later inv);
 }
 
--- what is to be shown of an act's outcome
-abbrev pub KeepsAll : Act → ℕ → Parts → List Change → Outcome → Type 0
-KeepsAll act n ps changes o = Keeps act o.reply n ps (told act o n ps) changes
-
 -- an act keeps what holds where each refusal does, and the outcome where none comes
-pub by_checks : (act : Act) (n : ℕ) (ps : Parts) (changes : List Change) (checks : List Check) (o : Outcome)
-    → ((why : Refusal) → KeepsAll act n ps changes (refused why)) → (Passes checks → KeepsAll act n ps changes o) → KeepsAll act n ps changes (judged checks o)
-by_checks act n ps changes [] o no_ go = go tt
-by_checks act n ps changes (If false why ∷ checks) o no_ go = by_checks act n ps changes checks o no_ (λ p. go (refl, p))
-by_checks act n ps changes (If true why ∷ checks) o no_ go = no_ why
+pub by_checks : (act : Act) (n : ℕ) (ps : Parts) (activity : List Interval) (changes : List Change) (checks : List Check) (o : Outcome)
+    → ((why : Refusal) → KeepsAll act n ps activity changes (refused why)) → (Passes checks → KeepsAll act n ps activity changes o) → KeepsAll act n ps activity changes (judged checks o)
+by_checks act n ps activity changes [] o no_ go = go tt
+by_checks act n ps activity changes (If false why ∷ checks) o no_ go = by_checks act n ps activity changes checks o no_ (λ p. go (refl, p))
+by_checks act n ps activity changes (If true why ∷ checks) o no_ go = no_ why

@@ -1,18 +1,19 @@
 -- What holds of the parts and the journal after each entry of a legal history.
 use Rattle.std.specs.Prelude.{◌≡◌, ℕ, ◌≤◌, ◌<◌, ◌+◌, Bool, true, false, List, [], ◌∷◌, Option, Some, None, ◌==◌, ◌&&◌, option_map}
+use Rattle.std.specs.List.{list_any}
 use Rattle.std.specs.Option.{is_some}
 use Rattle.std.specs.Str.{bytes_eq}
 use Rattle.row_values.specs.Codes.{code_of}
-use Rattle.model.specs.Ids.{Id, In, has}
-use Rattle.model.specs.Times.{holds_at, is_open, before_end}
+use Rattle.model.specs.Ids.{Id, In, has, same}
+use Rattle.model.specs.Times.{holds_at, is_open, before_end, ended_by}
 use Rattle.model.specs.Store.{Below, in_range, read_of}
 use Rattle.model.specs.Schema.{Column, Schema}
-use Rattle.model.specs.Catalog.{Catalog, NamespaceRecord, TableRecord, namespace_named, name_of, table_named, owner_of, kept_from}
+use Rattle.model.specs.Catalog.{Catalog, NamespaceRecord, TableRecord, KeptFrom, namespace_named, name_of, table_named, owner_of, kept_from}
 use Rattle.model.specs.Activity.{Interval, active_at}
 use Rattle.model.specs.Restored.{record_at}
 use Rattle.model.specs.Journal.{Change, TableView, namespace_at, table_at, row_at}
-use Rattle.model.specs.Tablets.{Tablet, FrozenSet, is_vacant, is_serving}
-use Rattle.model.specs.Stands.{awaited_in, holders}
+use Rattle.model.specs.Tablets.{Tablet, OutOfService, FrozenSet, is_vacant, is_serving}
+use Rattle.model.specs.Stands.{awaited_in, awaited_of, holders, before_restore}
 use Rattle.model.specs.Records.{Schedule, Listed, RestorationRecord}
 use Rattle.model.specs.Schedules.{complete_to}
 use Rattle.model.specs.Entries.{clock_at}
@@ -20,7 +21,10 @@ use Rattle.model.specs.Acts.{Act, Reply}
 use Rattle.model.specs.Right.{is_fixed, NothingLate}
 use Rattle.model.specs.History.{ReplyRight, with_changes}
 use Rattle.model.specs.Parts.{Master, Parts, Check, If}
-use Rattle.law_store.specs.Sorted.{Sorted}
+use Rattle.law_store.specs.Sorted.{Sorted, EachKey}
+use Rattle.law_invariants.specs.Remembered.{Remembered}
+use Rattle.law_invariants.specs.Operations.{is_switched, OperationsGood, JournalGood}
+use Rattle.law_invariants.specs.Orders.{OrdersGood, ObeyedGood, RowsPast}
 
 -- an end comes at or after the start, and at or before the time
 abbrev pub EndsBy : ℕ → ℕ → Option ℕ → Type 0
@@ -61,6 +65,12 @@ pub record NamespacesStand (rs : List NamespaceRecord) (time drawn : ℕ) (chang
   -- from the clock on the view names a namespace as the records do
   pub viewed : (id : Id) (x : ℕ) → time ≤ x → namespace_at changes x id ≡ name_of rs id
 
+-- of the records of one table, a later one has a greater next id, and an earlier one had ended when it began: so none comes after an open
+-- one
+abbrev pub RecordsRise : List TableRecord → Type 0
+RecordsRise [] = Unit {0}
+RecordsRise (r ∷ rs) = ((q : TableRecord) → In q rs → q.id ≡ r.id → (r.schema.next ≤ q.schema.next) × (ended_by q.from r.to ≡ true)) × RecordsRise rs
+
 -- the records of tables: at each time a table has one record, and a name in a namespace is that of one table alone
 pub record TablesStand (c : Catalog) (time drawn : ℕ) (changes : List Change) : Type 0 where
   pub past : (r : TableRecord) → In r c.tables → IsPast time r.from r.to
@@ -70,6 +80,7 @@ pub record TablesStand (c : Catalog) (time drawn : ℕ) (changes : List Change) 
   pub unique : (x : ℕ) (r : TableRecord) → In r c.tables → holds_at x r.from r.to ≡ true → table_named c.tables r.namespace r.name x ≡ Some r
   pub found : (x : ℕ) (r : TableRecord) → In r c.tables → holds_at x r.from r.to ≡ true → record_at c.tables r.id x ≡ Some r
   pub columns : (r : TableRecord) → In r c.tables → ColumnsStand r.schema
+  pub rise : RecordsRise c.tables
   -- where the catalog of its namespace is kept, the view has a table as the records do
   pub viewed : (id ns : Id) (x : ℕ) → owner_of c.owners id ≡ Some ns → kept_from c.kept_from ns ≤ x → table_at changes x id ≡ view_at c.tables x id
   pub unmade : (id : Id) (x : ℕ) → owner_of c.owners id ≡ None → table_at changes x id ≡ None
@@ -77,14 +88,26 @@ pub record TablesStand (c : Catalog) (time drawn : ℕ) (changes : List Change) 
   pub inside : (id : Id) (x : ℕ) (v : TableView) → table_at changes x id ≡ Some v → owner_of c.owners id ≡ Some v.namespace
   pub kept : (ns : Id) → kept_from c.kept_from ns ≤ time
 
+-- whether a namespace has a mark of how far its catalog is kept
+abbrev pub is_marked : List KeptFrom → Id → Bool
+is_marked ks ns = list_any (λ k. same k.namespace ns) ks
+
+-- what has a record has a mark: so the mark rises where a prune takes old ones
+pub record MarksStand (c : Catalog) : Type 0 where
+  pub namespaces : (r : NamespaceRecord) → In r c.namespaces → is_marked c.kept_from r.id ≡ true
+  pub tables : (r : TableRecord) → In r c.tables → is_marked c.kept_from r.namespace ≡ true
+
 -- Tablets
 
--- a tablet's versions are in order, and stamped by its clock; its frozen sets are of earlier times
+-- a tablet's versions are in order, in its range, and stamped by its clock; so are its frozen sets, which are of earlier times
 pub record TabletGood (t : Tablet) : Type 0 where
   pub sorted : Sorted t.versions
   pub below : Below (t.clock + 1) t.versions
   pub cutoff : t.cutoff ≤ t.clock
+  pub keys : EachKey (λ key. in_range t.low t.high (code_of key)) t.versions
   pub set_past : (f : FrozenSet) → In f t.frozen → f.at < t.clock
+  pub set_sorted : (f : FrozenSet) → In f t.frozen → Sorted f.versions
+  pub set_keys : (f : FrozenSet) → In f t.frozen → EachKey (λ key. in_range t.low t.high (code_of key)) f.versions
 
 -- the reads of a tablet's live store from its cutoff on and before the end of an interval, where the view has the table, are those
 -- of the view. A clone's copies have a stamp before the one at which the view has their tables
@@ -106,6 +129,13 @@ TurnsAt point from (Some to) = to ≤ point
 abbrev pub is_awaited : Option ℕ → Option ℕ → Bool
 is_awaited point to = is_open to && is_some point
 
+-- where a tablet awaits rows, the view has from the point on those of the time to which its namespace is taken back, and they are those of
+-- the view before the restore
+pub record ComesFrom (changes : List Change) (ns : Id) (i : Interval) (point to : ℕ) : Type 0 where
+  pub switched : is_switched changes ns point ≡ true
+  pub rows : (key : List ℕ) (x : ℕ) → in_range i.low i.high (code_of key) ≡ true → point ≤ x → row_at changes x i.table key ≡ row_at changes to i.table key
+  pub before : (key : List ℕ) → in_range i.low i.high (code_of key) ≡ true → row_at (before_restore changes ns point changes) to i.table key ≡ row_at changes to i.table key
+
 -- an interval of a tablet: its slot's part holds the tablet, and stands for the journal unless the interval's rows are yet to come
 pub record IsGood (m : Master) (changes : List Change) (t : Tablet) (i : Interval) : Type 0 where
   pub past : IsPast m.clock i.from i.to
@@ -124,6 +154,10 @@ pub record IsGood (m : Master) (changes : List Change) (t : Tablet) (i : Interva
   pub viewed : (x : ℕ) → active_at x i ≡ true → is_some (table_at changes x i.table) ≡ true
   -- a tablet that awaits rows awaits those of its open interval
   pub waits : (point : ℕ) → awaited_in m.restorations t.tablet t.done ≡ Some point → TurnsAt point i.from i.to
+  pub comes : (r : RestorationRecord) (point : ℕ) → In r m.restorations → awaited_of r.state r t.tablet t.done ≡ Some point → i.to ≡ None → ComesFrom changes r.namespace i point r.to
+  -- a tablet whose rows came is in service while it is active, and is hidden only from the end of its activity on
+  pub serves : i.to ≡ None → awaited_in m.restorations t.tablet t.done ≡ None → is_serving t.presence ≡ true
+  pub hidden : (at : ℕ) → t.presence ≡ OutOfService at → is_awaited (awaited_in m.restorations t.tablet t.done) i.to ≡ false → ended_by at i.to ≡ true
   pub stands : is_awaited (awaited_in m.restorations t.tablet t.done) i.to ≡ false → StandsIn t changes i
   pub sets : (f : FrozenSet) → In f t.frozen → SetStands f changes i
 
@@ -159,7 +193,7 @@ pub record Covered (activity : List Interval) (changes : List Change) : Type 0 w
 pub record MasterGood (m : Master) (changes : List Change) : Type 0 where
   pub namespaces : NamespacesStand m.catalog.namespaces m.clock m.drawn.namespaces changes
   pub tables : TablesStand m.catalog m.clock m.drawn.tables changes
-  pub cover : Covered m.activity changes
+  pub marks : MarksStand m.catalog
   -- a time to which a namespace was taken back, or cloned, is over for the master
   pub past : (ns : Id) (to : ℕ) → is_fixed changes ns to ≡ true → to ≤ m.clock
   -- the last complete snapshot of a schedule is over
@@ -170,16 +204,27 @@ pub record MasterGood (m : Master) (changes : List Change) : Type 0 where
   pub listed_of : (r : RestorationRecord) (l : Listed) → In r m.restorations → In l r.listed → (i : Interval) → In i m.activity → i.tablet ≡ l.tablet
       → owner_of m.catalog.owners i.table ≡ Some r.namespace
 
--- what holds after each entry
-pub record Inv (ps : Parts) (changes : List Change) : Type 0 where
+-- what holds of a slot and the operations that have its tablet do something
+pub record SlotWorks (m : Master) (changes : List Change) (slot : ℕ) (t : Tablet) : Type 0 where
+  pub orders : OrdersGood m slot t
+  pub obeyed : ObeyedGood m changes slot t
+
+-- what holds after each entry. `activity` has the intervals of all tablets that ever were
+pub record Inv (ps : Parts) (activity : List Interval) (changes : List Change) : Type 0 where
   pub master : MasterGood ps.master changes
+  pub remembered : Remembered ps.master activity
+  pub cover : Covered activity changes
   pub slots : (slot : ℕ) → SlotGood ps.master changes slot (ps.tablet slot)
+  pub operations : OperationsGood ps.master changes
+  pub journal : JournalGood ps.master changes
+  pub rows_past : RowsPast ps.master ps.tablet changes
+  pub works : (slot : ℕ) → SlotWorks ps.master changes slot (ps.tablet slot)
   pub late : NothingLate changes
 
--- an act keeps what holds, and its reply is right
-pub record Keeps (act : Act) (reply : Reply) (n : ℕ) (before after : Parts) (changes : List Change) : Type 0 where
+-- an act keeps what holds, and its reply is right. `activity` is that of all tablets after it
+pub record Keeps (act : Act) (reply : Reply) (n : ℕ) (before after : Parts) (activity : List Interval) (changes : List Change) : Type 0 where
   pub right : ReplyRight act reply n before changes
-  pub inv : Inv after (with_changes act reply n before changes)
+  pub inv : Inv after activity (with_changes act reply n before changes)
 
 -- the clocks of the slots that an act names are below its stamp
 abbrev pub Later : List ℕ → Parts → ℕ → Type 0

@@ -14,18 +14,20 @@ use Rattle.law_invariants.specs.Invariant.{Inv, Later}
 use Rattle.law_invariants.proofs.Ticking.{nothing_told, KeepsAll}
 use Rattle.law_invariants.proofs.Looking.{asked, look_keys_right, look_table_right}
 use Rattle.law_invariants.proofs.Placing.{keys_places, table_places, all_past}
+use Rattle.model.specs.Activity.{Interval}
+use Rattle.law_invariants.specs.Remembered.{activity_after}
 
 -- an outcome that only answers, refused or not, keeps what holds
-judged_told : (checks : List Check) (act : Act) (reply : Reply) (n : ℕ) (ps : Parts) (changes : List Change) → Later (slots_of act) ps n → Inv ps changes
-    → Inv (told act (judged checks (answered reply)) n ps) changes
-judged_told [] act reply n ps changes later inv = nothing_told act reply n ps changes later inv
-judged_told (If false why ∷ checks) act reply n ps changes later inv = judged_told checks act reply n ps changes later inv
-judged_told (If true why ∷ checks) act reply n ps changes later inv = nothing_told act (Refused why) n ps changes later inv
+judged_told : (checks : List Check) (act : Act) (reply : Reply) (n : ℕ) (ps : Parts) (activity : List Interval) (changes : List Change) → Later (slots_of act) ps n → Inv ps activity changes
+    → Inv (told act (judged checks (answered reply)) n ps) (activity_after act (judged checks (answered reply)) n ps activity) changes
+judged_told [] act reply n ps activity changes later inv = nothing_told act reply n ps activity changes later inv
+judged_told (If false why ∷ checks) act reply n ps activity changes later inv = judged_told checks act reply n ps activity changes later inv
+judged_told (If true why ∷ checks) act reply n ps activity changes later inv = nothing_told act (Refused why) n ps activity changes later inv
 
-pub keys_keeps : (namespace table : List ℕ) (batch : List NamedItem) (at : Option ℕ) (n : ℕ) (ps : Parts) (changes : List Change) → Later (slots_of (Look (AskKeys namespace table batch at))) ps n
-    → 1 ≤ length batch → Inv ps changes → KeepsAll (Look (AskKeys namespace table batch at)) n ps changes (look_keys namespace table batch at n ps.master)
+pub keys_keeps : (namespace table : List ℕ) (batch : List NamedItem) (at : Option ℕ) (n : ℕ) (ps : Parts) (activity : List Interval) (changes : List Change) → Later (slots_of (Look (AskKeys namespace table batch at))) ps n
+    → 1 ≤ length batch → Inv ps activity changes → KeepsAll (Look (AskKeys namespace table batch at)) n ps activity changes (look_keys namespace table batch at n ps.master)
 unfolding look_keys
-keys_keeps namespace table batch at n ps changes later some inv =
+keys_keeps namespace table batch at n ps activity changes later some inv =
     let m = ps.master in
     let ns = namespace_named m.catalog.namespaces namespace in
     let from = kept_from m.catalog.kept_from (known ns) in
@@ -37,14 +39,14 @@ keys_keeps namespace table batch at n ps changes later some inv =
     let checks : List Check = If (is_none ns) UnknownNamespace ∷ If (is_future at n) (Future n) ∷ If (is_below at from) (TooOld (time_of at n) from) ∷ If (is_none found) UnknownTable
     ∷ If (is_some fault) (unwrap_or fault UnknownColumn) ∷ If (is_some other) (CrossTablet (first_code batch) (unwrap_or other 0)) ∷ [] in
     record {
-      right = (look_keys_right m n changes namespace table batch at (asked m n changes (later 0 refl) inv.master), keys_places ps n changes namespace table batch at (later 0 refl) inv some);
-      inv = judged_told checks (Look (AskKeys namespace table batch at)) (Placed (map place_of (option_to_list home)) t.schema.version t.schema.columns) n ps changes later inv;
+      right = (look_keys_right m n changes namespace table batch at (asked m n changes (later 0 refl) inv.master), keys_places ps n activity changes namespace table batch at (later 0 refl) inv some);
+      inv = judged_told checks (Look (AskKeys namespace table batch at)) (Placed (map place_of (option_to_list home)) t.schema.version t.schema.columns) n ps activity changes later inv;
     }
 
-pub table_keeps : (namespace table : List ℕ) (at : Option ℕ) (n : ℕ) (ps : Parts) (changes : List Change) → Later (slots_of (Look (AskTable namespace table at))) ps n
-    → Inv ps changes → KeepsAll (Look (AskTable namespace table at)) n ps changes (look_table namespace table at n ps.master)
+pub table_keeps : (namespace table : List ℕ) (at : Option ℕ) (n : ℕ) (ps : Parts) (activity : List Interval) (changes : List Change) → Later (slots_of (Look (AskTable namespace table at))) ps n
+    → Inv ps activity changes → KeepsAll (Look (AskTable namespace table at)) n ps activity changes (look_table namespace table at n ps.master)
 unfolding look_table
-table_keeps namespace table at n ps changes later inv =
+table_keeps namespace table at n ps activity changes later inv =
     let m = ps.master in
     let ns = namespace_named m.catalog.namespaces namespace in
     let from = kept_from m.catalog.kept_from (known ns) in
@@ -52,24 +54,24 @@ table_keeps namespace table at n ps changes later inv =
     let t = the_table found in
     let checks : List Check = If (is_none ns) UnknownNamespace ∷ If (is_future at n) (Future n) ∷ If (is_below at from) (TooOld (time_of at n) from) ∷ If (is_none found) UnknownTable ∷ [] in
     record {
-      right = (look_table_right m n changes namespace table at (asked m n changes (later 0 refl) inv.master), table_places m n changes namespace table at (later 0 refl) inv.master (all_past ps changes inv));
-      inv = judged_told checks (Look (AskTable namespace table at)) (Placed (map place_of (by_range (active_in m t.id))) t.schema.version t.schema.columns) n ps changes later inv;
+      right = (look_table_right m n changes namespace table at (asked m n changes (later 0 refl) inv.master), table_places m n changes namespace table at (later 0 refl) inv.master (all_past ps activity changes inv));
+      inv = judged_told checks (Look (AskTable namespace table at)) (Placed (map place_of (by_range (active_in m t.id))) t.schema.version t.schema.columns) n ps activity changes later inv;
     }
 
-plan_keeps : (command : Command) (n : ℕ) (ps : Parts) (changes : List Change) → Later (slots_of (Look (AskPlan command))) ps n → Inv ps changes
-    → KeepsAll (Look (AskPlan command)) n ps changes (look_plan command ps.master)
+plan_keeps : (command : Command) (n : ℕ) (ps : Parts) (activity : List Interval) (changes : List Change) → Later (slots_of (Look (AskPlan command))) ps n → Inv ps activity changes
+    → KeepsAll (Look (AskPlan command)) n ps activity changes (look_plan command ps.master)
 unfolding look_plan
-plan_keeps command n ps changes later inv = record { right = tt; inv = nothing_told (Look (AskPlan command)) (Planned (plan_of command ps.master)) n ps changes later inv }
+plan_keeps command n ps activity changes later inv = record { right = tt; inv = nothing_told (Look (AskPlan command)) (Planned (plan_of command ps.master)) n ps activity changes later inv }
 
-present_keeps : (n : ℕ) (ps : Parts) (changes : List Change) → Later (slots_of (Look AskPresent)) ps n → Inv ps changes → KeepsAll (Look AskPresent) n ps changes (look_present ps.master)
+present_keeps : (n : ℕ) (ps : Parts) (activity : List Interval) (changes : List Change) → Later (slots_of (Look AskPresent)) ps n → Inv ps activity changes → KeepsAll (Look AskPresent) n ps activity changes (look_present ps.master)
 unfolding look_present
-present_keeps n ps changes later inv = record { right = tt; inv = nothing_told (Look AskPresent) (look_present ps.master).reply n ps changes later inv }
+present_keeps n ps activity changes later inv = record { right = tt; inv = nothing_told (Look AskPresent) (look_present ps.master).reply n ps activity changes later inv }
 
 -- each look keeps what holds
-pub look_keeps : (ask : Ask) (n : ℕ) (ps : Parts) (changes : List Change) → Later (slots_of (Look ask)) ps n → AskAsked ask → Inv ps changes → KeepsAll (Look ask) n ps changes (outcome (Look ask) n ps)
-look_keeps (AskPlan command) n ps changes later asked_ inv = plan_keeps command n ps changes later inv
-look_keeps (AskKeys namespace table batch at) n ps changes later asked_ inv = keys_keeps namespace table batch at n ps changes later asked_.2.0 inv
-look_keeps (AskTable namespace table at) n ps changes later asked_ inv = table_keeps namespace table at n ps changes later inv
-look_keeps AskWork n ps changes later asked_ inv = record { right = tt; inv = nothing_told (Look AskWork) (outcome (Look AskWork) n ps).reply n ps changes later inv }
-look_keeps AskRemovable n ps changes later asked_ inv = record { right = tt; inv = nothing_told (Look AskRemovable) (outcome (Look AskRemovable) n ps).reply n ps changes later inv }
-look_keeps AskPresent n ps changes later asked_ inv = present_keeps n ps changes later inv
+pub look_keeps : (ask : Ask) (n : ℕ) (ps : Parts) (activity : List Interval) (changes : List Change) → Later (slots_of (Look ask)) ps n → AskAsked ask → Inv ps activity changes → KeepsAll (Look ask) n ps activity changes (outcome (Look ask) n ps)
+look_keeps (AskPlan command) n ps activity changes later asked_ inv = plan_keeps command n ps activity changes later inv
+look_keeps (AskKeys namespace table batch at) n ps activity changes later asked_ inv = keys_keeps namespace table batch at n ps activity changes later asked_.2.0 inv
+look_keeps (AskTable namespace table at) n ps activity changes later asked_ inv = table_keeps namespace table at n ps activity changes later inv
+look_keeps AskWork n ps activity changes later asked_ inv = record { right = tt; inv = nothing_told (Look AskWork) (outcome (Look AskWork) n ps).reply n ps activity changes later inv }
+look_keeps AskRemovable n ps activity changes later asked_ inv = record { right = tt; inv = nothing_told (Look AskRemovable) (outcome (Look AskRemovable) n ps).reply n ps activity changes later inv }
+look_keeps AskPresent n ps activity changes later asked_ inv = present_keeps n ps activity changes later inv

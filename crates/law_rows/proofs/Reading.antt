@@ -20,6 +20,7 @@ use Rattle.law_invariants.proofs.Finding.{both_pass, second_fails}
 use Rattle.law_invariants.proofs.Ticking.{refused_keeps, by_checks, KeepsAll, nothing_told}
 use Rattle.law_rows.proofs.Keeping.{clock_before}
 use Rattle.law_rows.proofs.Writing.{none_is}
+use Rattle.model.specs.Activity.{Interval}
 
 -- no place has moved: each serves its tablet
 served_key : (places : List At) (key : List ℕ) (tablet : ℕ → Tablet) → moved_from_key places key tablet ≡ None → (p : At) → In p places → serves (tablet p.slot) p.tablet ≡ true
@@ -83,21 +84,21 @@ from_one slots (q ∷ qs) p all isin = elim isin as (λ _. 1 ≤ p.slot) [
   | inr rest ↦ from_one slots qs p all.1 rest
 ]
 
-pub read_keeps : (slots : ℕ) (ps : Parts) (changes : List Change) (n : ℕ) (places : List At) (version : ℕ) (key : Option (List ℕ)) (at : Option ℕ) (columns : List ℕ)
-    → Later (slots_of (Read places version key at columns)) ps n → AllOf (λ place. IsSlot slots place.slot) places → Inv ps changes
-    → KeepsAll (Read places version key at columns) n ps changes (read places version key at columns n ps)
+pub read_keeps : (slots : ℕ) (ps : Parts) (activity : List Interval) (changes : List Change) (n : ℕ) (places : List At) (version : ℕ) (key : Option (List ℕ)) (at : Option ℕ) (columns : List ℕ)
+    → Later (slots_of (Read places version key at columns)) ps n → AllOf (λ place. IsSlot slots place.slot) places → Inv ps activity changes
+    → KeepsAll (Read places version key at columns) n ps activity changes (read places version key at columns n ps)
 unfolding read
-read_keeps slots ps changes n places version key at columns later asked inv =
+read_keeps slots ps activity changes n places version key at columns later asked inv =
     let act = Read places version key at columns in
     let away = first_moved key places ps.tablet in
     let other = stale at places version ps.tablet in
     let cutoff = first_cutoff places at ps.tablet in
     let rows = cut_rows columns (in_order (λ r s. precedes r.key s.key) (rows_of_places places key (time_of at n) ps.tablet)) in
-    by_checks act n ps changes
+    by_checks act n ps activity changes
     (If (is_some away) (unwrap_or away Idle) ∷ names (first_fence places ps.tablet) Fenced ∷ If (is_some other) (StaleSchema (unwrap_or other 0)) ∷ If (is_future at n) (Future n)
     ∷ If (is_some cutoff) (TooOld (time_of at n) (unwrap_or cutoff 0)) ∷ [])
     (answered (Rows rows))
-    (λ why. refused_keeps act why n ps changes later inv tt refl)
+    (λ why. refused_keeps act why n ps activity changes later inv tt refl)
     (λ passes. record {
       right = read_right places ps.tablet changes key (time_of at n) columns (λ p k isin range.
           let t = ps.tablet p.slot in
@@ -111,5 +112,5 @@ read_keeps slots ps changes n places version key at columns later asked inv =
           z.stands (second_fails (is_open o.interval.to) _ (ap is_some o.settled)) k (time_of at n) (rw (← z.low_is, ← z.high_is) range) cut (ap (before_end (time_of at n)) o.opened)
           (ap (λ i. is_some (table_at changes (time_of at n) i)) (sym z.table_is) ∙ h.shown serving free (time_of at n) cut)
           ∙ ap (λ i. row_at changes (time_of at n) i k) (sym z.table_is));
-      inv = nothing_told act (Rows rows) n ps changes later inv;
+      inv = nothing_told act (Rows rows) n ps activity changes later inv;
     })

@@ -1,17 +1,20 @@
 -- What the changes of a write do to the view: they change the rows of their keys from their stamp on, and nothing else.
-use Rattle.std.proofs.Common.{ℕ, ◌≡◌, ◌≤◌, ◌<◌, List, [], ◌∷◌, Bool, true, false, cond, ◌&&◌, refl, sym, ap, subst, ◌∙◌, arith, leb, leb-true, le-leb, fold, is_some}
+use Rattle.std.proofs.Common.{ℕ, ◌≡◌, ◌≤◌, ◌<◌, List, [], ◌∷◌, Bool, true, false, cond, ◌&&◌, ◌⊎◌, inl, inr, refl, sym, ap, subst, ◌∙◌, arith, leb, leb-true, le-leb, fold, is_some}
 use Rattle.std.specs.Str.{bytes_eq}
 use Rattle.std.specs.List.{list_all}
 use Rattle.row_values.specs.Rows.{applied}
 use Rattle.row_values.specs.Codes.{code_of}
 use Rattle.row_values.specs.declared.rows.Row.{Row}
 use Rattle.row_values.specs.declared.value.Item.{Item}
-use Rattle.model.specs.Ids.{Id, same}
+use Rattle.model.specs.Ids.{Id, In, same}
 use Rattle.model.specs.Store.{in_range}
 use Rattle.model.specs.Journal.{Change, RowChanged, is_in, namespace_at, table_at, row_at}
 use Rattle.model.specs.Tablets.{Tablet}
 use Rattle.model.specs.Right.{is_fixed, NothingLate}
 use Rattle.model.specs.RowActs.{covers}
+use Rattle.law_invariants.specs.Operations.{is_switched}
+use Rattle.law_invariants.proofs.Working.{before_any}
+use Rattle.model.specs.Stands.{before_restore}
 use Rattle.model.specs.History.{rows_made}
 use Rattle.law_store.specs.Sorted.{item_step}
 use Rattle.law_store.proofs.Keys.{equal_keys}
@@ -21,7 +24,7 @@ one_way : {A : Type 0} (b : Bool) (x : A) → cond b x x ≡ x
 one_way true x = refl
 one_way false x = refl
 
-abbrev row_change : ℕ → Id → Item → Change
+abbrev pub row_change : ℕ → Id → Item → Change
 row_change n table item = record { stamp = n; act = RowChanged table item.key item.op }
 
 pub tables_stay : (items : List Item) (n : ℕ) (table : Id) (changes : List Change) (x : ℕ) (id : Id) → table_at (rows_made n table items changes) x id ≡ table_at changes x id
@@ -81,3 +84,26 @@ rows_written (item ∷ items) n table changes key x le there =
     ∙ ap (λ row. fold (item_step key) row items)
     (row_then (leb n x) (same table table) (is_some (table_at changes x table)) (bytes_eq item.key key) (row_at changes x table key) (applied (row_at changes x table key) item.op)
     (le-leb _ _ le) (same_self table) there)
+
+pub switched_stay : (items : List Item) (n : ℕ) (table : Id) (changes : List Change) (ns : Id) (point : ℕ) → is_switched changes ns point ≡ true → is_switched (rows_made n table items changes) ns point ≡ true
+switched_stay [] n table changes ns point h = h
+switched_stay (item ∷ items) n table changes ns point h = switched_stay items n table (record { stamp = n; act = RowChanged table item.key item.op } ∷ changes) ns point h
+
+-- the changes before a restore stay
+pub before_stay : (items : List Item) (n : ℕ) (table : Id) (changes : List Change) (ns : Id) (point : ℕ) (all : List Change) → is_switched changes ns point ≡ true
+    → before_restore (rows_made n table items changes) ns point all ≡ before_restore changes ns point changes
+before_stay [] n table changes ns point all h = before_any changes ns point all changes h
+before_stay (item ∷ items) n table changes ns point all h =
+    before_stay items n table (row_change n table item ∷ changes) ns point all h ∙ before_any changes ns point (row_change n table item ∷ changes) changes h
+
+-- a change is an earlier one, or one of the batch
+pub rows_in : (items : List Item) (n : ℕ) (table : Id) (changes : List Change) (c : Change) → In c (rows_made n table items changes) → In c changes ⊎ ((item : Item) × (c ≡ row_change n table item))
+rows_in [] n table changes c isin = inl isin
+rows_in (item ∷ items) n table changes c isin = elim (rows_in items n table (row_change n table item ∷ changes) c isin) [
+  | inl q ↦ (elim q as (λ _. In c changes ⊎ ((item : Item) × (c ≡ row_change n table item))) [ inl e ↦ inr (item, sym e) | inr old ↦ inl old ])
+  | inr q ↦ inr q
+]
+
+pub unswitched_stay : (items : List Item) (n : ℕ) (table : Id) (changes : List Change) (ns : Id) (point : ℕ) → is_switched (rows_made n table items changes) ns point ≡ is_switched changes ns point
+unswitched_stay [] n table changes ns point = refl
+unswitched_stay (item ∷ items) n table changes ns point = unswitched_stay items n table (row_change n table item ∷ changes) ns point

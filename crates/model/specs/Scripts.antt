@@ -1,12 +1,14 @@
 -- What a script may say, and the acts that each of its commands makes: a look, and then acts by the look's reply. Commands to
 -- restore, to clone and to work off records come with their stage.
-use Rattle.std.specs.Prelude.{ℕ, ◌*◌, ◌-◌, Bool, true, false, if◌then◌else◌, List, [], ◌∷◌, map, Option, Some, None, option_map}
+use Rattle.std.specs.Prelude.{ℕ, ◌*◌, ◌-◌, ◌^◌, ◌<◌, Bool, true, false, if◌then◌else◌, List, [], ◌∷◌, map, Option, Some, None, option_map}
 use Rattle.row_values.specs.declared.value.Cell.{Cell}
 use Rattle.row_values.specs.declared.value.RowOp.{RowOp}
 use Rattle.row_values.specs.declared.value.RowOp.TheVariants.{Upsert, Delete}
 use Rattle.row_values.specs.declared.value.Item.{Item}
 use Rattle.model.specs.Schema.{Column, column_named, column_ids}
 use Rattle.model.specs.Acts.{NamedCell, NamedOp, NamedUpsert, NamedDelete, NamedItem, Command, CreateTable, AddColumn, DropColumn, DropTable, Split, Ask, AskPlan, AskKeys, AskTable, At, Place, Act, Change, Write, Read, Reply, Planned, Placed}
+use Rattle.model.specs.Times.{end_of_time}
+use Rattle.model.specs.Entries.{CommandAsked, IsName, IsKey, IsNamedBatch}
 use Rattle.model.specs.History.{id_of_column}
 
 -- a time as a script writes it: microseconds, so much before the script's reading, or a hybrid time
@@ -94,3 +96,19 @@ acts_after reading (WriteRows namespace table batch) (Placed places version colu
 acts_after reading (ReadRow namespace table key at) (Placed places version columns) = read_from places version (Some key) (asked_at reading at) columns
 acts_after reading (ReadTable namespace table at) (Placed places version columns) = read_from places version None (asked_at reading at) columns
 acts_after reading _ _ = []
+
+-- what a command of a script must meet
+
+abbrev pub TimeAsked : Option Time → Type 0
+TimeAsked None = Unit {0}
+TimeAsked (Some (Micros micros)) = micros < 2 ^ 50
+TimeAsked (Some (MinusMinutes minutes)) = Unit {0}
+TimeAsked (Some (MinusSeconds seconds)) = Unit {0}
+TimeAsked (Some (Exact time)) = time < end_of_time
+
+abbrev pub ScriptAsked : ScriptCommand → Type 0
+ScriptAsked (Tick micros) = micros < 2 ^ 50
+ScriptAsked (ToMaster command) = CommandAsked command
+ScriptAsked (WriteRows namespace table batch) = IsName namespace × IsName table × IsNamedBatch batch
+ScriptAsked (ReadRow namespace table key at) = IsName namespace × IsName table × IsKey key × TimeAsked at
+ScriptAsked (ReadTable namespace table at) = IsName namespace × IsName table × TimeAsked at

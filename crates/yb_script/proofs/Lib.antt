@@ -1,6 +1,17 @@
 pub mod Splitting
 pub mod Reading
 pub mod Running
+pub mod Ending
 pub mod Singles
 pub mod Lengths
 pub mod Bounds
+pub mod Ordering
+pub mod ShownParts
+pub mod ShownActs
+pub mod ShownTexts
+pub mod ShownEvents
+pub mod ShownDoings
+pub mod ShownCommands
+pub mod ShownRuns
+pub mod ShownAsked
+pub mod Book

@@ -51,7 +51,7 @@ length-split_at separator [] = omega arith
 length-split_at separator (b ∷ bs) =
     omega (arith, length_step (b == separator) b (split_at separator bs) (length bs) (length-split_at separator bs))
 
-length_without : (t : Bool) (bytes : List ℕ) → length (if t then take (length bytes - 1) bytes else bytes) ≤ length bytes
+pub length_without : (t : Bool) (bytes : List ℕ) → length (if t then take (length bytes - 1) bytes else bytes) ≤ length bytes
 length_without true bytes = grind (arith, common_steps)
 length_without false bytes = omega arith
 

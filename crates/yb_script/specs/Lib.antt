@@ -4,4 +4,7 @@ pub mod Runs
 pub mod Sound
 pub mod Texts
 pub mod Histories
+pub mod Ordered
+pub mod Seen
+pub mod Shown
 pub mod Endings

@@ -187,3 +187,12 @@ done s (script.CreateTable table column) = tabled (looked s (Plan (table_command
 done s (script.Put key number) = wrote (keyed s key (number_cell s.catalog number) None) key number
 done s (script.Get key) = got s key None
 done s (script.GetAt key at) = got s key (Some at)
+
+-- the state that the look of a command leaves, or the command's own where it has none
+abbrev pub looked_for : State → ScriptCommand → State
+looked_for s (script.Tick micros) = s
+looked_for s (script.CreateNamespace name) = s
+looked_for s (script.CreateTable table column) = looked s (Plan (table_command s table column)) (λ _. replies.Planned (1 ∷ []))
+looked_for s (script.Put key number) = keyed s key (number_cell s.catalog number) None
+looked_for s (script.Get key) = keyed s key [] None
+looked_for s (script.GetAt key at) = keyed s key [] (Some at)

@@ -1,12 +1,12 @@
 //! The parts of the service, the master and one tablet, and what commands do with them.
 
-ghost use Rattle.std.specs.Prelude.{ℕ, ℤ, ◌≡◌, ◌<◌, ◌≤◌, ◌^◌, ◌+◌, ◌-◌, [], ◌∷◌, length, IfOk, OnOk, OnErr, Ok, None};
+ghost use Rattle.std.specs.Prelude.{ℕ, ℤ, ◌≡◌, ◌<◌, ◌≤◌, ◌^◌, ◌+◌, ◌-◌, ◌⊎◌, [], ◌∷◌, length, IfOk, OnOk, OnErr, Ok, None};
 ghost use Rattle.row_values.specs.Stamps.{stamp_of};
 ghost use Rattle.model.specs.Store.{present, read_of};
 ghost use Rattle.row_values.specs.Rows.{cut_to};
 ghost use Rattle.yb_script.specs.declared.event.Ask.TheVariants.{Plan};
 ghost use Rattle.yb_script.specs.declared.event.Reply.TheVariants as replies;
-ghost use Rattle.yb_script.specs.Runs.{empty_state, master_stamp, both_stamp, tablet_stamp, placed, keys_answer, is_placed, keyed, looked, named, tabled, table_command, wrote, number_batch, number_cell, read, read_answer, rows_answer, ticked, got, done, noted, with_entry, at_tablet};
+ghost use Rattle.yb_script.specs.Runs.{empty_state, master_stamp, both_stamp, tablet_stamp, placed, keys_answer, is_placed, keyed, looked, named, tabled, table_command, wrote, number_batch, number_cell, read, read_answer, rows_answer, ticked, got, done, looked_for, noted, with_entry, at_tablet};
 ghost use Rattle.yb_script.specs.Script.{IsGood};
 
 use crate::event::{
@@ -446,7 +446,8 @@ impl<V: VersionStore> Service<V> {
     #[tactic(auto, unfolding(crate::specs::Runs::got))]
     fn get(&mut self, alloc: Global, key: &Key, at: &Option<HybridTime>) -> Result<(), NoMemory>
         requires few { length self.old.entries + 2 < 2 ^ 60 }
-        ensures { OnOk result (self.new ≡ got self.old key.now at.now) }
+        ensures ok { OnOk result (self.new ≡ got self.old key.now at.now) }
+        ensures err { OnErr result ((self.new ≡ self.old) ⊎ (self.new ≡ keyed self.old key.now [] at.now)) }
     {
         if self.look_keys(key, Records::new(alloc), at)? {
             self.read(alloc, key, at)?;
@@ -458,7 +459,8 @@ impl<V: VersionStore> Service<V> {
     fn put(&mut self, alloc: Global, key: &Key, number: i64) -> Result<(), NoMemory>
         requires few { length self.old.entries + 2 < 2 ^ 60 }
         requires key { (1 ≤ length key.now) × (length key.now ≤ 64) }
-        ensures { OnOk result (self.new ≡ wrote (keyed self.old key.now (number_cell self.old.catalog number) None) key.now number) }
+        ensures ok { OnOk result (self.new ≡ wrote (keyed self.old key.now (number_cell self.old.catalog number) None) key.now number) }
+        ensures err { OnErr result ((self.new ≡ self.old) ⊎ (self.new ≡ keyed self.old key.now (number_cell self.old.catalog number) None)) }
     {
         let mut cells = Records::new(alloc);
         cells.push(NamedCell {
@@ -473,7 +475,8 @@ impl<V: VersionStore> Service<V> {
     pub fn perform(&mut self, alloc: Global, command: &ScriptCommand) -> Result<(), NoMemory>
         requires few { length self.old.entries + 2 < 2 ^ 60 }
         requires good { IsGood command.now }
-        ensures { OnOk result (self.new ≡ done self.old command.now) }
+        ensures ok { OnOk result (self.new ≡ done self.old command.now) }
+        ensures err { OnErr result ((self.new ≡ self.old) ⊎ (self.new ≡ looked_for self.old command.now)) }
     {
         match command {
             ScriptCommand::Tick { micros } => {

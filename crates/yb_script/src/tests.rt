@@ -63,3 +63,35 @@ fn each_status_comes_for_its_cause(rt: HostRuntime) -> Result<(), Fail> {
     assert_eq!(rt; run_on(alloc, "run", &long, NEVER, NEVER)?.status, 7);
     Ok(())
 }
+
+// With a sink whose room is there already, so that only the run itself may lack memory.
+fn run_in_room(alloc: Global, script: &[u8]) -> Result<Seen, Fail> {
+    let words = vec![in alloc; String::from_str(alloc, "run")?]?;
+    let mut source = MemorySource::new(script.to_vec(alloc)?, Vec::new(alloc));
+    let mut sink = MemorySink::new(Vec::with_capacity(alloc, 1024)?, Vec::new(alloc));
+    let ended = run(alloc, &words, &mut source, &mut sink);
+    Ok(Seen {
+        status: ended.status,
+        done: ended.done,
+        entries: ended.history.len(),
+        text: sink.bytes().to_vec(alloc)?,
+    })
+}
+
+// Any one allocation of the run may fail: `rt try --test --fail-alloc N` makes the Nth fail.
+#[test]
+fn a_run_without_memory_answers_6_or_the_right_text(rt: HostRuntime) -> Result<(), Fail> {
+    let alloc = rt.alloc();
+    let bad: &[u8] = b"tick 1\nfrobnicate";
+    let line: &[u8] = b"line 2: unknown command\n";
+    for (script, status, text) in [(SCRIPT, 0u8, TEXT), (bad, 3, line)] {
+        let seen = run_in_room(alloc, script)?;
+        if seen.status == 6 {
+            assert!(rt; text.starts_with(&seen.text));
+        } else {
+            assert_eq!(rt; seen.status, status);
+            assert_eq!(rt; seen.text.as_slice(), text);
+        }
+    }
+    Ok(())
+}

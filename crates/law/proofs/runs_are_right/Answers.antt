@@ -1,0 +1,13 @@
+-- By the induction over the commands, and the main law.
+use Rattle.law.proofs.Law.{legal_holds}
+use Rattle.law.proofs.Running.{legal_tail, right_tail}
+use Rattle.law.proofs.Runs.{script_legal}
+use Rattle.law.proofs.runs_are_right.Goals as goal
+
+pub returns : goal.returns
+returns c = record {
+  legal = λ slots commands asked_ covered. (script_legal slots commands asked_ covered).legal;
+  right = λ slots commands asked_ covered. let run = script_legal slots commands asked_ covered in (legal_holds _ slots run.legal run.covered).right;
+  legal_before = λ slots later earlier legal. legal_tail later earlier slots legal;
+  right_before = λ slots later earlier right. right_tail later earlier slots right;
+}

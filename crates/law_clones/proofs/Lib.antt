@@ -1,0 +1,13 @@
+pub mod Beside
+pub mod Users
+pub mod Entering
+pub mod Serving
+pub mod Advancing
+pub mod Completing
+pub mod Copying
+pub mod Reserving
+pub mod Adding
+pub mod Pairing
+pub mod Taking
+pub mod Accepting
+pub mod Commanding

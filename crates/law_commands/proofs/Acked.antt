@@ -1,0 +1,407 @@
+-- An ack changes a record's list alone, and there one mark: what holds of the records goes on.
+use Rattle.std.proofs.Common.{ℕ, ◌≡◌, ◌≤◌, ◌<◌, List, [], ◌∷◌, Bool, true, false, cond, ◌&&◌, ◌||◌, ◌⊎◌, inl, inr, map, refl, sym, ap, subst, ◌∙◌, not, eqb, eqb-true}
+use Rattle.std.specs.Option.{option_or, option_map}
+use Rattle.model.specs.Ids.{Id, In, same}
+use Rattle.model.specs.Catalog.{kept_from}
+use Rattle.model.specs.Activity.{Interval}
+use Rattle.model.specs.Journal.{Change}
+use Rattle.model.specs.Tablets.{Body, RestoreFrom, Hide}
+use Rattle.model.specs.Records.{Listed, Sent, Schedule, SnapshotRecord, RestorationRecord, RestorationState, Fencing, Snapshotting, Switching, Restoring, Releasing, Restored, CloneRecord, CloneState, Accepted, CloneSnapshot, Copying, CloneReleasing, CloneComplete, acked_at, is_restored, is_cloned, is_visible, schedule_of}
+use Rattle.model.specs.Coordination.{acked_snapshot, acked_restoration, acked_clone}
+use Rattle.model.specs.Stands.{is_restore}
+use Rattle.model.specs.Operations.{restoration_of, clone_with}
+use Rattle.model.specs.Schedules.{floor}
+use Rattle.model.specs.Cleanup.{floor_of}
+use Rattle.model.specs.Parts.{Master}
+use Rattle.law_store.proofs.Keys.{either_way}
+use Rattle.law_invariants.specs.Operations.{SnapshotsRise, OperationsApart, Uses, IsKnown, IsListed, IsOpenOf, IsReached, ScheduleGood, SnapshotGood, IsServing, IsPoint, BeforePoint, IsAfterSwitch, IsActive, RestorationStateGood, RestorationGood, CloneStateGood, CloneGood, IsSent, OperationsGood}
+use Rattle.law_invariants.proofs.Finding.{in_mapped, map_in, either_is}
+
+-- Lists
+
+abbrev pub ack_if : Bool → ℕ → List Listed → List Listed
+ack_if b slot ls = cond b (acked_at slot ls) ls
+
+-- a line of a list after an ack, as it was before it
+pub record Was (ls : List Listed) (b : Bool) (slot : ℕ) (l : Listed) : Type 0 where
+  pub line : Listed
+  pub listed : In line ls
+  pub tablet_is : l.tablet ≡ line.tablet
+  pub slot_is : l.slot ≡ line.slot
+  pub body_is : l.body ≡ line.body
+  pub acked : l.acked ≡ true → (line.acked ≡ true) ⊎ ((b ≡ true) × (line.slot ≡ slot))
+
+pub was : (b : Bool) (ls : List Listed) (slot : ℕ) (l : Listed) → In l (ack_if b slot ls) → Was ls b slot l
+was true ls slot l isin = in_mapped {A = Listed} {B = Listed} (λ k. record k { acked = k.acked || eqb k.slot slot }) (Was ls true slot) ls
+    (λ k there. record {
+      line = k;
+      listed = there;
+      tablet_is = refl;
+      slot_is = refl;
+      body_is = refl;
+      acked = λ a. either_is k.acked (eqb k.slot slot) a (λ x. inl x) (λ x. inr (refl, eqb-true k.slot slot x));
+    })
+    l isin
+was false ls slot l isin = record { line = l; listed = isin; tablet_is = refl; slot_is = refl; body_is = refl; acked = λ a. inl a }
+
+-- a line is there after it
+pub record Now (ls : List Listed) (l : Listed) : Type 0 where
+  pub line : Listed
+  pub listed : In line ls
+  pub tablet_is : line.tablet ≡ l.tablet
+  pub slot_is : line.slot ≡ l.slot
+  pub body_is : line.body ≡ l.body
+
+pub now : (b : Bool) (ls : List Listed) (slot : ℕ) (l : Listed) → In l ls → Now (ack_if b slot ls) l
+now true ls slot l isin = record {
+  line = record l { acked = l.acked || eqb l.slot slot };
+  listed = map_in {A = Listed} {B = Listed} (λ k. record k { acked = k.acked || eqb k.slot slot }) ls l isin;
+  tablet_is = refl;
+  slot_is = refl;
+  body_is = refl;
+}
+now false ls slot l isin = record { line = l; listed = isin; tablet_is = refl; slot_is = refl; body_is = refl }
+
+ack_empty : (b : Bool) (slot : ℕ) (ls : List Listed) → ls ≡ [] → ack_if b slot ls ≡ []
+ack_empty true slot ls e = ap (acked_at slot) e
+ack_empty false slot ls e = e
+
+-- Records
+
+abbrev pub if_same : Id → Id → ℕ → List Listed → List Listed
+if_same own id slot ls = ack_if (same own id) slot ls
+
+abbrev pub ack_snapshot : Id → ℕ → SnapshotRecord → SnapshotRecord
+ack_snapshot id slot r = record r { listed = if_same r.id id slot r.listed }
+
+abbrev pub ack_restoration : Id → ℕ → RestorationRecord → RestorationRecord
+ack_restoration id slot r = record r { listed = if_same r.id id slot r.listed }
+
+abbrev pub ack_clone : Id → ℕ → CloneRecord → CloneRecord
+ack_clone id slot r = record r { listed = if_same r.id id slot r.listed }
+
+-- the master after an ack, by whichever record has the identifier
+abbrev pub acked_all : Id → ℕ → Master → Master
+acked_all id slot m = record m { snapshots = acked_snapshot id slot m.snapshots; restorations = acked_restoration id slot m.restorations; clones = acked_clone id slot m.clones }
+
+pub each_snapshot : (m : Master) (id : Id) (slot : ℕ) (P : SnapshotRecord → Type 0) → ((r : SnapshotRecord) → In r m.snapshots → P (ack_snapshot id slot r)) → (r : SnapshotRecord) → In r (acked_all id slot m).snapshots → P r
+each_snapshot m id slot P h r isin = in_mapped (ack_snapshot id slot) P m.snapshots h r isin
+
+pub all_restorations : (m : Master) (id : Id) (slot : ℕ) (P : RestorationRecord → Type 0) → ((r : RestorationRecord) → In r m.restorations → P (ack_restoration id slot r)) → (r : RestorationRecord) → In r (acked_all id slot m).restorations → P r
+all_restorations m id slot P h r isin = in_mapped (ack_restoration id slot) P m.restorations h r isin
+
+pub all_clones : (m : Master) (id : Id) (slot : ℕ) (P : CloneRecord → Type 0) → ((c : CloneRecord) → In c m.clones → P (ack_clone id slot c)) → (c : CloneRecord) → In c (acked_all id slot m).clones → P c
+all_clones m id slot P h c isin = in_mapped (ack_clone id slot) P m.clones h c isin
+
+pub snapshot_stays : (m : Master) (id : Id) (slot : ℕ) (r : SnapshotRecord) → In r m.snapshots → In (ack_snapshot id slot r) (acked_all id slot m).snapshots
+snapshot_stays m id slot r isin = map_in (ack_snapshot id slot) m.snapshots r isin
+
+pub restoration_stays : (m : Master) (id : Id) (slot : ℕ) (r : RestorationRecord) → In r m.restorations → In (ack_restoration id slot r) (acked_all id slot m).restorations
+restoration_stays m id slot r isin = map_in (ack_restoration id slot) m.restorations r isin
+
+pub clone_stays : (m : Master) (id : Id) (slot : ℕ) (c : CloneRecord) → In c m.clones → In (ack_clone id slot c) (acked_all id slot m).clones
+clone_stays m id slot c isin = map_in (ack_clone id slot) m.clones c isin
+
+-- each two
+pub pairs : {A : Type 0} (f : A → A) (R : A → A → Type 0) (xs : List A) → ((q r : A) → In q xs → In r xs → R (f q) (f r)) → (q r : A) → In q (map f xs) → In r (map f xs) → R q r
+pairs f R xs h q r inq inr_ = in_mapped f (λ a. R a r) xs (λ a ina. in_mapped f (λ b. R (f a) b) xs (λ b inb. h a b ina inb) r inr_) q inq
+
+rise_acked : (rs : List SnapshotRecord) (id : Id) (slot : ℕ) → SnapshotsRise rs → SnapshotsRise (map (ack_snapshot id slot) rs)
+rise_acked [] id slot h = tt
+rise_acked (r ∷ rs) id slot h = (in_mapped (ack_snapshot id slot) (λ q. (r.id.number < q.id.number) × (r.at < q.at)) rs h.0, rise_acked rs id slot h.1)
+
+apart_acked : (m : Master) (id : Id) (slot : ℕ) → OperationsApart m.schedules m.snapshots m.restorations m.clones
+    → OperationsApart m.schedules (acked_all id slot m).snapshots (acked_all id slot m).restorations (acked_all id slot m).clones
+apart_acked m id slot h =
+    let fs = ack_snapshot id slot in
+    let fr = ack_restoration id slot in
+    let fc = ack_clone id slot in
+    record {
+      schedule_ids = h.schedule_ids;
+      one_schedule = h.one_schedule;
+      snapshots_rise = rise_acked m.snapshots id slot h.snapshots_rise;
+      one_snapshot = pairs fs (λ q r. q.complete ≡ false → r.complete ≡ false → q.schedule ≡ r.schedule → q ≡ r) m.snapshots (λ q r inq inr_ a b c. ap fs (h.one_snapshot q r inq inr_ a b c));
+      restoration_ids = pairs fr (λ q r. q.id ≡ r.id → q ≡ r) m.restorations (λ q r inq inr_ a. ap fr (h.restoration_ids q r inq inr_ a));
+      one_restoration = pairs fr (λ q r. is_restored q.state ≡ false → is_restored r.state ≡ false → q.namespace ≡ r.namespace → q ≡ r) m.restorations (λ q r inq inr_ a b c. ap fr (h.one_restoration q r inq inr_ a b c));
+      clone_ids = pairs fc (λ q r. q.id ≡ r.id → q ≡ r) m.clones (λ q r inq inr_ a. ap fc (h.clone_ids q r inq inr_ a));
+      one_clone = λ c d ns inc ind. pairs fc (λ q r. is_cloned q.state ≡ false → is_cloned r.state ≡ false → Uses q ns → Uses r ns → q ≡ r) m.clones (λ q r inq inr_ a b e g. ap fc (h.one_clone q r ns inq inr_ a b e g)) c d inc ind;
+      one_operation = λ r c inr_ inc. all_restorations m id slot (λ q. is_restored q.state ≡ false → is_cloned c.state ≡ false → Uses c q.namespace → ⊥)
+          (λ q inq. all_clones m id slot (λ d. is_restored q.state ≡ false → is_cloned d.state ≡ false → Uses d q.namespace → ⊥) (λ d ind a b e. h.one_operation q d inq ind a b e) c inc) r inr_;
+      one_target = λ c d p q inc ind. pairs fc (λ a b. is_cloned a.state ≡ false → is_cloned b.state ≡ false → In p a.tablets → In q b.tablets → p.slot ≡ q.slot → a ≡ b) m.clones
+          (λ a b ina inb x y z w v. ap fc (h.one_target a b p q ina inb x y z w v)) c d inc ind;
+      one_made = λ c d p q inc ind. pairs fc (λ a b. is_visible a.state ≡ false → is_visible b.state ≡ false → In p a.tablets → In q b.tablets → p.target ≡ q.target → a ≡ b) m.clones
+          (λ a b ina inb x y z w v. ap fc (h.one_made a b p q ina inb x y z w v)) c d inc ind;
+      one_name = pairs fc (λ q r. is_visible q.state ≡ false → is_visible r.state ≡ false → q.target ≡ r.target → q ≡ r) m.clones (λ q r inq inr_ a b e. ap fc (h.one_name q r inq inr_ a b e));
+    }
+
+-- Floors
+
+restoration_time : (rs : List RestorationRecord) (id : Id) (slot : ℕ) (ns : Id) → option_map (λ r. r.to) (restoration_of (map (ack_restoration id slot) rs) ns) ≡ option_map (λ r. r.to) (restoration_of rs ns)
+restoration_time [] id slot ns = refl
+restoration_time (r ∷ rs) id slot ns = either_way (same r.namespace ns && not (is_restored r.state)) (λ b. rw b refl) (λ b. rw b (restoration_time rs id slot ns))
+
+clone_time : (cs : List CloneRecord) (id : Id) (slot : ℕ) (ns : Id) → option_map (λ r. r.to) (clone_with (map (ack_clone id slot) cs) ns) ≡ option_map (λ r. r.to) (clone_with cs ns)
+clone_time [] id slot ns = refl
+clone_time (c ∷ cs) id slot ns = either_way ((same c.target_id ns || same c.source ns) && not (is_cloned c.state)) (λ b. rw b refl) (λ b. rw b (clone_time cs id slot ns))
+
+pub floor_acked : (m : Master) (id : Id) (slot : ℕ) (ns : Id) (n : ℕ) → floor_of (acked_all id slot m) ns n ≡ floor_of m ns n
+floor_acked m id slot ns n =
+    ap (λ t. floor (schedule_of m.schedules ns) (option_or t (option_map (λ r. r.to) (clone_with (map (ack_clone id slot) m.clones) ns))) n) (restoration_time m.restorations id slot ns)
+    ∙ ap (λ t. floor (schedule_of m.schedules ns) (option_or (option_map (λ r. r.to) (restoration_of m.restorations ns)) t) n) (clone_time m.clones id slot ns)
+
+-- Intervals and lists
+
+known_acked : (m : Master) (id : Id) (slot : ℕ) (l k : Listed) → l.tablet ≡ k.tablet → l.slot ≡ k.slot → IsKnown m k → IsKnown (acked_all id slot m) l
+known_acked m id slot l k tablet at h = record { interval = h.interval; kept = h.kept; tablet_is = h.tablet_is ∙ sym tablet; slot_is = h.slot_is ∙ sym at }
+
+listed_acked : (b : Bool) (ls : List Listed) (slot : ℕ) (i : Interval) → IsListed ls i → IsListed (ack_if b slot ls) i
+listed_acked b ls slot i h = let k = now b ls slot h.line h.listed in record { line = k.line; listed = k.listed; tablet_is = k.tablet_is ∙ h.tablet_is; slot_is = k.slot_is ∙ h.slot_is }
+
+pub open_back : (m : Master) (id : Id) (slot : ℕ) (ns : Id) (i : Interval) → IsOpenOf (acked_all id slot m) ns i → IsOpenOf m ns i
+open_back m id slot ns i h = record { kept = h.kept; opened = h.opened; owned = h.owned }
+
+pub open_acked : (m : Master) (id : Id) (slot : ℕ) (ns : Id) (i : Interval) → IsOpenOf m ns i → IsOpenOf (acked_all id slot m) ns i
+open_acked m id slot ns i h = record { kept = h.kept; opened = h.opened; owned = h.owned }
+
+active_acked : (m : Master) (id : Id) (slot : ℕ) (l k : Listed) (from : ℕ) → l.tablet ≡ k.tablet → l.slot ≡ k.slot → IsActive m k from → IsActive (acked_all id slot m) l from
+active_acked m id slot l k from tablet at h = record { interval = h.interval; kept = h.kept; tablet_is = h.tablet_is ∙ sym tablet; slot_is = h.slot_is ∙ sym at; opened = h.opened; from_is = h.from_is }
+
+-- Schedules and snapshots
+
+reached_acked : (m : Master) (id : Id) (slot : ℕ) (schedule ns : Id) (after : ℕ) → IsReached m schedule ns after → IsReached (acked_all id slot m) schedule ns after
+reached_acked m id slot schedule ns after (inl h) = inl (subst (λ y. after < y) (sym (floor_acked m id slot ns m.clock)) h)
+reached_acked m id slot schedule ns after (inr h) = inr (ack_snapshot id slot h.0, (snapshot_stays m id slot h.0 h.1.0, h.1.1))
+
+schedule_acked : (m : Master) (id : Id) (slot : ℕ) (s : Schedule) → ScheduleGood m s → ScheduleGood (acked_all id slot m) s
+schedule_acked m id slot s h =
+    record { drawn = h.drawn; drawn_namespace = h.drawn_namespace; from_one = h.from_one; begun = h.begun; last = h.last; reached = reached_acked m id slot s.id s.namespace _ h.reached }
+
+snapshot_acked : (m : Master) (id : Id) (slot : ℕ) (r : SnapshotRecord) → SnapshotGood m r → SnapshotGood (acked_all id slot m) (ack_snapshot id slot r)
+snapshot_acked m id slot r h = let b = same r.id id in record {
+  kind_is = h.kind_is;
+  drawn = h.drawn;
+  drawn_schedule = h.drawn_schedule;
+  drawn_namespace = h.drawn_namespace;
+  rises = h.rises;
+  past = h.past;
+  bodies = λ l isin. (let w = was b r.listed slot l isin in w.body_is ∙ h.bodies w.line w.listed);
+  drawn_listed = λ l isin. (let w = was b r.listed slot l isin in subst (λ t. t.number ≤ m.drawn.tablets) (sym w.tablet_is) (h.drawn_listed w.line w.listed));
+  listed_of = λ l i isin there is. (let w = was b r.listed slot l isin in let k = h.listed_of w.line i w.listed there (is ∙ w.tablet_is) in (k.0, k.1 ∙ sym w.slot_is));
+  known = λ unfinished l isin. (let w = was b r.listed slot l isin in known_acked m id slot l w.line w.tablet_is w.slot_is (h.known unfinished w.line w.listed));
+  lists = λ i there owned active. listed_acked b r.listed slot i (h.lists i there owned active);
+  reached = elim h.reached [
+    | inl low ↦ inl (subst (λ y. r.after < y) (sym (floor_acked m id slot r.namespace m.clock)) low)
+    | inr q ↦ inr (ack_snapshot id slot q.0, (snapshot_stays m id slot q.0 q.1.0, q.1.1))
+  ];
+  of_schedule = h.of_schedule;
+  same_namespace = each_snapshot m id slot (λ q. q.schedule ≡ r.schedule → q.namespace ≡ r.namespace) (λ q inq. h.same_namespace q inq);
+  scheduled = h.scheduled;
+}
+
+serving_acked : (m : Master) (id : Id) (slot : ℕ) (snapshot ns : Id) (to : ℕ) → IsServing m snapshot ns to → IsServing (acked_all id slot m) snapshot ns to
+serving_acked m id slot snapshot ns to h = record {
+  serving = ack_snapshot id slot h.serving;
+  kept = snapshot_stays m id slot h.serving h.kept;
+  id_is = h.id_is;
+  complete = h.complete;
+  namespace_is = h.namespace_is;
+  after = h.after;
+  reaches = h.reaches;
+}
+
+-- Restorations
+
+point_acked : (m : Master) (id : Id) (slot : ℕ) (changes : List Change) (r : RestorationRecord) (point : ℕ) → IsPoint m changes r point → IsPoint (acked_all id slot m) changes (ack_restoration id slot r) point
+point_acked m id slot changes r point h = record {
+  later = h.later;
+  fixed = h.fixed;
+  snapshots = each_snapshot m id slot (λ q. q.namespace ≡ r.namespace → q.at < point) (λ q inq. h.snapshots q inq);
+  complete = h.complete;
+}
+
+before_acked : (m : Master) (id : Id) (slot : ℕ) (ns : Id) (point : ℕ) → BeforePoint m ns point → BeforePoint (acked_all id slot m) ns point
+before_acked m id slot ns point h = record { begun = h.begun; ended = h.ended; tables_begun = h.tables_begun; tables_ended = h.tables_ended }
+
+after_same : (r q : RestorationRecord) (point : ℕ) (serving : Id) (b : Body) → q.to ≡ r.to → IsAfterSwitch r point serving b → IsAfterSwitch q point serving b
+after_same r q point serving (RestoreFrom snapshot to at version) e h = (h.0, (h.1.0 ∙ sym e, h.1.1))
+after_same r q point serving (Hide ended) e h = h
+after_same r q point serving _ e h = absurd h
+
+state_acked : (state : RestorationState) (m : Master) (id : Id) (slot : ℕ) (changes : List Change) (r : RestorationRecord) → RestorationStateGood state m changes r → RestorationStateGood state (acked_all id slot m) changes (ack_restoration id slot r)
+state_acked Fencing m id slot changes r h = let b = same r.id id in record {
+  bodies = λ l isin. (let w = was b r.listed slot l isin in w.body_is ∙ h.bodies w.line w.listed);
+  lists = λ i opened. listed_acked b r.listed slot i (h.lists i (open_back m id slot r.namespace i opened));
+  opens = λ l isin. (let w = was b r.listed slot l isin in let k = h.opens w.line w.listed in (k.0, (open_acked m id slot r.namespace k.0 k.1.0, (k.1.1.0 ∙ sym w.tablet_is, k.1.1.1 ∙ sym w.slot_is))));
+}
+state_acked (Snapshotting point own) m id slot changes r h = record {
+  is_point = point_acked m id slot changes r point h.is_point;
+  empty = ack_empty (same r.id id) slot r.listed h.empty;
+  soon = h.soon;
+  before = before_acked m id slot r.namespace point h.before;
+  snapshot = ack_snapshot id slot h.snapshot;
+  kept = snapshot_stays m id slot h.snapshot h.kept;
+  id_is = h.id_is;
+  at_is = h.at_is;
+  schedule_is = h.schedule_is;
+  alone = each_snapshot m id slot (λ q. q.complete ≡ false → q.schedule ≡ r.schedule → q.id ≡ own) (λ q inq. h.alone q inq);
+}
+state_acked (Switching point serving) m id slot changes r h = record {
+  is_point = point_acked m id slot changes r point h.is_point;
+  empty = ack_empty (same r.id id) slot r.listed h.empty;
+  begun = h.begun;
+  before = before_acked m id slot r.namespace point h.before;
+  serves = serving_acked m id slot serving r.namespace r.to h.serves;
+  calm = each_snapshot m id slot (λ q. q.complete ≡ false → q.schedule ≡ r.schedule → ⊥) (λ q inq. h.calm q inq);
+}
+state_acked (Restoring point serving) m id slot changes r h = let b = same r.id id in record {
+  is_point = point_acked m id slot changes r point h.is_point;
+  begun = h.begun;
+  serves = serving_acked m id slot serving r.namespace r.to h.serves;
+  calm = each_snapshot m id slot (λ q. q.complete ≡ false → q.schedule ≡ r.schedule → ⊥) (λ q inq. h.calm q inq);
+  switched = h.switched;
+  bodies = λ l isin. (let w = was b r.listed slot l isin in subst (IsAfterSwitch (ack_restoration id slot r) point serving) (sym w.body_is) (after_same r (ack_restoration id slot r) point serving w.line.body refl (h.bodies w.line w.listed)));
+  back = λ l isin restores. (
+      let w = was b r.listed slot l isin in
+      let k = h.back w.line w.listed (ap is_restore (sym w.body_is) ∙ restores) in record {
+        then_ = k.then_;
+        kept_then = k.kept_then;
+        tablet_then = k.tablet_then ∙ sym w.tablet_is;
+        active = k.active;
+        now = k.now;
+        kept_now = k.kept_now;
+        tablet_now = k.tablet_now ∙ sym w.tablet_is;
+        slot_now = k.slot_now ∙ sym w.slot_is;
+        opened = k.opened;
+        from_is = k.from_is;
+      });
+  gone = λ l i isin hides there is. (let w = was b r.listed slot l isin in h.gone w.line i w.listed (ap is_restore (sym w.body_is) ∙ hides) there (is ∙ w.tablet_is));
+  opens = λ i opened. (
+      let k = h.opens i (open_back m id slot r.namespace i opened) in
+      let w = now b r.listed slot k.is_listed.line k.is_listed.listed in record {
+        from_is = k.from_is;
+        is_listed = record { line = w.line; listed = w.listed; tablet_is = w.tablet_is ∙ k.is_listed.tablet_is; slot_is = w.slot_is ∙ k.is_listed.slot_is };
+        restores = ap is_restore w.body_is ∙ k.restores;
+      });
+}
+state_acked (Releasing point serving) m id slot changes r h = let b = same r.id id in record {
+  is_point = point_acked m id slot changes r point h.is_point;
+  begun = h.begun;
+  switched = h.switched;
+  bodies = λ l isin. (let w = was b r.listed slot l isin in w.body_is ∙ h.bodies w.line w.listed);
+  active = λ l isin. (let w = was b r.listed slot l isin in active_acked m id slot l w.line point w.tablet_is w.slot_is (h.active w.line w.listed));
+  opens = λ i opened. listed_acked b r.listed slot i (h.opens i (open_back m id slot r.namespace i opened));
+}
+state_acked (Restored point serving) m id slot changes r h = record { empty = ack_empty (same r.id id) slot r.listed h.empty; begun = h.begun; later = h.later; switched = h.switched }
+
+restoration_acked : (m : Master) (id : Id) (slot : ℕ) (changes : List Change) (r : RestorationRecord) → RestorationGood m changes r → RestorationGood (acked_all id slot m) changes (ack_restoration id slot r)
+restoration_acked m id slot changes r h = record {
+  kind_is = h.kind_is;
+  drawn = h.drawn;
+  drawn_namespace = h.drawn_namespace;
+  past = h.past;
+  scheduled = h.scheduled;
+  known = λ unfinished l isin. (let w = was (same r.id id) r.listed slot l isin in known_acked m id slot l w.line w.tablet_is w.slot_is (h.known unfinished w.line w.listed));
+  in_state = state_acked r.state m id slot changes r h.in_state;
+}
+
+-- Clones
+
+clone_state_acked : (state : CloneState) (m : Master) (id : Id) (slot : ℕ) (c : CloneRecord) → CloneStateGood state m c → CloneStateGood state (acked_all id slot m) (ack_clone id slot c)
+clone_state_acked Accepted m id slot c h = ack_empty (same c.id id) slot c.listed h
+clone_state_acked (CloneSnapshot own) m id slot c h = record {
+  empty = ack_empty (same c.id id) slot c.listed h.empty;
+  snapshot = ack_snapshot id slot h.snapshot;
+  kept = snapshot_stays m id slot h.snapshot h.kept;
+  id_is = h.id_is;
+  namespace_is = h.namespace_is;
+  of_schedule = h.of_schedule;
+  reaches = h.reaches;
+}
+clone_state_acked (Copying serving at) m id slot c h = let b = same c.id id in record {
+  begun = h.begun;
+  later = h.later;
+  serves = serving_acked m id slot serving c.source c.to h.serves;
+  bodies = λ l isin. (
+      let w = was b c.listed slot l isin in
+      let k = h.bodies w.line w.listed in record { pair = k.pair; paired = k.paired; tablet_is = w.tablet_is ∙ k.tablet_is; slot_is = w.slot_is ∙ k.slot_is; body_is = w.body_is ∙ k.body_is });
+  all = λ p paired. (let k = h.all p paired in let w = now b c.listed slot k.0 k.1.0 in (w.line, (w.listed, (w.tablet_is ∙ k.1.1.0, w.slot_is ∙ k.1.1.1))));
+}
+clone_state_acked (CloneReleasing serving at) m id slot c h = let b = same c.id id in record {
+  since = h.since;
+  begun = h.begun;
+  later = h.later;
+  copied = h.copied;
+  bodies = λ l isin. (let w = was b c.listed slot l isin in w.body_is ∙ h.bodies w.line w.listed);
+  active = λ l isin. (let w = was b c.listed slot l isin in active_acked m id slot l w.line h.since w.tablet_is w.slot_is (h.active w.line w.listed));
+  listed_of = λ l i isin there is. (let w = was b c.listed slot l isin in h.listed_of w.line i w.listed there (is ∙ w.tablet_is));
+  opens = λ i opened. listed_acked b c.listed slot i (h.opens i (open_back m id slot c.target_id i opened));
+}
+clone_state_acked (CloneComplete serving at) m id slot c h = ack_empty (same c.id id) slot c.listed h
+
+clone_acked : (m : Master) (id : Id) (slot : ℕ) (changes : List Change) (c : CloneRecord) → CloneGood m changes c → CloneGood (acked_all id slot m) changes (ack_clone id slot c)
+clone_acked m id slot changes c h = record {
+  kind_is = h.kind_is;
+  drawn = h.drawn;
+  drawn_source = h.drawn_source;
+  drawn_target = h.drawn_target;
+  apart = h.apart;
+  past = h.past;
+  pairs = λ p paired. (let g = h.pairs p paired in record { slot_from = g.slot_from; slot_to = g.slot_to; drawn = g.drawn; drawn_table = g.drawn_table; owned = g.owned });
+  drawn_listed = λ l isin. (let w = was (same c.id id) c.listed slot l isin in subst (λ t. t.number ≤ m.drawn.tablets) (sym w.tablet_is) (h.drawn_listed w.line w.listed));
+  one_slot = h.one_slot;
+  one_target = h.one_target;
+  one_table = h.one_table;
+  tables_apart = h.tables_apart;
+  owned = h.owned;
+  drawn_sources = h.drawn_sources;
+  covers = h.covers;
+  scheduled = h.scheduled;
+  sources = λ unfinished p paired. (let k = h.sources unfinished p paired in record {
+    interval = k.interval;
+    kept = k.kept;
+    tablet_is = k.tablet_is;
+    slot_is = k.slot_is;
+    low_is = k.low_is;
+    high_is = k.high_is;
+    active = k.active;
+    owned = k.owned;
+    pair = k.pair;
+    paired = k.paired;
+    source_is = k.source_is;
+    target_is = k.target_is;
+  });
+  reserved = λ unseen p paired. (let k = h.reserved unseen p paired in record {
+    free = k.free;
+    unknown = k.unknown;
+    no_snapshot = λ r l isin. each_snapshot m id slot (λ q. In l q.listed → l.tablet ≡ p.target → ⊥) (λ q inq lists is. let w = was (same q.id id) q.listed slot l lists in k.no_snapshot q w.line inq w.listed (sym w.tablet_is ∙ is)) r isin;
+    no_restoration = λ r l isin. all_restorations m id slot (λ q. In l q.listed → l.tablet ≡ p.target → ⊥) (λ q inq lists is. let w = was (same q.id id) q.listed slot l lists in k.no_restoration q w.line inq w.listed (sym w.tablet_is ∙ is)) r isin;
+  });
+  no_tablet = h.no_tablet;
+  no_table = h.no_table;
+  no_namespace = h.no_namespace;
+  no_schedule = h.no_schedule;
+  unfixed = h.unfixed;
+  in_state = clone_state_acked c.state m id slot c h.in_state;
+}
+
+-- All
+
+sent_acked : (m : Master) (id : Id) (slot : ℕ) (mark : Sent) → IsSent m.snapshots m.restorations m.clones mark → IsSent (acked_all id slot m).snapshots (acked_all id slot m).restorations (acked_all id slot m).clones mark
+sent_acked m id slot mark (inl k) = let r = k.0 in let l = k.1.1.2 in let w = now (same r.id id) r.listed slot l.0 l.1.0 in
+    inl (ack_snapshot id slot r, (snapshot_stays m id slot r k.1.0, (k.1.1.0, k.1.1.1, (w.line, (w.listed, w.slot_is ∙ l.1.1)))))
+sent_acked m id slot mark (inr (inl k)) = let r = k.0 in let l = k.1.1.2 in let w = now (same r.id id) r.listed slot l.0 l.1.0 in
+    inr (inl (ack_restoration id slot r, (restoration_stays m id slot r k.1.0, (k.1.1.0, k.1.1.1, (w.line, (w.listed, w.slot_is ∙ l.1.1))))))
+sent_acked m id slot mark (inr (inr k)) = let r = k.0 in let l = k.1.1.2 in let w = now (same r.id id) r.listed slot l.0 l.1.0 in
+    inr (inr (ack_clone id slot r, (clone_stays m id slot r k.1.0, (k.1.1.0, k.1.1.1, (w.line, (w.listed, w.slot_is ∙ l.1.1))))))
+
+pub operations_acked : (m : Master) (id : Id) (slot : ℕ) (changes : List Change) → OperationsGood m changes → OperationsGood (acked_all id slot m) changes
+operations_acked m id slot changes h = record {
+  kept = λ ns. subst (λ y. kept_from m.catalog.kept_from ns ≤ y) (sym (floor_acked m id slot ns m.clock)) (h.kept ns);
+  owners = h.owners;
+  apart = apart_acked m id slot h.apart;
+  schedules = λ s isin. schedule_acked m id slot s (h.schedules s isin);
+  snapshots = each_snapshot m id slot (SnapshotGood (acked_all id slot m)) (λ r isin. snapshot_acked m id slot r (h.snapshots r isin));
+  restorations = all_restorations m id slot (RestorationGood (acked_all id slot m) changes) (λ r isin. restoration_acked m id slot changes r (h.restorations r isin));
+  clones = all_clones m id slot (CloneGood (acked_all id slot m) changes) (λ c isin. clone_acked m id slot changes c (h.clones c isin));
+  sent = λ mark isin. sent_acked m id slot mark (h.sent mark isin);
+}

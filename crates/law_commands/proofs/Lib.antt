@@ -1,0 +1,15 @@
+pub mod Marks
+pub mod Pending
+pub mod Sending
+pub mod Doing
+pub mod Held
+pub mod Fencing
+pub mod Freezing
+pub mod Releasing
+pub mod Hiding
+pub mod Restores
+pub mod Copies
+pub mod Processing
+pub mod Acked
+pub mod AckedSlots
+pub mod Acking

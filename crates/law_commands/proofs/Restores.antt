@@ -1,0 +1,271 @@
+-- A tablet that takes back its rows keeps what holds: they are those of the view at the time to which its namespace is taken back.
+use Rattle.std.proofs.Common.{ℕ, ◌≡◌, ◌≤◌, ◌<◌, ◌+◌, List, [], ◌∷◌, ◌++◌, Option, Some, None, true, false, cond, ◌&&◌, ◌||◌, inl, inr, refl, sym, ap, subst, ◌∙◌, arith, not, leb, leb-true, le-leb, ltb-true, le_trans, le_of_lt, lt_of_lt_of_le}
+use Rattle.std.proofs.lemmas.Bool.{true≢false}
+use Rattle.std.proofs.lemmas.Bool.Decides.{nat_tests}
+use Rattle.row_values.specs.Codes.{code_of}
+use Rattle.row_values.specs.declared.rows.KeyedRow.{KeyedRow}
+use Rattle.model.specs.Ids.{Id, In, same}
+use Rattle.model.specs.Times.{before_end}
+use Rattle.model.specs.Store.{Version, Below, in_range, read_of, rows_at, of_rows}
+use Rattle.model.specs.Catalog.{owner_of}
+use Rattle.model.specs.Activity.{Interval, active_at, active_within}
+use Rattle.model.specs.Journal.{Change, row_at}
+use Rattle.model.specs.Tablets.{Tablet, InService, OutOfService, Command, Mark, Fence, Freeze, RestoreFrom, Release, Copy, FenceKind, FreezeKind, RestoreFromKind, FrozenSet, set_of, rows_of_set, cutoff_of_set, processed, kind_of, is_done, is_vacant}
+use Rattle.model.specs.Records.{Listed, RestorationRecord, RestorationState, Fencing, Snapshotting, Switching, Restoring, Releasing, Restored, CloneRecord, CloneState, Accepted, CloneSnapshot, Copying, CloneReleasing, CloneComplete, is_restored, point_of}
+use Rattle.model.specs.Stands.{awaited_in, awaited_of, before_restore, AreRowsAt}
+use Rattle.model.specs.Parts.{Master}
+use Rattle.law_store.proofs.Keys.{either_way}
+use Rattle.law_store.proofs.Listing.{restored_reads, sorted_restored, below_of_rows}
+use Rattle.law_store.proofs.Members.{keys_of_rows, keys_rows_at}
+use Rattle.law_store.proofs.Restoring.{are_rows_restored}
+use Rattle.law_store.specs.Sorted.{Sorted, EachKey}
+use Rattle.law_invariants.specs.Invariant.{MasterGood, TurnsAt, ComesFrom, SlotGood, SlotWorks}
+use Rattle.law_invariants.specs.Operations.{IsAfterSwitch, IsServing, RestoringGood, RestorationStateGood, CloneStateGood, OperationsGood}
+use Rattle.law_invariants.specs.Orders.{FencePlace, RestoringSlot, RestorationSlot}
+use Rattle.law_invariants.proofs.Finding.{both_pass, passes_both, none_or_some}
+use Rattle.law_invariants.proofs.Ticking.{over_later}
+use Rattle.law_rows.proofs.Writing.{settled_none}
+use Rattle.law_commands.proofs.Marks.{done_still, done_beside, done_now}
+use Rattle.law_commands.proofs.Pending.{IsPending, BySnapshot, ByRestoration as RestorationPends, ByClone as ClonePends, none_in}
+use Rattle.law_invariants.proofs.Awaits.{Awaits, awaits_is, listed_any}
+use Rattle.law_commands.proofs.Doing.{mark_of, mark_pending, orders_done, IsHere, table_here, owner_here}
+use Rattle.law_commands.proofs.Hiding.{no_end}
+use Rattle.law_commands.proofs.Held.{Does, HoldsOf, each_restoration, clones_beside, obeyed_done, marked_after}
+
+-- Frozen sets that serve a time
+
+pub set_in : (fs : List FrozenSet) (id : Id) (f : FrozenSet) → set_of fs id ≡ Some f → In f fs
+set_in [] id f e = absurd (let q = e in grind arith)
+set_in (g ∷ fs) id f e = either_way (same g.snapshot id)
+    (λ b. inl (let q : Some g ≡ Some f = rw b at e in let is : g ≡ f = cc in is))
+    (λ b. inr (set_in fs id f (rw b at e)))
+
+before_earlier : (to : Option ℕ) (x y : ℕ) → x ≤ y → before_end y to ≡ true → before_end x to ≡ true
+before_earlier None x y le h = refl
+before_earlier (Some e) x y le h = grind (arith, nat_tests)
+
+pub within : (i : Interval) (after at to : ℕ) → after < to → to ≤ at → active_at to i ≡ true → active_within after at i ≡ true
+within i after at to less reaches active =
+    let b = both_pass (leb i.from to) (before_end to i.to) active in
+    let from : i.from ≤ to = leb-true i.from to b.0 in
+    passes_both (leb i.from at) (before_end (after + 1) i.to) (le-leb i.from at (le_trans from reaches)) (before_earlier i.to (after + 1) to (omega arith) b.1)
+
+-- the frozen set from which a tablet that was active at a time takes rows, where a complete snapshot serves it
+pub record Serves (m : Master) (slot : ℕ) (t : Tablet) (snapshot : Id) (to : ℕ) : Type 0 where
+  pub set : FrozenSet
+  pub held : set_of t.frozen snapshot ≡ Some set
+  pub isin : In set t.frozen
+  pub reaches : to ≤ set.at
+
+pub serves_then : (m : Master) (changes : List Change) (slot : ℕ) (t : Tablet) (snapshot ns : Id) (to : ℕ) (i : Interval) → OperationsGood m changes → SlotGood m changes slot t → SlotWorks m changes slot t → IsServing m snapshot ns to
+    → In i m.activity → i.slot ≡ slot → owner_of m.catalog.owners i.table ≡ Some ns → active_at to i ≡ true → Serves m slot t snapshot to
+serves_then m changes slot t snapshot ns to i ops good works serves isin at owned active =
+    let s = serves.serving in
+    let g = good.each i isin at in
+    let k = (ops.snapshots s serves.kept).lists i isin (owned ∙ ap Some (sym serves.namespace_is)) (within i s.after s.at to serves.after serves.reaches active) in
+    let did = works.obeyed.snapshots s k.line serves.kept k.listed (k.slot_is ∙ at) (ap (λ b. b || k.line.acked) serves.complete) (g.tablet_is ∙ sym k.tablet_is) g.present in
+    let h = works.orders.holds s serves.kept did in
+    let held : set_of t.frozen snapshot ≡ Some h.set = ap (set_of t.frozen) (sym serves.id_is) ∙ h.held in
+    let time = h.time in
+    let reaches = serves.reaches in
+    record { set = h.set; held = held; isin = set_in t.frozen snapshot h.set held; reaches = omega (arith, time, reaches) }
+
+-- What a tablet awaits
+
+-- a restoration for which the slot's tablet waits is one of its namespace
+awaits_of : (m : Master) (changes : List Change) (slot : ℕ) (t : Tablet) (ns : Id) (done : List Mark) (point : ℕ) → MasterGood m changes → SlotGood m changes slot t → IsHere m slot ns → (k : Awaits m.restorations t.tablet done point)
+    → k.restoration.namespace ≡ ns
+awaits_of m changes slot t ns done point master good here k =
+    let tablet_is : here.interval.tablet ≡ k.line.tablet = sym (good.each here.interval here.kept here.slot_is).tablet_is ∙ sym k.tablet_is in
+    owner_here m changes slot t ns k.restoration.namespace here.interval good here here.kept here.slot_is (master.listed_of k.restoration k.line k.known k.listed here.interval here.kept tablet_is)
+
+-- the tablet with rows taken back
+abbrev pub back_with : Tablet → ℕ → ℕ → List Version → ℕ → Id → List Command → List Mark → Tablet
+back_with t n version vs point operation inbox done = record t { clock = n; presence = InService; version = version; versions = vs; cutoff = point; fence = Some operation; inbox = inbox; done = done }
+
+slot_restored : (m : Master) (changes : List Change) (slot : ℕ) (t : Tablet) (n version : ℕ) (vs : List Version) (point to : ℕ) (operation : Id) (inbox : List Command) (done : List Mark) → t.clock ≤ n → point ≤ n → is_vacant t.presence ≡ false
+    → Sorted vs → Below (n + 1) vs → EachKey (λ key. in_range t.low t.high (code_of key)) vs
+    → ((key : List ℕ) (x : ℕ) → in_range t.low t.high (code_of key) ≡ true → point ≤ x → read_of vs key x ≡ row_at changes to t.table key)
+    → awaited_in m.restorations t.tablet t.done ≡ Some point → ((i : Interval) → In i m.activity → i.slot ≡ slot → i.to ≡ None → (ns : Id) × ComesFrom changes ns i point to)
+    → awaited_in m.restorations t.tablet done ≡ None → SlotGood m changes slot t → SlotGood m changes slot (back_with t n version vs point operation inbox done)
+slot_restored m changes slot t n version vs point to operation inbox done le begun present sorted below keys reads awaited comes none h = record {
+  good = record {
+    sorted = sorted;
+    below = below;
+    cutoff = begun;
+    keys = keys;
+    set_past = λ f held. lt_of_lt_of_le (h.good.set_past f held) le;
+    set_sorted = h.good.set_sorted;
+    set_keys = h.good.set_keys;
+  };
+  home = λ still. h.home present;
+  numbered = h.numbered;
+  each = λ i isin is. let g = h.each i isin is in record {
+    past = g.past;
+    over = over_later i.to i.from t.clock n le g.over;
+    drawn = g.drawn;
+    drawn_table = g.drawn_table;
+    slot_from = g.slot_from;
+    slot_to = g.slot_to;
+    present = refl;
+    tablet_is = g.tablet_is;
+    table_is = g.table_is;
+    low_is = g.low_is;
+    high_is = g.high_is;
+    viewed = g.viewed;
+    waits = λ p e. absurd (let q : None ≡ Some p = sym none ∙ e in grind arith);
+    comes = λ r p known e opened. absurd (let q : None ≡ Some p = sym (settled_none m.restorations t.tablet done none r known) ∙ e in grind arith);
+    serves = λ opened settled. refl;
+    hidden = λ at out. absurd (let q : InService ≡ OutOfService at = out in grind arith);
+    stands = λ counted key x ranged cut before there. (
+        let within_ : in_range t.low t.high (code_of key) ≡ true = ap (λ a. in_range a t.high (code_of key)) g.low_is ∙ ap (λ b. in_range i.low b (code_of key)) g.high_is ∙ ranged in
+        reads key x within_ cut ∙ ap (λ id. row_at changes to id key) g.table_is
+        ∙ none_or_some i.to
+        (λ opened. sym ((comes i isin is opened).1.rows key x ranged cut))
+        (λ e ended_. absurd (
+        let over : e ≤ point = subst (TurnsAt point i.from) ended_ (g.waits point awaited) in
+        let soon : before_end x (Some e) ≡ true = ap (before_end x) (sym ended_) ∙ before in
+        let less : x < e = ltb-true x e soon in
+        omega (arith, over, less, cut))));
+    sets = g.sets;
+  };
+  opens = λ serving free. absurd (let q : Some operation ≡ None = free in grind arith);
+  shown = λ serving free. absurd (let q : Some operation ≡ None = free in grind arith);
+  later = λ ns past fixed serving free. absurd (let q : Some operation ≡ None = free in grind arith);
+}
+
+-- The body
+
+restoring_is : (state : RestorationState) (m : Master) (changes : List Change) (r : RestorationRecord) (l : Listed) (snapshot : Id) (to at version : ℕ) → RestorationStateGood state m changes r → In l r.listed → l.body ≡ RestoreFrom snapshot to at version
+    → (state ≡ Restoring at snapshot) × (to ≡ r.to)
+restoring_is Fencing m changes r l snapshot to at version h isin e = absurd (let q : Fence ≡ RestoreFrom snapshot to at version = sym (h.bodies l isin) ∙ e in grind arith)
+restoring_is (Snapshotting point own) m changes r l snapshot to at version h isin e = absurd (none_in r.listed l h.empty isin)
+restoring_is (Switching point serving) m changes r l snapshot to at version h isin e = absurd (none_in r.listed l h.empty isin)
+restoring_is (Restoring point serving) m changes r l snapshot to at version h isin e =
+    let q = subst (IsAfterSwitch r point serving) e (h.bodies l isin) in (ap (λ p. Restoring p serving) (sym q.1.1) ∙ ap (Restoring at) (sym q.0), q.1.0)
+restoring_is (Releasing point serving) m changes r l snapshot to at version h isin e = absurd (let q : Release point ≡ RestoreFrom snapshot to at version = sym (h.bodies l isin) ∙ e in grind arith)
+restoring_is (Restored point serving) m changes r l snapshot to at version h isin e = absurd (none_in r.listed l h.empty isin)
+
+no_clone_restore : (state : CloneState) (m : Master) (c : CloneRecord) (l : Listed) (snapshot : Id) (to at version : ℕ) → CloneStateGood state m c → In l c.listed → l.body ≡ RestoreFrom snapshot to at version → ⊥
+no_clone_restore Accepted m c l snapshot to at version h isin e = none_in c.listed l h isin
+no_clone_restore (CloneSnapshot own) m c l snapshot to at version h isin e = none_in c.listed l h.empty isin
+no_clone_restore (Copying serving copied) m c l snapshot to at version h isin e =
+    let b = h.bodies l isin in let q : RestoreFrom snapshot to at version ≡ Copy b.pair.source_slot serving c.to copied b.pair.table b.pair.low b.pair.high 1 = sym e ∙ b.body_is in grind arith
+no_clone_restore (CloneReleasing serving copied) m c l snapshot to at version h isin e = let q : RestoreFrom snapshot to at version ≡ Release h.since = sym e ∙ h.bodies l isin in grind arith
+no_clone_restore (CloneComplete serving copied) m c l snapshot to at version h isin e = none_in c.listed l h isin
+
+point_same : (p q : ℕ) (a b : Id) → Restoring p a ≡ Restoring q b → p ≡ q
+point_same p q a b e = cc
+
+restored_by : (m : Master) (changes : List Change) (slot n : ℕ) (t : Tablet) (operation tablet snapshot : Id) (at version : ℕ) (cs : List Command) (rows : List KeyedRow) (r : RestorationRecord) → In r m.restorations → r.id ≡ operation
+    → r.state ≡ Restoring at snapshot → In (record { tablet = tablet; slot = slot; body = RestoreFrom snapshot r.to at version; acked = false }) r.listed → cutoff_of_set (set_of t.frozen snapshot) ≤ r.to
+    → Does m changes slot n t operation tablet (RestoreFrom snapshot r.to at version) cs
+    → HoldsOf m changes slot (processed (record { operation = operation; tablet = tablet; body = RestoreFrom snapshot r.to at version } ∷ cs) rows n t)
+restored_by m changes slot n t operation tablet snapshot at version cs rows r known id_is is lists cut d =
+    let c : Command = record { operation = operation; tablet = tablet; body = RestoreFrom snapshot r.to at version } in
+    let l : Listed = record { tablet = tablet; slot = slot; body = RestoreFrom snapshot r.to at version; acked = false } in
+    let le : t.clock ≤ n = le_of_lt d.before in
+    let o = d.works.orders in
+    let done = t.done ++ mark_of c ∷ [] in
+    let g = d.operations.restorations r known in
+    let unfinished : is_restored r.state ≡ false = ap is_restored is in
+    let good : RestoringGood m changes r at snapshot = subst (λ s. RestorationStateGood s m changes r) is g.in_state in
+    let w = g.known unfinished l lists in
+    let first = d.good.each w.interval w.kept w.slot_is in
+    let mine : t.tablet ≡ tablet = first.tablet_is ∙ w.tablet_is in
+    let owned : owner_of m.catalog.owners w.interval.table ≡ Some r.namespace = d.master.listed_of r l known lists w.interval w.kept w.tablet_is in
+    let here : IsHere m slot r.namespace = record { interval = w.interval; kept = w.kept; slot_is = w.slot_is; owned = owned } in
+    let of_table = table_here m changes slot t r.namespace d.good here in
+    let b = good.back l lists refl in
+    let then_ = b.then_ in
+    let at_then : then_.slot ≡ slot = d.good.home first.present then_ b.kept_then (b.tablet_then ∙ sym mine) in
+    let gt = d.good.each then_ b.kept_then at_then in
+    let gn = d.good.each b.now b.kept_now b.slot_now in
+    let s = serves_then m changes slot t snapshot r.namespace r.to then_ d.operations d.good d.works good.serves b.kept_then at_then (d.master.listed_of r l known lists then_ b.kept_then b.tablet_then) b.active in
+    let f = s.set in
+    let low : f.cutoff ≤ r.to = subst (λ k. cutoff_of_set k ≤ r.to) s.held cut in
+    let less : at < t.clock = d.after.point r at known id_is (ap point_of is) refl in
+    let sorted = d.good.good.set_sorted f s.isin in
+    let keys = d.good.good.set_keys f s.isin in
+    let then_reads : (key : List ℕ) → in_range t.low t.high (code_of key) ≡ true → read_of f.versions key r.to ≡ row_at changes r.to t.table key =
+    λ key ranged. gt.sets f s.isin key r.to (ap (λ a. in_range a then_.high (code_of key)) (sym gt.low_is) ∙ ap (λ z. in_range t.low z (code_of key)) (sym gt.high_is) ∙ ranged) low s.reaches b.active
+    ∙ ap (λ id. row_at changes r.to id key) (sym gt.table_is) in
+    let fresh : is_done t.done operation RestoreFromKind ≡ false = o.fresh c (subst (In c) (sym d.inbox) (inl refl)) in
+    let waits_of : awaited_of r.state r t.tablet t.done ≡ Some at =
+    ap (λ q. awaited_of q r t.tablet t.done) is
+    ∙ ap (λ z. cond (z && not (is_done t.done r.id RestoreFromKind)) (Some at) None) (listed_any r.listed l t.tablet lists (sym mine) refl)
+    ∙ ap (λ z. cond (not z) (Some at) None) (ap (λ id. is_done t.done id RestoreFromKind) id_is ∙ fresh) in
+    let only : (k : RestorationRecord) → In k m.restorations → is_restored k.state ≡ false → k.namespace ≡ r.namespace → k ≡ r = λ k isin still ns. d.operations.apart.one_restoration k r isin known still unfinished ns in
+    let awaited : awaited_in m.restorations t.tablet t.done ≡ Some at = none_or_some (awaited_in m.restorations t.tablet t.done)
+    (λ none. absurd (let q : None ≡ Some at = sym (settled_none m.restorations t.tablet t.done none r known) ∙ waits_of in grind arith))
+    (λ p some.
+    let k = awaits_is m.restorations t.tablet t.done p some in
+    let one : k.restoration ≡ r = only k.restoration k.known (ap is_restored k.state_is) (awaits_of m changes slot t r.namespace t.done p d.master d.good here k) in
+    some ∙ ap Some (point_same p at k.serving snapshot (sym k.state_is ∙ ap (λ q. q.state) one ∙ is))) in
+    let none : awaited_in m.restorations t.tablet done ≡ None = none_or_some (awaited_in m.restorations t.tablet done)
+    (λ none. none)
+    (λ p some.
+    let k = awaits_is m.restorations t.tablet done p some in
+    let one : k.restoration ≡ r = only k.restoration k.known (ap is_restored k.state_is) (awaits_of m changes slot t r.namespace done p d.master d.good here k) in
+    absurd (true≢false (sym (ap (λ id. is_done done id RestoreFromKind) (ap (λ q. q.id) one ∙ id_is) ∙ done_now t.done operation RestoreFromKind) ∙ k.undone))) in
+    let vs = of_rows (rows_at f.versions r.to) at in
+    let u = back_with t n version vs at operation cs done in
+    let now_before : (key : List ℕ) → in_range t.low t.high (code_of key) ≡ true → row_at (before_restore changes r.namespace at changes) r.to t.table key ≡ row_at changes r.to t.table key =
+    λ key ranged. ap (λ id. row_at (before_restore changes r.namespace at changes) r.to id key) gn.table_is
+    ∙ (gn.comes r at known waits_of b.opened).before key (ap (λ a. in_range a b.now.high (code_of key)) (sym gn.low_is) ∙ ap (λ z. in_range t.low z (code_of key)) (sym gn.high_is) ∙ ranged)
+    ∙ ap (λ id. row_at changes r.to id key) (sym gn.table_is) in
+    let are : AreRowsAt vs t.low t.high at (before_restore changes r.namespace at changes) r.to t.table =
+    are_rows_restored f.versions t.low t.high at (before_restore changes r.namespace at changes) r.to t.table sorted keys (λ key ranged. then_reads key ranged ∙ sym (now_before key ranged)) in
+    let mine_slot : (j : Listed) → In j r.listed → j.slot ≡ slot → RestoringSlot changes r at j u = λ j j_lists there. (
+    let old : RestoringSlot changes r at j t = subst (λ q. RestorationSlot q m changes r slot t) is (d.works.obeyed.restorations r known) j j_lists there in record {
+      acked = λ a. done_still t.done (mark_of c) r.id (kind_of j.body) (old.acked a);
+      fenced = λ serving. ap Some (sym id_is);
+      restored = λ restores did. record { serves = refl; cutoff_is = refl; rows = are };
+      hidden = λ hides did. absurd (
+          let k = g.known unfinished j j_lists in
+          let tablet_is : b.now.tablet ≡ j.tablet = b.tablet_now ∙ sym mine ∙ (d.good.each k.interval k.kept (k.slot_is ∙ there)).tablet_is ∙ k.tablet_is in
+          no_end b.now.to at b.opened (good.gone j b.now j_lists hides b.kept_now tablet_is));
+    }) in
+    let result : HoldsOf m changes slot u = record {
+      good = slot_restored m changes slot t n version vs at r.to operation cs done le (omega (arith, less, le)) first.present (sorted_restored f.versions r.to at sorted)
+          (below_of_rows (rows_at f.versions r.to) at (n + 1) (omega (arith, less, le))) (keys_of_rows (rows_at f.versions r.to) at _ (keys_rows_at f.versions r.to _ keys))
+          (λ key x ranged from. restored_reads f.versions r.to at key x from ∙ then_reads key ranged) awaited
+          (λ i isin there opened. (r.namespace, (d.good.each i isin there).comes r at known waits_of opened)) none d.good;
+      works = record {
+        orders = orders_done m slot t (record t { presence = InService; version = version; versions = vs; cutoff = at; fence = Some operation }) n c cs le d.inbox
+            (mark_pending m changes operation slot n l d.operations d.pends (marked_after m changes slot n t operation tablet (RestoreFrom snapshot r.to at version) cs d))
+            (λ by e. let q : operation ≡ by = cc in inl (record {
+              restoration = r;
+              kept = known;
+              id_is = id_is ∙ q;
+              owned = of_table;
+              place = subst (λ z. FencePlace z r m slot done) (sym is) (l, (lists, (refl, inl refl)));
+            }))
+            (λ k there did. let h = o.holds k there (sym (done_beside t.done (mark_of c) k.id FreezeKind (λ e kind. let q : RestoreFromKind ≡ FreezeKind = kind in grind arith)) ∙ did) in
+            record { set = h.set; held = h.held; time = h.time; inside = h.inside })
+            (λ k held. done_still t.done (mark_of c) k.snapshot FreezeKind (o.frozen k held))
+            o.sets refl o;
+        obeyed = obeyed_done m changes slot t u (mark_of c) first.present refl refl refl refl
+            (each_restoration m changes slot t u r d.master d.operations d.good d.works here known unfinished
+            (λ q apart. done_beside t.done (mark_of c) q.id FenceKind (λ e kind. let z : RestoreFromKind ≡ FenceKind = kind in grind arith))
+            (subst (λ q. RestorationSlot q m changes r slot u) (sym is) mine_slot))
+            (clones_beside m changes slot t u r d.operations d.good here known unfinished refl)
+            d.works.obeyed;
+      };
+    } in
+    let rows_are : rows_of_set (set_of t.frozen snapshot) r.to ≡ rows_at f.versions r.to = ap (λ k. rows_of_set k r.to) s.held in
+    subst (λ rs. HoldsOf m changes slot (back_with t n version (of_rows rs at) at operation cs done)) (sym rows_are) result
+
+pub restore_done : (m : Master) (changes : List Change) (slot n : ℕ) (t : Tablet) (operation tablet snapshot : Id) (to at version : ℕ) (cs : List Command) (rows : List KeyedRow) → cutoff_of_set (set_of t.frozen snapshot) ≤ to
+    → Does m changes slot n t operation tablet (RestoreFrom snapshot to at version) cs → IsPending m operation slot (record { tablet = tablet; slot = slot; body = RestoreFrom snapshot to at version; acked = false })
+    → HoldsOf m changes slot (processed (record { operation = operation; tablet = tablet; body = RestoreFrom snapshot to at version } ∷ cs) rows n t)
+restore_done m changes slot n t operation tablet snapshot to at version cs rows cut d (RestorationPends k) =
+    let r = k.restoration in
+    let found = restoring_is r.state m changes r _ snapshot to at version (d.operations.restorations r k.kept).in_state k.line.listed refl in
+    subst (λ x. In (record { tablet = tablet; slot = slot; body = RestoreFrom snapshot x at version; acked = false }) r.listed → cutoff_of_set (set_of t.frozen snapshot) ≤ x → Does m changes slot n t operation tablet (RestoreFrom snapshot x at version) cs
+    → HoldsOf m changes slot (processed (record { operation = operation; tablet = tablet; body = RestoreFrom snapshot x at version } ∷ cs) rows n t))
+    (sym found.1) (restored_by m changes slot n t operation tablet snapshot at version cs rows r k.kept k.id_is found.0) k.line.listed cut d
+restore_done m changes slot n t operation tablet snapshot to at version cs rows cut d (BySnapshot k) =
+    absurd (let q : RestoreFrom snapshot to at version ≡ Freeze k.snapshot.id k.snapshot.at = (d.operations.snapshots k.snapshot k.kept).bodies _ k.line.listed in grind arith)
+restore_done m changes slot n t operation tablet snapshot to at version cs rows cut d (ClonePends k) =
+    absurd (no_clone_restore k.clone.state m k.clone _ snapshot to at version (d.operations.clones k.clone k.kept).in_state k.line.listed refl)

@@ -1,0 +1,327 @@
+-- A snapshot becomes complete.
+use Rattle.std.proofs.Common.{ℕ, ◌≡◌, ◌≤◌, ◌<◌, ◌+◌, ◌-◌, List, [], ◌∷◌, map, Option, Some, None, Bool, true, false, cond, ◌&&◌, ◌||◌, ◌⊎◌, inl, inr, refl, sym, ap, subst, ◌∙◌, arith, not, le_trans, le_refl, le_of_lt, lt_of_lt_of_le}
+use Rattle.std.specs.Option.{option_map_or}
+use Rattle.std.proofs.lemmas.Bool.{true≢false}
+use Rattle.model.specs.Ids.{Snapshot, Restoration, Clone, Id, In, same}
+use Rattle.model.specs.Activity.{Interval}
+use Rattle.model.specs.Journal.{Change as Made}
+use Rattle.model.specs.Records.{Listed, Schedule, SnapshotRecord, schedule_of, unsent}
+use Rattle.model.specs.Schedules.{floor, complete_to, after_of}
+use Rattle.model.specs.Coordination.{unfinished_snapshot, unfinished_restoration, unfinished_clone}
+use Rattle.model.specs.Acts.{Advance}
+use Rattle.model.specs.Operations.{time_of_user}
+use Rattle.model.specs.Cleanup.{floor_of}
+use Rattle.model.specs.Parts.{Master, Parts}
+use Rattle.model.specs.Moves.{progress_of, snapshot_progress, anew, completed, moved_of, advance}
+use Rattle.model.specs.History.{with_either}
+use Rattle.law_store.proofs.Keys.{either_way}
+use Rattle.law_invariants.specs.Operations.{IsReached, SnapshotsRise, ScheduleGood}
+use Rattle.law_invariants.specs.Invariant.{Inv, Later}
+use Rattle.law_invariants.proofs.Finding.{same_equal, same_self, filter_in, in_mapped, map_in}
+use Rattle.law_invariants.proofs.Remembering.{floor_rises}
+use Rattle.law_invariants.proofs.Ticking.{KeepsAll, not_true}
+use Rattle.law_moves.proofs.Recording.{Records, recorded, WasSchedule, NewSchedule, SnapshotOn, SnapshotCame, Onto}
+use Rattle.law_moves.proofs.Staying.{schedule_on}
+use Rattle.law_moves.proofs.Slots.{records_keep}
+use Rattle.law_moves.proofs.Acting.{alone_keeps}
+use Rattle.law_moves.proofs.Advancing.{moves, advance_by, mapped_some, no_restoration, no_clone}
+use Rattle.law_moves.proofs.Pending.{point_is, pending_drawn, pending_unmoved, pending_stays, fence_stays, unfinished_snapshot_is, unacked_is}
+use Rattle.law_moves.proofs.Using.{mapped_is, alone_mapped, mapped_floor}
+
+or_false : (b : Bool) → (b || false) ≡ b
+or_false true = refl
+or_false false = refl
+
+or_true : (b : Bool) → (b || true) ≡ true
+or_true true = refl
+or_true false = refl
+
+or_left : (a b : Bool) → a ≡ true → (a || b) ≡ true
+or_left true b e = refl
+or_left false b e = absurd (true≢false (sym e))
+
+neither_left : (a b : Bool) → (a || b) ≡ false → a ≡ false
+neither_left true b e = e
+neither_left false b e = refl
+
+neither_right : (a b : Bool) → (a || b) ≡ false → b ≡ false
+neither_right true b e = absurd (true≢false e)
+neither_right false b e = e
+
+-- Snapshots rise, so each has an identifier of its own
+
+pub one_snapshot : (rs : List SnapshotRecord) (q r : SnapshotRecord) → SnapshotsRise rs → In q rs → In r rs → q.id ≡ r.id → q ≡ r
+one_snapshot [] q r h in_q in_r e = absurd in_q
+one_snapshot (s ∷ rs) q r h (inl a) (inl b) e = sym a ∙ b
+one_snapshot (s ∷ rs) q r h (inl a) (inr b) e = absurd (let l = (h.0 r b).0 in let k : s.id.number ≡ r.id.number = ap (λ x. x.id.number) a ∙ ap (λ i. i.number) e in omega arith)
+one_snapshot (s ∷ rs) q r h (inr a) (inl b) e = absurd (let l = (h.0 q a).0 in let k : s.id.number ≡ q.id.number = ap (λ x. x.id.number) b ∙ ap (λ i. i.number) (sym e) in omega arith)
+one_snapshot (s ∷ rs) q r h (inr a) (inr b) e = one_snapshot rs q r h.1 a b e
+
+-- The records after the move
+
+abbrev marked : SnapshotRecord → SnapshotRecord → SnapshotRecord
+marked r x = record x { complete = x.complete || same x.id r.id; listed = cond (same x.id r.id) (anew x.listed) x.listed }
+
+abbrev timed : SnapshotRecord → Schedule → Schedule
+timed r s = record s { complete = cond (same s.id r.schedule) (Some r.at) s.complete }
+
+abbrev finished : SnapshotRecord → ℕ → Master → Records
+finished r n m = record {
+  clock = n;
+  schedules = map (timed r) m.schedules;
+  snapshots = map (marked r) m.snapshots;
+  restorations = m.restorations;
+  sent = unsent r.id m.sent;
+  drawn = m.drawn;
+}
+
+abbrev done : SnapshotRecord → SnapshotRecord
+done r = record r { complete = true; listed = anew r.listed }
+
+marked_done : (r : SnapshotRecord) → marked r r ≡ done r
+marked_done r =
+    let with_it : Bool → List Listed → SnapshotRecord = λ b ls. record r { complete = b; listed = ls } in
+    ap (λ b. with_it (r.complete || b) (cond b (anew r.listed) r.listed)) (same_self r.id) ∙ ap (λ b. with_it b (anew r.listed)) (or_true r.complete)
+
+marked_same : (r x : SnapshotRecord) → same x.id r.id ≡ false → marked r x ≡ x
+marked_same r x other =
+    let with_it : Bool → List Listed → SnapshotRecord = λ b ls. record x { complete = b; listed = ls } in
+    ap (λ b. with_it (x.complete || b) (cond b (anew x.listed) x.listed)) other ∙ ap (λ b. with_it b x.listed) (or_false x.complete)
+
+complete_same : (at : Option ℕ) (s t : Schedule) → s.kept_low ≡ t.kept_low → complete_to at s ≡ complete_to at t
+complete_same None s t e = ap (λ x. x - 1) e
+complete_same (Some at) s t e = refl
+
+after_same : (last : Option ℕ) (s t : Schedule) → s.kept_low ≡ t.kept_low → after_of last s ≡ after_of last t
+after_same None s t e = ap (λ x. x - 1) e
+after_same (Some at) s t e = refl
+
+-- what holds of the time of the last complete snapshot, and of the new one, holds of what a schedule has after the move
+timed_by : (P : ℕ → Type 0) (r : SnapshotRecord) (s : Schedule) → (s.id ≡ r.schedule → P r.at) → P (complete_to s.complete s) → P (complete_to (timed r s).complete (timed r s))
+timed_by P r s new old = either_way (same s.id r.schedule)
+    (λ b. subst (λ c. P (complete_to (cond c (Some r.at) s.complete) (timed r s))) (sym b) (new (same_equal s.id r.schedule b)))
+    (λ b. subst (λ c. P (complete_to (cond c (Some r.at) s.complete) (timed r s))) (sym b) (subst P (complete_same s.complete s (timed r s) refl) old))
+
+timed_good : (m : Master) (r : SnapshotRecord) (s : Schedule) → ScheduleGood m s → ScheduleGood m (timed r s)
+timed_good m r s h = record {
+  drawn = h.drawn;
+  drawn_namespace = h.drawn_namespace;
+  from_one = h.from_one;
+  begun = h.begun;
+  last = subst (λ x. x ≤ m.clock) (after_same s.last s (timed r s) refl) h.last;
+  reached = subst (λ x. IsReached m s.id s.namespace x) (after_same s.last s (timed r s) refl) h.reached;
+}
+
+finished_floors : (m : Master) (n : ℕ) (r : SnapshotRecord) (ns : Id) → m.clock ≤ n → floor_of m ns m.clock ≤ floor_of (recorded m (finished r n m)) ns n
+finished_floors m n r ns le =
+    let up : floor_of m ns m.clock ≤ floor (schedule_of m.schedules ns) (time_of_user m ns) n =
+    floor_rises m (record m { clock = n }) ns (record { clock = le; schedules = refl; restorations = refl; clones = refl }) in
+    let is : floor_of (recorded m (finished r n m)) ns n ≡ floor (schedule_of m.schedules ns) (time_of_user m ns) n =
+    mapped_floor m.schedules (timed r) ns (time_of_user m ns) n (λ t. refl) (λ t. refl) in
+    subst (λ y. floor_of m ns m.clock ≤ y) (sym is) up
+
+rise_marked : (rs : List SnapshotRecord) (r : SnapshotRecord) → SnapshotsRise rs → SnapshotsRise (map (marked r) rs)
+rise_marked [] r h = tt
+rise_marked (s ∷ rs) r h = (in_mapped {A = SnapshotRecord} {B = SnapshotRecord} (marked r) (λ q. (s.id.number < q.id.number) × (s.at < q.at)) rs h.0, rise_marked rs r h.1)
+
+-- a line of a list from which the acks are cleared
+anew_is : (ls : List Listed) (l : Listed) → In l (anew ls) → (k : Listed) × (In k ls × ((k.tablet ≡ l.tablet) × ((k.slot ≡ l.slot) × (k.body ≡ l.body))))
+anew_is ls l isin = in_mapped {A = Listed} {B = Listed} (λ k. record k { acked = false }) (λ l. (k : Listed) × (In k ls × ((k.tablet ≡ l.tablet) × ((k.slot ≡ l.slot) × (k.body ≡ l.body))))) ls
+    (λ k there. (k, (there, (refl, (refl, refl))))) l isin
+
+anew_has : (ls : List Listed) (l : Listed) → In l ls → In (record l { acked = false }) (anew ls)
+anew_has ls l isin = map_in {A = Listed} {B = Listed} (λ k. record k { acked = false }) ls l isin
+
+lines_marked : (b : Bool) (ls : List Listed) (l : Listed) → In l ls → (k : Listed) × (In k (cond b (anew ls) ls) × (k.tablet ≡ l.tablet))
+lines_marked true ls l isin = (record l { acked = false }, (anew_has ls l isin, refl))
+lines_marked false ls l isin = (l, (isin, refl))
+
+marked_on : (r x : SnapshotRecord) → SnapshotOn x (marked r x)
+marked_on r x = record {
+  id_is = refl;
+  schedule_is = refl;
+  namespace_is = refl;
+  after_is = refl;
+  at_is = refl;
+  complete = λ e. or_left x.complete (same x.id r.id) e;
+  lines = λ l isin. lines_marked (same x.id r.id) x.listed l isin;
+}
+
+done_on : (r : SnapshotRecord) → SnapshotOn r (done r)
+done_on r = record {
+  id_is = refl;
+  schedule_is = refl;
+  namespace_is = refl;
+  after_is = refl;
+  at_is = refl;
+  complete = λ e. refl;
+  lines = λ l isin. (record l { acked = false }, (anew_has r.listed l isin, refl));
+}
+
+-- what is found among the unfinished ones is found still, if it is not the one that is complete now
+found_still : (rs : List SnapshotRecord) (r : SnapshotRecord) (id : Id) (q : SnapshotRecord) → unfinished_snapshot rs id ≡ Some q → same q.id r.id ≡ false → unfinished_snapshot (map (marked r) rs) id ≡ Some q
+found_still [] r id q e other = absurd (let k = e in grind arith)
+found_still (x ∷ rs) r id q e other = either_way (same x.id id && not x.complete)
+    (λ b.
+    let k : Some x ≡ Some q = rw b at e in
+    let first : x ≡ q = cc in
+    let stays : marked r x ≡ x = marked_same r x (ap (λ y. same y.id r.id) first ∙ other) in
+    ap (λ y. cond (same y.id id && not y.complete) (Some y) (unfinished_snapshot (map (marked r) rs) id)) stays ∙ ap (λ c. cond c (Some x) (unfinished_snapshot (map (marked r) rs) id)) b ∙ ap Some first)
+    (λ b.
+    let k : unfinished_snapshot rs id ≡ Some q = rw b at e in
+    let rest = found_still rs r id q k other in
+    let fails : (same x.id id && not (x.complete || same x.id r.id)) ≡ false = still (same x.id id) x.complete (same x.id r.id) b in
+    ap (λ c. cond c (Some (marked r x)) (unfinished_snapshot (map (marked r) rs) id)) fails ∙ rest)
+  where
+    still : (a c d : Bool) → (a && not c) ≡ false → (a && not (c || d)) ≡ false
+    still false c d e = refl
+    still true true d e = refl
+    still true false d e = absurd (true≢false e)
+
+-- the snapshot that is complete now
+finished_came : (ps : Parts) (activity : List Interval) (changes : List Made) (n : ℕ) (r : SnapshotRecord) → ps.master.clock < n → In r ps.master.snapshots → ((l : Listed) → In l r.listed → l.acked ≡ true) → Inv ps activity changes
+    → SnapshotCame ps.master (finished r n ps.master) (done r)
+finished_came ps activity changes n r before there acked inv =
+    let m = ps.master in
+    let w = finished r n m in
+    let h = inv.operations.snapshots r there in
+    record {
+      how = inr (record {
+        was = r;
+        kept = there;
+        on = done_on r;
+        now = refl;
+        acked = acked;
+        lines = λ l isin. (let k = anew_is r.listed l isin in (k.0, (k.1.0, (k.1.1.0, k.1.1.1.0))));
+      });
+      good = record {
+        kind_is = h.kind_is;
+        drawn = h.drawn;
+        drawn_schedule = h.drawn_schedule;
+        drawn_namespace = h.drawn_namespace;
+        rises = h.rises;
+        past = le_trans h.past (le_of_lt before);
+        bodies = λ l isin. (let k = anew_is r.listed l isin in sym k.1.1.1.1 ∙ h.bodies k.0 k.1.0);
+        drawn_listed = λ l isin. (let k = anew_is r.listed l isin in subst (λ i. i.number ≤ m.drawn.tablets) k.1.1.0 (h.drawn_listed k.0 k.1.0));
+        listed_of = λ l i isin active is. (let k = anew_is r.listed l isin in let g = h.listed_of k.0 i k.1.0 active (is ∙ sym k.1.1.0) in (g.0, g.1 ∙ k.1.1.1.0));
+        known = λ unfinished l isin. absurd (true≢false unfinished);
+        lists = λ i active owner within. (let k = h.lists i active owner within in
+            record { line = record k.line { acked = false }; listed = anew_has r.listed k.line k.listed; tablet_is = k.tablet_is; slot_is = k.slot_is });
+        reached = elim h.reached [
+          | inl l ↦ inl (lt_of_lt_of_le l (finished_floors m n r r.namespace (le_of_lt before)))
+          | inr q ↦ inr (marked r q.0, (map_in {A = SnapshotRecord} {B = SnapshotRecord} (marked r) m.snapshots q.0 q.1.0, (q.1.1.0, (q.1.1.1.0, or_left q.0.complete (same q.0.id r.id) q.1.1.1.1))))
+        ];
+        of_schedule = in_mapped {A = Schedule} {B = Schedule} (timed r) (λ s. s.id ≡ r.schedule → s.namespace ≡ r.namespace) m.schedules (λ s isin is. h.of_schedule s isin is);
+        same_namespace = in_mapped {A = SnapshotRecord} {B = SnapshotRecord} (marked r) (λ q. q.schedule ≡ r.schedule → q.namespace ≡ r.namespace) m.snapshots (λ q isin is. h.same_namespace q isin is);
+        scheduled = λ unfinished. absurd (true≢false unfinished);
+      };
+    }
+
+finished_onto : (ps : Parts) (activity : List Interval) (changes : List Made) (n : ℕ) (r : SnapshotRecord) → ps.master.clock < n → In r ps.master.snapshots → ((l : Listed) → In l r.listed → l.acked ≡ true) → Inv ps activity changes
+    → Onto ps changes (finished r n ps.master)
+finished_onto ps activity changes n r before there acked inv =
+    let m = ps.master in
+    let w = finished r n m in
+    let ops = inv.operations in
+    let a = ops.apart in
+    let h = ops.snapshots r there in
+    let floors : (id : Id) → floor_of m id m.clock ≤ floor_of (recorded m w) id n = λ id. finished_floors m n r id (le_of_lt before) in
+    let kept : (q : SnapshotRecord) → In q m.snapshots → (k : SnapshotRecord) × (In k w.snapshots × SnapshotOn q k) = λ q isin. (marked r q, (map_in {A = SnapshotRecord} {B = SnapshotRecord} (marked r) m.snapshots q isin, marked_on r q)) in
+    record {
+      clock = le_of_lt before;
+      drawn = λ kind. le_refl _;
+      floors = floors;
+      apart = record {
+        schedule_ids = alone_mapped {A = Schedule} (λ t. t.id) (timed r) m.schedules (λ t. refl) a.schedule_ids;
+        one_schedule = alone_mapped {A = Schedule} (λ t. t.namespace) (timed r) m.schedules (λ t. refl) a.one_schedule;
+        snapshots_rise = rise_marked m.snapshots r a.snapshots_rise;
+        one_snapshot = λ q s in_q in_s open_q open_s e. (
+            let x = mapped_is {A = SnapshotRecord} (marked r) m.snapshots q in_q in
+            let y = mapped_is {A = SnapshotRecord} (marked r) m.snapshots s in_s in
+            let one = a.one_snapshot x.0 y.0 x.1.0 y.1.0
+            (neither_left x.0.complete (same x.0.id r.id) (ap (λ k. k.complete) x.1.1 ∙ open_q)) (neither_left y.0.complete (same y.0.id r.id) (ap (λ k. k.complete) y.1.1 ∙ open_s))
+            (ap (λ k. k.schedule) x.1.1 ∙ e ∙ sym (ap (λ k. k.schedule) y.1.1)) in
+            sym x.1.1 ∙ ap (marked r) one ∙ y.1.1);
+        restoration_ids = a.restoration_ids;
+        one_restoration = a.one_restoration;
+        clone_ids = a.clone_ids;
+        one_clone = a.one_clone;
+        one_operation = a.one_operation;
+        one_target = a.one_target;
+        one_made = a.one_made;
+        one_name = a.one_name;
+      };
+      complete = in_mapped {A = Schedule} {B = Schedule} (timed r) (λ t. complete_to t.complete t + 1 ≤ n) m.schedules
+          (λ t isin. timed_by (λ x. x + 1 ≤ n) r t (λ is. let l = h.past in omega arith) (le_trans (inv.master.complete t isin) (le_of_lt before)));
+      schedule = in_mapped {A = Schedule} {B = Schedule} (timed r) (ScheduleGood (recorded m w)) m.schedules
+          (λ t isin. timed_good (recorded m w) r t (schedule_on m w t (le_of_lt before) (λ kind. le_refl _) (floors t.namespace) kept (ops.schedules t isin)));
+      schedule_came = in_mapped {A = Schedule} {B = Schedule} (timed r) (λ t. WasSchedule m t ⊎ NewSchedule m t) m.schedules (λ t isin. inl (record { was = t; kept = isin; id_is = refl; namespace_is = refl }));
+      schedule_kept = λ t isin. inl (timed r t, (map_in {A = Schedule} {B = Schedule} (timed r) m.schedules t isin, (refl, refl)));
+      points = λ k point t in_k unfinished at isin is. (
+          let p = mapped_is {A = Schedule} (timed r) m.schedules t isin in
+          let named = ap (λ q. q.id) p.1.1 ∙ is in
+          let g = point_is k.state m changes k point at unfinished (ops.restorations k in_k).in_state in
+          subst (λ q. complete_to q.complete q + 1 ≤ point) p.1.1
+          (timed_by (λ x. x + 1 ≤ point) r p.0
+          (λ of. (
+          let s = (ops.restorations k in_k).scheduled unfinished in
+          let l : r.at < point = g.snapshots r there (sym (h.of_schedule s.0 s.1.0 (s.1.1.0 ∙ sym named ∙ of)) ∙ s.1.1.1) in omega arith))
+          (g.complete p.0 p.1.0 named)));
+      last = λ q in_q now unfinished t isin is lasts. (timed r t, (map_in {A = Schedule} {B = Schedule} (timed r) m.schedules t isin, (is, lasts)));
+      sent = λ mark isin. (
+          let k = filter_in m.sent (λ s. not (same s.operation r.id)) mark isin in
+          elim (ops.sent mark k.0) [
+            | inl q ↦ inl (q.0, (subst (λ x. In x w.snapshots) (marked_same r q.0 (ap (λ i. same i r.id) q.1.1.0 ∙ not_true (same mark.operation r.id) k.1)) (map_in {A = SnapshotRecord} {B = SnapshotRecord} (marked r) m.snapshots q.0 q.1.0), q.1.1))
+            | inr more ↦ inr more
+          ]);
+      snapshot_came = λ q isin. (
+          let x = mapped_is {A = SnapshotRecord} (marked r) m.snapshots q isin in
+          either_way (same x.0.id r.id)
+          (λ b.
+          let one : x.0 ≡ r = one_snapshot m.snapshots x.0 r a.snapshots_rise x.1.0 there (same_equal x.0.id r.id b) in
+          let is : q ≡ done r = sym x.1.1 ∙ ap (marked r) one ∙ marked_done r in
+          inr (subst (SnapshotCame m w) (sym is) (finished_came ps activity changes n r before there acked inv)))
+          (λ b. inl (subst (λ k. In k m.snapshots) (sym (marked_same r x.0 b) ∙ x.1.1) x.1.0)));
+      snapshot_kept = kept;
+      restoration_came = λ k isin. inl isin;
+      restored = inv.journal.restored;
+      one_point = inv.journal.one_point;
+      awaits = λ slot present. refl;
+      fences = λ slot operation f. fence_stays m w slot (ps.tablet slot).table (ps.tablet slot).done operation (λ k isin. inl isin) f;
+      pendings = λ operation slot l e. pending_stays m w operation slot l
+          (record {
+            snapshot = λ id slot l q found at. (
+                let k = unfinished_snapshot_is m.snapshots id q found in
+                either_way (same q.id r.id)
+                (λ b.
+                let one : q ≡ r = one_snapshot m.snapshots q r a.snapshots_rise k.0 there (same_equal q.id r.id b) in
+                let u = unacked_is q.listed slot l at in
+                absurd (true≢false (sym (acked l (subst (λ x. In l x.listed) one u.0)) ∙ u.1)))
+                (λ b. found_still m.snapshots r id q found b));
+            restoration = λ id slot l q found at. found;
+          }) e;
+      given = λ operation slot l e. pending_drawn m changes operation slot l ops e;
+      unmoved = λ operation slot l q e v is. pending_unmoved m changes operation slot l q ops e v is;
+    }
+
+-- an advance of a snapshot keeps what holds
+pub advance_snapshot_keeps : (ps : Parts) (activity : List Interval) (changes : List Made) (n : ℕ) (operation : Id) → Later (0 ∷ []) ps n → operation.kind ≡ Snapshot → Inv ps activity changes
+    → KeepsAll (Advance operation) n ps activity changes (advance operation n ps)
+advance_snapshot_keeps ps activity changes n operation later kind inv =
+    let m = ps.master in
+    let before : m.clock < n = later 0 refl in
+    advance_by operation n ps activity changes later inv (λ p is acked unawaited.
+    let found = mapped_some snapshot_progress (unfinished_snapshot m.snapshots operation) p (ap (λ k. progress_of k m operation) (sym kind) ∙ is) in
+    let r = found.0 in
+    let there = unfinished_snapshot_is m.snapshots operation r found.1.0 in
+    let w = finished r n m in
+    let moved_is : (k : Master) → k.snapshots ≡ m.snapshots → moved_of operation.kind operation n k ≡ completed r n k = λ k same_.
+    ap (λ q. moved_of q operation n k) kind
+    ∙ ap (λ qs. option_map_or {T = SnapshotRecord} (λ r. completed r n k) (unfinished_snapshot qs operation) (record k { clock = n })) same_
+    ∙ ap (λ o. option_map_or {T = SnapshotRecord} (λ r. completed r n k) o (record k { clock = n })) found.1.0 in
+    let quiet : with_either (unfinished_restoration m.restorations operation) (unfinished_clone m.clones operation) n changes ≡ changes =
+    ap (λ o. with_either o (unfinished_clone m.clones operation) n changes) (no_restoration m changes operation inv.operations (λ e. let q : Snapshot ≡ Restoration = sym kind ∙ e in grind arith))
+    ∙ ap (λ o. with_either None o n changes) (no_clone m changes operation inv.operations (λ e. let q : Snapshot ≡ Clone = sym kind ∙ e in grind arith)) in
+    alone_keeps (Advance operation) (moves operation p.next) n ps activity activity changes changes (recorded m w) refl refl (moved_is m refl) (ap (λ k. k.activity) (moved_is (record m { activity = activity }) refl)) tt quiet
+    (records_keep ps activity changes w
+    (finished_onto ps activity changes n r before there.0 (λ l isin. acked l (subst (λ q. In l q.listed) found.1.1 isin)) inv) inv))

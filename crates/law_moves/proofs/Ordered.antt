@@ -1,0 +1,280 @@
+-- What operations have slots do, after the switch.
+use Rattle.std.proofs.Common.{ℕ, ◌≡◌, ◌≤◌, ◌<◌, List, map, Option, Some, None, true, false, ◌⊎◌, inl, inr, refl, sym, ap, subst, ◌∙◌, arith}
+use Rattle.std.proofs.lemmas.Bool.{true≢false}
+use Rattle.model.specs.Ids.{Kind, Namespace, Table, Tablet as TabletKind, Schedule as ScheduleKind, Snapshot, Restoration, Clone, Id, In, same}
+use Rattle.model.specs.Activity.{Interval}
+use Rattle.model.specs.Catalog.{owner_of}
+use Rattle.model.specs.Journal.{Change}
+use Rattle.model.specs.Tablets.{Tablet, BodyKind, RestoreFromKind, HideKind, Mark, is_serving, kind_of}
+use Rattle.model.specs.Records.{RestorationRecord, RestorationState, Fencing, Snapshotting, Switching, Restoring, Releasing, Restored, CloneRecord, CloneState, Accepted, CloneSnapshot, Copying, CloneReleasing, CloneComplete, is_restored, is_cloned, point_of}
+use Rattle.model.specs.Coordination.{pending_of}
+use Rattle.model.specs.Stands.{is_after_switch, AreRowsAt, before_restore}
+use Rattle.model.specs.Parts.{Master, Parts}
+use Rattle.law_store.proofs.Keys.{either_way}
+use Rattle.law_invariants.specs.Operations.{Uses, RestorationStateGood}
+use Rattle.law_invariants.specs.Orders.{FencePlace, ClonePlace, IsFence, IsAfter, IsMark, OrdersGood, RestorationSlot, CloneSlot, IsHome, IsTarget, restoring_stage, stage_of_restoration}
+use Rattle.law_invariants.specs.Invariant.{SlotWorks}
+use Rattle.law_invariants.proofs.Finding.{in_mapped, map_in, same_equal}
+use Rattle.law_invariants.proofs.Working.{before_any}
+use Rattle.law_moves.proofs.Recording.{recorded}
+use Rattle.law_moves.proofs.Pending.{FindsOn, pending_stays, unfinished_restoration_is, unacked_is}
+use Rattle.law_moves.proofs.Moving.{not_yet}
+use Rattle.law_moves.proofs.Entering.{entering, entering_it, entering_other, enters, by_record, found_still}
+use Rattle.law_moves.proofs.Viewing.{row_other}
+use Rattle.law_moves.proofs.Counting.{ended_in}
+use Rattle.law_moves.proofs.Switching.{IsSwitch, listed_then, turned, after, back, unfinished_yet, good_yet, slot_yet, other_namespace, not_mine, ended_there, open_was, open_on, line_is, line_of_open}
+use Rattle.law_moves.proofs.Turned.{before_other, other_restore}
+
+-- What is pending
+
+pending_turned : (kind : Kind) (m : Master) (r : RestorationRecord) (point : ℕ) (serving_ : Id) (n : ℕ) (operation : Id) (slot : ℕ)
+    → pending_of kind (turned m r point serving_ n) operation slot ≡ pending_of kind (recorded m (enters r (Restoring point serving_) (listed_then m r point serving_) n m)) operation slot
+pending_turned Snapshot m r point serving_ n operation slot = refl
+pending_turned Restoration m r point serving_ n operation slot = refl
+pending_turned Clone m r point serving_ n operation slot = refl
+pending_turned Namespace m r point serving_ n operation slot = refl
+pending_turned Table m r point serving_ n operation slot = refl
+pending_turned TabletKind m r point serving_ n operation slot = refl
+pending_turned ScheduleKind m r point serving_ n operation slot = refl
+
+-- Fences
+
+place_open : (state : RestorationState) (x : RestorationRecord) (m : Master) (slot : ℕ) (done : List Mark) → FencePlace state x m slot done → is_restored state ≡ false
+place_open Fencing x m slot done h = refl
+place_open (Snapshotting p own) x m slot done h = refl
+place_open (Switching p served) x m slot done h = refl
+place_open (Restoring p served) x m slot done h = refl
+place_open (Releasing p served) x m slot done h = refl
+place_open (Restored p served) x m slot done h = absurd h
+
+clone_open : (state : CloneState) (c : CloneRecord) (slot : ℕ) (done : List Mark) → ClonePlace state c slot done → is_cloned state ≡ false
+clone_open Accepted c slot done h = refl
+clone_open (CloneSnapshot own) c slot done h = refl
+clone_open (Copying served at) c slot done h = refl
+clone_open (CloneReleasing served at) c slot done h = refl
+clone_open (CloneComplete served at) c slot done h = absurd h
+
+place_turned : (state : RestorationState) (m : Master) (r : RestorationRecord) (point : ℕ) (serving_ : Id) (n : ℕ) (x : RestorationRecord) (slot : ℕ) (done : List Mark) → (x.namespace ≡ r.namespace → ⊥) → FencePlace state x m slot done → FencePlace state x (turned m r point serving_ n) slot done
+place_turned Fencing m r point serving_ n x slot done apart h = (h.0, (open_on m r point serving_ n x.namespace h.0 apart h.1.0, h.1.1))
+place_turned (Snapshotting p own) m r point serving_ n x slot done apart h = (h.0, (open_on m r point serving_ n x.namespace h.0 apart h.1.0, h.1.1))
+place_turned (Switching p served) m r point serving_ n x slot done apart h = (h.0, (open_on m r point serving_ n x.namespace h.0 apart h.1.0, h.1.1))
+place_turned (Restoring p served) m r point serving_ n x slot done apart h = h
+place_turned (Releasing p served) m r point serving_ n x slot done apart h = h
+place_turned (Restored p served) m r point serving_ n x slot done apart h = h
+
+fence_turned : (ps : Parts) (activity : List Interval) (changes : List Change) (n : ℕ) (r : RestorationRecord) (point : ℕ) (serving_ : Id) (slot : ℕ) (operation : Id) → IsSwitch ps activity changes n r point serving_
+    → IsFence ps.master slot (ps.tablet slot).table (ps.tablet slot).done operation → IsFence (turned ps.master r point serving_ n) slot (ps.tablet slot).table (ps.tablet slot).done operation
+fence_turned ps activity changes n r point serving_ slot operation s (inr h) = inr (record { clone = h.clone; kept = h.kept; id_is = h.id_is; owned = h.owned; place = h.place })
+fence_turned ps activity changes n r point serving_ slot operation s (inl h) =
+    let m = ps.master in
+    let L = listed_then m r point serving_ in
+    let f = entering r (Restoring point serving_) L in
+    let x = h.restoration in
+    either_way (same x.id r.id)
+    (λ b.
+    let one : x ≡ r = s.inv.operations.apart.restoration_ids x r h.kept s.there (same_equal x.id r.id b) in
+    let q : FencePlace (Switching point serving_) r m slot (ps.tablet slot).done = subst (λ st. FencePlace st r m slot (ps.tablet slot).done) s.is (subst (λ x. FencePlace x.state x m slot (ps.tablet slot).done) one h.place) in
+    let k = line_of_open ps activity changes r point serving_ q.0 s.inv q.1.0 in
+    inl (record {
+      restoration = back m r point serving_;
+      kept = subst (λ q. In q (map f m.restorations)) (entering_it r (Restoring point serving_) L) (map_in {A = RestorationRecord} {B = RestorationRecord} f m.restorations r s.there);
+      id_is = ap (λ y. y.id) (sym one) ∙ h.id_is;
+      owned = h.owned ∙ ap (λ y. Some y.namespace) one;
+      place = (k.line, (k.listed, (k.slot_is ∙ q.1.1, inr (not_yet ps activity changes r slot HideKind s.inv s.there (let e : stage_of_restoration r.state ≡ 1 = ap stage_of_restoration s.is in omega arith)))));
+    }))
+    (λ b. inl (record {
+      restoration = x;
+      kept = subst (λ q. In q (map f m.restorations)) (entering_other r (Restoring point serving_) L x b) (map_in {A = RestorationRecord} {B = RestorationRecord} f m.restorations x h.kept);
+      id_is = h.id_is;
+      owned = h.owned;
+      place = place_turned x.state m r point serving_ n x slot (ps.tablet slot).done
+          (λ e. other_namespace ps activity changes n r point serving_ x s h.kept b (place_open x.state x m slot (ps.tablet slot).done h.place) e) h.place;
+    }))
+
+-- Clocks
+
+after_turned : (ps : Parts) (activity : List Interval) (changes : List Change) (n : ℕ) (r : RestorationRecord) (point : ℕ) (serving_ : Id) (clock : ℕ) (operation : Id) (kind : BodyKind) → IsSwitch ps activity changes n r point serving_
+    → IsAfter ps.master clock operation kind → IsAfter (turned ps.master r point serving_ n) clock operation kind
+after_turned ps activity changes n r point serving_ clock operation kind s h =
+    let m = ps.master in
+    let L = listed_then m r point serving_ in
+    let f = entering r (Restoring point serving_) L in
+    let one = s.inv.operations.apart.restoration_ids in
+    record {
+      snapshot = h.snapshot;
+      restoration = λ q there. in_mapped {A = RestorationRecord} {B = RestorationRecord} f (λ q. q.id ≡ operation → q.to < clock) m.restorations
+          (λ x isin. by_record (λ x q. q.id ≡ operation → q.to < clock) m r (Restoring point serving_) L x one s.there isin (λ e. h.restoration r s.there e) (λ b e. h.restoration x isin e)) q there;
+      point = λ q at there. in_mapped {A = RestorationRecord} {B = RestorationRecord} f (λ q. q.id ≡ operation → point_of q.state ≡ Some at → is_after_switch kind ≡ true → at < clock) m.restorations
+          (λ x isin. by_record (λ x q. q.id ≡ operation → point_of q.state ≡ Some at → is_after_switch kind ≡ true → at < clock) m r (Restoring point serving_) L x one s.there isin
+          (λ e p k. h.point r at s.there e (ap point_of s.is ∙ p) k) (λ b e p k. h.point x at isin e p k)) q there;
+      copied = h.copied;
+      released = h.released;
+    }
+
+mark_turned : (ps : Parts) (activity : List Interval) (changes : List Change) (n : ℕ) (r : RestorationRecord) (point : ℕ) (serving_ : Id) (clock : ℕ) (mark : Mark) → IsSwitch ps activity changes n r point serving_ → IsMark ps.master clock mark
+    → IsMark (turned ps.master r point serving_ n) clock mark
+mark_turned ps activity changes n r point serving_ clock mark s h =
+    let m = ps.master in
+    let L = listed_then m r point serving_ in
+    let f = entering r (Restoring point serving_) L in
+    record {
+      drawn = h.drawn;
+      after = after_turned ps activity changes n r point serving_ clock mark.operation mark.kind s h.after;
+      by_snapshot = h.by_snapshot;
+      by_restoration = λ q there. in_mapped {A = RestorationRecord} {B = RestorationRecord} f (λ q. q.id ≡ mark.operation → restoring_stage mark.kind ≤ stage_of_restoration q.state) m.restorations
+          (λ x isin. by_record (λ x q. q.id ≡ mark.operation → restoring_stage mark.kind ≤ stage_of_restoration q.state) m r (Restoring point serving_) L x s.inv.operations.apart.restoration_ids s.there isin
+          (λ e. (let l = h.by_restoration r s.there e in let k : stage_of_restoration r.state ≡ 1 = ap stage_of_restoration s.is in omega arith)) (λ b e. h.by_restoration x isin e)) q there;
+      by_clone = h.by_clone;
+    }
+
+orders_turned : (ps : Parts) (activity : List Interval) (changes : List Change) (n : ℕ) (r : RestorationRecord) (point : ℕ) (serving_ : Id) (slot : ℕ) → IsSwitch ps activity changes n r point serving_ → OrdersGood (turned ps.master r point serving_ n) slot (ps.tablet slot)
+orders_turned ps activity changes n r point serving_ slot s =
+    let m = ps.master in
+    let t = ps.tablet slot in
+    let h = (s.inv.works slot).orders in
+    let L = listed_then m r point serving_ in
+    let w = enters r (Restoring point serving_) L n m in
+    let one = s.inv.operations.apart.restoration_ids in
+    let none = (good_yet ps activity changes n r point serving_ s).empty in
+    let finds : FindsOn m w = record {
+      snapshot = λ id slot l q found at. found;
+      restoration = λ id slot l q found at. (
+          let k = unfinished_restoration_is m.restorations id q found in
+          either_way (same q.id r.id)
+          (λ b.
+          let e : q ≡ r = one q r k.0 s.there (same_equal q.id r.id b) in
+          let u = unacked_is q.listed slot l at in
+          absurd (subst (In l) none (subst (λ x. In l x.listed) e u.0)))
+          (λ b. found_still m.restorations r (Restoring point serving_) L id q (λ x isin is. ap (λ k. is_restored k.state) (one x r isin s.there is) ∙ unfinished_yet ps activity changes n r point serving_ s) found b));
+    } in
+    record {
+      fences = λ operation is. fence_turned ps activity changes n r point serving_ slot operation s (h.fences operation is);
+      orders = λ c isin. (let g = h.orders c isin in record {
+        is_pending = pending_turned c.operation.kind m r point serving_ n c.operation slot ∙ pending_stays m w c.operation slot _ finds g.is_pending;
+        after = after_turned ps activity changes n r point serving_ t.clock c.operation (kind_of c.body) s g.after;
+      });
+      once = h.once;
+      fresh = h.fresh;
+      marks = λ mark isin. mark_turned ps activity changes n r point serving_ t.clock mark s (h.marks mark isin);
+      holds = h.holds;
+      frozen = h.frozen;
+      sets = h.sets;
+      bare = h.bare;
+    }
+
+-- What tablets did
+
+slot_state : (state : RestorationState) (ps : Parts) (activity : List Interval) (changes : List Change) (n : ℕ) (r : RestorationRecord) (point : ℕ) (serving_ : Id) (x : RestorationRecord) (slot : ℕ) (t : Tablet) → (is_restored state ≡ false → x.namespace ≡ r.namespace → ⊥)
+    → RestorationStateGood state ps.master changes x → RestorationSlot state ps.master changes x slot t → RestorationSlot state (turned ps.master r point serving_ n) (after r point changes) x slot t
+slot_state Fencing ps activity changes n r point serving_ x slot t apart good h = h
+slot_state (Snapshotting p own) ps activity changes n r point serving_ x slot t apart good h = record { fenced = λ i opened at. h.fenced i (open_was ps.master r point serving_ n x.namespace i (apart refl) opened) at }
+slot_state (Switching p served) ps activity changes n r point serving_ x slot t apart good h = record {
+  fenced = λ i opened at. h.fenced i (open_was ps.master r point serving_ n x.namespace i (apart refl) opened) at;
+  past = λ i opened at. h.past i (open_was ps.master r point serving_ n x.namespace i (apart refl) opened) at;
+}
+slot_state (Restoring p served) ps activity changes n r point serving_ x slot t apart good h = λ l isin at. (
+    let k = h l isin at in
+    let before : before_restore (after r point changes) x.namespace p (after r point changes) ≡ before_restore changes x.namespace p changes =
+    before_other r point changes x.namespace p (other_restore r point x.namespace p (apart refl)) ∙ before_any changes x.namespace p (after r point changes) changes good.switched in
+    record {
+      acked = k.acked;
+      fenced = k.fenced;
+      restored = λ is did. (let z = k.restored is did in record {
+        serves = z.serves;
+        cutoff_is = z.cutoff_is;
+        rows = subst (λ then_. AreRowsAt t.versions t.low t.high p then_ x.to t.table) (sym before) z.rows;
+      });
+      hidden = k.hidden;
+    })
+slot_state (Releasing p served) ps activity changes n r point serving_ x slot t apart good h = h
+slot_state (Restored p served) ps activity changes n r point serving_ x slot t apart good h = tt
+
+-- a listed tablet that serves is fenced
+back_fenced : (ps : Parts) (activity : List Interval) (changes : List Change) (n : ℕ) (r : RestorationRecord) (point : ℕ) (serving_ : Id) (slot : ℕ) (i : Interval) → IsSwitch ps activity changes n r point serving_ → In i ps.master.activity → i.slot ≡ slot
+    → owner_of ps.master.catalog.owners i.table ≡ Some r.namespace → is_serving (ps.tablet slot).presence ≡ true → (ps.tablet slot).fence ≡ Some r.id
+back_fenced ps activity changes n r point serving_ slot i s isin at owner serves = by_fence (ps.tablet slot).fence refl
+  where
+    by_fence : (fence : Option Id) → (ps.tablet slot).fence ≡ fence → (ps.tablet slot).fence ≡ Some r.id
+    by_fence None e =
+        let g = (s.inv.slots slot).each i isin at in
+        let o = (s.inv.slots slot).opens serves e in
+        let p = (s.inv.slots slot).each o.interval o.listed o.slot_is in
+        (slot_yet ps activity changes n r point serving_ slot s).fenced o.interval
+        (record { kept = o.listed; opened = o.opened; owned = ap (owner_of ps.master.catalog.owners) (sym p.table_is ∙ g.table_is) ∙ owner }) o.slot_is
+    by_fence (Some operation) e =
+        let g = (s.inv.slots slot).each i isin at in
+        let mine : owner_of ps.master.catalog.owners (ps.tablet slot).table ≡ Some r.namespace = ap (owner_of ps.master.catalog.owners) g.table_is ∙ owner in
+        elim ((s.inv.works slot).orders.fences operation e) [
+          | inl h ↦ (
+              let q : Some h.restoration.namespace ≡ Some r.namespace = sym h.owned ∙ mine in
+              let same_ : h.restoration.namespace ≡ r.namespace = cc in
+              let one : h.restoration ≡ r = s.inv.operations.apart.one_restoration h.restoration r h.kept s.there (place_open h.restoration.state h.restoration ps.master slot (ps.tablet slot).done h.place) (unfinished_yet ps activity changes n r point serving_ s) same_ in
+              e ∙ ap Some (sym h.id_is ∙ ap (λ y. y.id) one))
+          | inr h ↦ absurd (
+              let q : Some h.clone.target_id ≡ Some r.namespace = sym h.owned ∙ mine in
+              let same_ : h.clone.target_id ≡ r.namespace = cc in
+              s.inv.operations.apart.one_operation r h.clone s.there h.kept (unfinished_yet ps activity changes n r point serving_ s) (clone_open h.clone.state h.clone slot (ps.tablet slot).done h.place) (inr same_))
+        ]
+
+back_slot : (ps : Parts) (activity : List Interval) (changes : List Change) (n : ℕ) (r : RestorationRecord) (point : ℕ) (serving_ : Id) (slot : ℕ) → IsSwitch ps activity changes n r point serving_
+    → RestorationSlot (Restoring point serving_) (turned ps.master r point serving_ n) (after r point changes) (back ps.master r point serving_) slot (ps.tablet slot)
+back_slot ps activity changes n r point serving_ slot s = λ l isin at. (
+    let k = line_is ps.master r point serving_ l isin in
+    let e : stage_of_restoration r.state ≡ 1 = ap stage_of_restoration s.is in
+    record {
+      acked = λ acked. absurd (true≢false (sym acked ∙ ap (λ z. z.acked) (sym k.is)));
+      fenced = λ serves. back_fenced ps activity changes n r point serving_ slot k.interval s k.kept (ap (λ z. z.slot) k.is ∙ at) k.owned serves;
+      restored = λ is did. absurd (true≢false (sym did ∙ not_yet ps activity changes r slot RestoreFromKind s.inv s.there (omega (arith, e))));
+      hidden = λ is did. absurd (true≢false (sym did ∙ not_yet ps activity changes r slot HideKind s.inv s.there (omega (arith, e))));
+    })
+
+clone_slot : (state : CloneState) (ps : Parts) (activity : List Interval) (changes : List Change) (n : ℕ) (r : RestorationRecord) (point : ℕ) (serving_ : Id) (c : CloneRecord) (slot : ℕ) (t : Tablet) → IsSwitch ps activity changes n r point serving_ → In c ps.master.clones
+    → (is_cloned state ≡ false → Uses c r.namespace → ⊥) → CloneSlot state ps.master changes c slot t → CloneSlot state (turned ps.master r point serving_ n) (after r point changes) c slot t
+clone_slot Accepted ps activity changes n r point serving_ c slot t s isin unused h = h
+clone_slot (CloneSnapshot own) ps activity changes n r point serving_ c slot t s isin unused h = h
+clone_slot (Copying served at) ps activity changes n r point serving_ c slot t s isin unused h = record {
+  acked = h.acked;
+  empty = h.empty;
+  copied = λ p paired is did. (let k = h.copied p paired is did in record {
+    serves = k.serves;
+    fenced = k.fenced;
+    tablet_is = k.tablet_is;
+    table_is = k.table_is;
+    low_is = k.low_is;
+    high_is = k.high_is;
+    cutoff = k.cutoff;
+    rows = λ d listed e. (let z = k.rows d listed e in
+        let other = not_mine ps.master r.namespace c.source d.source ((s.inv.operations.clones c isin).owned d listed) (λ e. unused refl (inl e)) in
+        record { stamps = z.stamps; upserts = z.upserts; rows = λ key ranged. z.rows key ranged ∙ sym (row_other ps.master.catalog.owners changes r.namespace d.source point r.to c.to key s.inv.master.tables.inside other); inside = z.inside });
+  });
+  later = h.later;
+}
+clone_slot (CloneReleasing served at) ps activity changes n r point serving_ c slot t s isin unused h = h
+clone_slot (CloneComplete served at) ps activity changes n r point serving_ c slot t s isin unused h = tt
+
+home_turned : (m : Master) (r : RestorationRecord) (point : ℕ) (serving_ : Id) (n slot : ℕ) (tablet : Id) → IsHome m slot tablet ⊎ IsTarget m slot tablet → IsHome (turned m r point serving_ n) slot tablet ⊎ IsTarget (turned m r point serving_ n) slot tablet
+home_turned m r point serving_ n slot tablet (inl h) = inl (record { interval = ended_in m.catalog.owners r.namespace point h.interval; kept = ended_there m r point h.interval h.kept; slot_is = h.slot_is; tablet_is = h.tablet_is })
+home_turned m r point serving_ n slot tablet (inr h) =
+    inr (record { clone = h.clone; kept = h.kept; serving = h.serving; at = h.at; state_is = h.state_is; pair = h.pair; paired = h.paired; slot_is = h.slot_is; tablet_is = h.tablet_is })
+
+pub works_turned : (ps : Parts) (activity : List Interval) (changes : List Change) (n : ℕ) (r : RestorationRecord) (point : ℕ) (serving_ : Id) (slot : ℕ) → IsSwitch ps activity changes n r point serving_
+    → SlotWorks (turned ps.master r point serving_ n) (after r point changes) slot (ps.tablet slot)
+works_turned ps activity changes n r point serving_ slot s =
+    let m = ps.master in
+    let t = ps.tablet slot in
+    let h = (s.inv.works slot).obeyed in
+    let L = listed_then m r point serving_ in
+    record {
+      orders = orders_turned ps activity changes n r point serving_ slot s;
+      obeyed = record {
+        drawn_table = h.drawn_table;
+        home = λ present. home_turned m r point serving_ n slot t.tablet (h.home present);
+        snapshots = h.snapshots;
+        restorations = λ q there. in_mapped {A = RestorationRecord} {B = RestorationRecord} (entering r (Restoring point serving_) L) (λ q. RestorationSlot q.state (turned m r point serving_ n) (after r point changes) q slot t) m.restorations
+            (λ x isin. by_record (λ x q. RestorationSlot q.state (turned m r point serving_ n) (after r point changes) q slot t) m r (Restoring point serving_) L x s.inv.operations.apart.restoration_ids s.there isin
+            (back_slot ps activity changes n r point serving_ slot s)
+            (λ b. slot_state x.state ps activity changes n r point serving_ x slot t (λ open_ e. other_namespace ps activity changes n r point serving_ x s isin b open_ e) (s.inv.operations.restorations x isin).in_state (h.restorations x isin))) q there;
+        clones = λ c isin. clone_slot c.state ps activity changes n r point serving_ c slot t s isin
+            (λ open_ uses. s.inv.operations.apart.one_operation r c s.there isin (unfinished_yet ps activity changes n r point serving_ s) open_ uses) (h.clones c isin);
+      };
+    }

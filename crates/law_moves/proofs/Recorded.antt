@@ -1,0 +1,396 @@
+-- The records of operations after the switch.
+use Rattle.std.proofs.Common.{ℕ, ◌≡◌, ◌≤◌, ◌<◌, ◌+◌, List, map, Option, Some, None, Bool, true, false, cond, inl, inr, refl, sym, ap, subst, ◌∙◌, arith, not, leb, leb-true, le-leb, le_trans, le_refl, le_of_lt, lt_of_lt_of_le}
+use Rattle.std.proofs.lemmas.Bool.{true≢false}
+use Rattle.std.proofs.lemmas.Bool.Decides.{nat_tests}
+use Rattle.model.specs.Ids.{Id, In, same}
+use Rattle.model.specs.Times.{ended, ended_by, before_end}
+use Rattle.model.specs.Activity.{Interval, active_at, active_within}
+use Rattle.model.specs.Catalog.{TableRecord, owner_of, owns}
+use Rattle.model.specs.Restored.{begun_at, restored_tables, version_of}
+use Rattle.model.specs.Journal.{Change}
+use Rattle.model.specs.Tablets.{RestoreFrom, Hide}
+use Rattle.model.specs.Records.{Listed, SnapshotRecord, RestorationRecord, RestorationState, Fencing, Snapshotting, Switching, Restoring, Releasing, Restored, CloneRecord, CloneState, Accepted, CloneSnapshot, Copying, CloneReleasing, CloneComplete, is_restored, is_cloned, is_visible}
+use Rattle.model.specs.Cleanup.{floor_of}
+use Rattle.model.specs.Parts.{Master, Parts}
+use Rattle.law_store.proofs.Keys.{either_way}
+use Rattle.law_invariants.specs.Operations.{Uses, IsKnown, IsListed, SnapshotGood, IsServing, IsPoint, BeforePoint, IsAfterSwitch, IsComing, RestorationStateGood, RestorationGood, CloneStateGood, CloneGood, OperationsGood}
+use Rattle.law_invariants.proofs.Finding.{in_mapped, map_in, filter_in, same_equal, both_pass, passes_both}
+use Rattle.law_invariants.proofs.Ticking.{not_true}
+use Rattle.law_moves.proofs.Staying.{schedule_on}
+use Rattle.law_moves.proofs.Using.{same_on}
+use Rattle.law_moves.proofs.Listing.{one_place}
+use Rattle.law_moves.proofs.Entering.{entering, entering_other, enters, by_record, going_floors, entered_apart}
+use Rattle.law_moves.proofs.Counting.{ended_in}
+use Rattle.law_moves.proofs.Backing.{over_other, new_is}
+use Rattle.law_moves.proofs.Switching.{IsSwitch, listed_then, turned, after, back, unfinished_yet, good_yet, other_namespace, not_mine, is_mine, interval_is, ended_there, begun_there, ended_mine, origin, other_was, other_stays, open_was, open_on, IsLine, line_is, line_restores, line_then, line_of_then}
+use Rattle.law_moves.proofs.Turned.{fixed_is, switched_on, switched_now}
+
+-- a known tablet stays known
+known_turned : (m : Master) (r : RestorationRecord) (point : ℕ) (serving_ : Id) (n : ℕ) (l : Listed) → IsKnown m l → IsKnown (turned m r point serving_ n) l
+known_turned m r point serving_ n l h = record { interval = ended_in m.catalog.owners r.namespace point h.interval; kept = ended_there m r point h.interval h.kept; tablet_is = h.tablet_is; slot_is = h.slot_is }
+
+-- Snapshots
+
+ended_weaker : (b : Bool) (x point : ℕ) (to : Option ℕ) → before_end x (cond b (ended point to) to) ≡ true → before_end x to ≡ true
+ended_weaker b x point None h = refl
+ended_weaker true x point (Some e) h = h
+ended_weaker false x point (Some e) h = h
+
+snapshot_turned : (ps : Parts) (activity : List Interval) (changes : List Change) (n : ℕ) (r : RestorationRecord) (point : ℕ) (serving_ : Id) (q : SnapshotRecord) → IsSwitch ps activity changes n r point serving_ → In q ps.master.snapshots
+    → floor_of ps.master q.namespace ps.master.clock ≤ floor_of (turned ps.master r point serving_ n) q.namespace n → SnapshotGood (turned ps.master r point serving_ n) q
+snapshot_turned ps activity changes n r point serving_ q s isin floors =
+    let m = ps.master in
+    let h = s.inv.operations.snapshots q isin in
+    let good = good_yet ps activity changes n r point serving_ s in
+    record {
+      kind_is = h.kind_is;
+      drawn = h.drawn;
+      drawn_schedule = h.drawn_schedule;
+      drawn_namespace = h.drawn_namespace;
+      rises = h.rises;
+      past = le_trans h.past (le_of_lt s.before);
+      bodies = h.bodies;
+      drawn_listed = h.drawn_listed;
+      listed_of = λ l j lists there e. (
+          let o = origin m r point j there in
+          let k = h.listed_of l o.was lists o.kept (o.tablet_is ∙ e) in
+          (ap (owner_of m.catalog.owners) (sym o.table_is) ∙ k.0, sym o.slot_is ∙ k.1));
+      known = λ unfinished l lists. known_turned m r point serving_ n l (h.known unfinished l lists);
+      lists = λ j there owner within. interval_is (λ j. owner_of m.catalog.owners j.table ≡ Some q.namespace → active_within q.after q.at j ≡ true → IsListed q.listed j) m r point
+          (λ i i_in owner within. (
+          let b = both_pass (leb i.from q.at) (before_end (q.after + 1) (ended_in m.catalog.owners r.namespace point i).to) within in
+          let k = h.lists i i_in owner (passes_both (leb i.from q.at) (before_end (q.after + 1) i.to) b.0 (ended_weaker (owns m.catalog.owners r.namespace i.table) (q.after + 1) point i.to b.1)) in
+          record { line = k.line; listed = k.listed; tablet_is = k.tablet_is; slot_is = k.slot_is }))
+          (λ i i_in mine active owner within. absurd (
+          let z : Some q.namespace ≡ Some r.namespace = sym owner ∙ mine in
+          let l : q.at < point = good.is_point.snapshots q isin (let e : q.namespace ≡ r.namespace = cc in e) in
+          let f = leb-true point q.at (both_pass (leb point q.at) true within).0 in omega arith)) j there owner within;
+      reached = elim h.reached [ inl l ↦ inl (lt_of_lt_of_le l floors) | inr k ↦ inr k ];
+      of_schedule = h.of_schedule;
+      same_namespace = h.same_namespace;
+      scheduled = h.scheduled;
+    }
+
+-- Restorations
+
+serving_turned : (m : Master) (r : RestorationRecord) (point : ℕ) (serving_ : Id) (n : ℕ) (snapshot ns : Id) (to : ℕ) → IsServing m snapshot ns to → IsServing (turned m r point serving_ n) snapshot ns to
+serving_turned m r point serving_ n snapshot ns to h = record { serving = h.serving; kept = h.kept; id_is = h.id_is; complete = h.complete; namespace_is = h.namespace_is; after = h.after; reaches = h.reaches }
+
+point_turned : (m : Master) (changes : List Change) (r : RestorationRecord) (point : ℕ) (serving_ : Id) (n : ℕ) (x : RestorationRecord) (p : ℕ) → (x.namespace ≡ r.namespace → ⊥) → IsPoint m changes x p → IsPoint (turned m r point serving_ n) (after r point changes) x p
+point_turned m changes r point serving_ n x p apart h = record {
+  later = h.later;
+  fixed = λ to fixed. elim (fixed_is r point changes x.namespace to fixed) [ inl k ↦ absurd (apart k.0) | inr old ↦ h.fixed to old ];
+  snapshots = h.snapshots;
+  complete = h.complete;
+}
+
+table_was : (m : Master) (r : RestorationRecord) (point : ℕ) (ns : Id) (t : TableRecord) → (ns ≡ r.namespace → ⊥) → In t (restored_tables m.catalog.tables r.namespace r.to point) → t.namespace ≡ ns → In t m.catalog.tables
+table_was m r point ns t apart isin = new_is (λ t. t.namespace ≡ ns → In t m.catalog.tables) m.catalog.tables r.namespace r.to point
+    (λ q there e. subst (λ k. In k m.catalog.tables) (sym (over_other r.namespace point q (either_way (same q.namespace r.namespace) (λ b. absurd (apart (sym e ∙ same_equal q.namespace r.namespace b))) (λ b. b)))) there)
+    (λ q there held named e. absurd (apart (sym e ∙ named))) t isin
+
+before_turned : (m : Master) (r : RestorationRecord) (point : ℕ) (serving_ : Id) (n : ℕ) (ns : Id) (p : ℕ) → (ns ≡ r.namespace → ⊥) → BeforePoint m ns p → BeforePoint (turned m r point serving_ n) ns p
+before_turned m r point serving_ n ns p apart h = record {
+  begun = λ j there owner. h.begun j (other_was m r point j there (not_mine m r.namespace ns j.table owner apart)) owner;
+  ended = λ j e there owner is. h.ended j e (other_was m r point j there (not_mine m r.namespace ns j.table owner apart)) owner is;
+  tables_begun = λ t there named. h.tables_begun t (table_was m r point ns t apart there named) named;
+  tables_ended = λ t e there named is. h.tables_ended t e (table_was m r point ns t apart there named) named is;
+}
+
+state_turned : (state : RestorationState) (ps : Parts) (activity : List Interval) (changes : List Change) (n : ℕ) (r : RestorationRecord) (point : ℕ) (serving_ : Id) (x : RestorationRecord) → IsSwitch ps activity changes n r point serving_ → In x ps.master.restorations
+    → (is_restored state ≡ false → x.namespace ≡ r.namespace → ⊥) → RestorationStateGood state ps.master changes x → RestorationStateGood state (turned ps.master r point serving_ n) (after r point changes) x
+state_turned Fencing ps activity changes n r point serving_ x s isin apart h = let m = ps.master in record {
+  bodies = h.bodies;
+  lists = λ i opened. h.lists i (open_was m r point serving_ n x.namespace i (apart refl) opened);
+  opens = λ l lists. (let k = h.opens l lists in (k.0, (open_on m r point serving_ n x.namespace k.0 (apart refl) k.1.0, k.1.1)));
+}
+state_turned (Snapshotting p own) ps activity changes n r point serving_ x s isin apart h = let m = ps.master in record {
+  is_point = point_turned m changes r point serving_ n x p (apart refl) h.is_point;
+  empty = h.empty;
+  soon = (let l = h.soon in let b = s.before in omega arith);
+  before = before_turned m r point serving_ n x.namespace p (apart refl) h.before;
+  snapshot = h.snapshot;
+  kept = h.kept;
+  id_is = h.id_is;
+  at_is = h.at_is;
+  schedule_is = h.schedule_is;
+  alone = h.alone;
+}
+state_turned (Switching p served) ps activity changes n r point serving_ x s isin apart h = let m = ps.master in record {
+  is_point = point_turned m changes r point serving_ n x p (apart refl) h.is_point;
+  empty = h.empty;
+  begun = le_trans h.begun (le_of_lt s.before);
+  before = before_turned m r point serving_ n x.namespace p (apart refl) h.before;
+  serves = serving_turned m r point serving_ n served x.namespace x.to h.serves;
+  calm = h.calm;
+}
+state_turned (Restoring p served) ps activity changes n r point serving_ x s isin apart h =
+    let m = ps.master in
+    let of : (l : Listed) (i : Interval) → In l x.listed → In i m.activity → i.tablet ≡ l.tablet → owns m.catalog.owners r.namespace i.table ≡ false = λ l i lists there e. not_mine m r.namespace x.namespace i.table (s.inv.master.listed_of x l isin lists i there e) (apart refl) in
+    record {
+      is_point = point_turned m changes r point serving_ n x p (apart refl) h.is_point;
+      begun = le_trans h.begun (le_of_lt s.before);
+      serves = serving_turned m r point serving_ n served x.namespace x.to h.serves;
+      calm = h.calm;
+      switched = switched_on r point changes x.namespace p h.switched;
+      bodies = h.bodies;
+      back = λ l lists is. (let k = h.back l lists is in record {
+        then_ = k.then_;
+        kept_then = other_stays m r point k.then_ k.kept_then (of l k.then_ lists k.kept_then k.tablet_then);
+        tablet_then = k.tablet_then;
+        active = k.active;
+        now = k.now;
+        kept_now = other_stays m r point k.now k.kept_now (of l k.now lists k.kept_now k.tablet_now);
+        tablet_now = k.tablet_now;
+        slot_now = k.slot_now;
+        opened = k.opened;
+        from_is = k.from_is;
+      });
+      gone = λ l j lists is there e. (
+          let o = origin m r point j there in
+          let other = of l o.was lists o.kept (o.tablet_is ∙ e) in
+          h.gone l j lists is (other_was m r point j there (ap (owns m.catalog.owners r.namespace) (sym o.table_is) ∙ other)) e);
+      opens = λ i opened. h.opens i (open_was m r point serving_ n x.namespace i (apart refl) opened);
+    }
+state_turned (Releasing p served) ps activity changes n r point serving_ x s isin apart h =
+    let m = ps.master in
+    record {
+      is_point = point_turned m changes r point serving_ n x p (apart refl) h.is_point;
+      begun = le_trans h.begun (le_of_lt s.before);
+      switched = switched_on r point changes x.namespace p h.switched;
+      bodies = h.bodies;
+      active = λ l lists. (let k = h.active l lists in record {
+        interval = k.interval;
+        kept = other_stays m r point k.interval k.kept (not_mine m r.namespace x.namespace k.interval.table (s.inv.master.listed_of x l isin lists k.interval k.kept k.tablet_is) (apart refl));
+        tablet_is = k.tablet_is;
+        slot_is = k.slot_is;
+        opened = k.opened;
+        from_is = k.from_is;
+      });
+      opens = λ i opened. h.opens i (open_was m r point serving_ n x.namespace i (apart refl) opened);
+    }
+state_turned (Restored p served) ps activity changes n r point serving_ x s isin apart h = record { empty = h.empty; begun = le_trans h.begun (le_of_lt s.before); later = h.later; switched = switched_on r point changes x.namespace p h.switched }
+
+restoration_turned : (ps : Parts) (activity : List Interval) (changes : List Change) (n : ℕ) (r : RestorationRecord) (point : ℕ) (serving_ : Id) (x : RestorationRecord) → IsSwitch ps activity changes n r point serving_ → In x ps.master.restorations → same x.id r.id ≡ false
+    → RestorationGood (turned ps.master r point serving_ n) (after r point changes) x
+restoration_turned ps activity changes n r point serving_ x s isin other = let h = s.inv.operations.restorations x isin in record {
+  kind_is = h.kind_is;
+  drawn = h.drawn;
+  drawn_namespace = h.drawn_namespace;
+  past = lt_of_lt_of_le h.past (le_of_lt s.before);
+  scheduled = h.scheduled;
+  known = λ unfinished l lists. known_turned ps.master r point serving_ n l (h.known unfinished l lists);
+  in_state = state_turned x.state ps activity changes n r point serving_ x s isin (λ open_ e. other_namespace ps activity changes n r point serving_ x s isin other open_ e) h.in_state;
+}
+
+-- The restoration that has switched
+
+body_by : (b : Bool) (x : RestorationRecord) (serving_ : Id) (point version : ℕ) → IsAfterSwitch x point serving_ (cond b (RestoreFrom serving_ x.to point version) (Hide point))
+body_by true x serving_ point version = (refl, (refl, refl))
+body_by false x serving_ point version = refl
+
+still_active : (i : Interval) (to point : ℕ) (b : Bool) → to < point → active_at to i ≡ true → active_at to (record i { to = cond b (ended point i.to) i.to }) ≡ true
+still_active i to point b l active = let k = both_pass (leb i.from to) (before_end to i.to) active in passes_both (leb i.from to) (before_end to (cond b (ended point i.to) i.to)) k.0 (ends b i.to k.1)
+  where
+    ends : (b : Bool) (end_ : Option ℕ) → before_end to end_ ≡ true → before_end to (cond b (ended point end_) end_) ≡ true
+    ends false end_ e = e
+    ends true None e = grind (arith, nat_tests)
+    ends true (Some t) e = e
+
+ended_point : (to : Option ℕ) (point : ℕ) → ((e : ℕ) → to ≡ Some e → e ≤ point) → ended_by point (ended point to) ≡ true
+ended_point None point over_ = le-leb point point (le_refl point)
+ended_point (Some t) point over_ = le-leb t point (over_ t refl)
+
+back_good : (ps : Parts) (activity : List Interval) (changes : List Change) (n : ℕ) (r : RestorationRecord) (point : ℕ) (serving_ : Id) → IsSwitch ps activity changes n r point serving_
+    → RestorationGood (turned ps.master r point serving_ n) (after r point changes) (back ps.master r point serving_)
+back_good ps activity changes n r point serving_ s =
+    let m = ps.master in
+    let h = s.inv.operations.restorations r s.there in
+    let g = good_yet ps activity changes n r point serving_ s in
+    let line : (l : Listed) → In l (listed_then m r point serving_) → IsLine m r point serving_ l = λ l isin. line_is m r point serving_ l isin in
+    record {
+      kind_is = h.kind_is;
+      drawn = h.drawn;
+      drawn_namespace = h.drawn_namespace;
+      past = lt_of_lt_of_le h.past (le_of_lt s.before);
+      scheduled = λ unfinished. h.scheduled (unfinished_yet ps activity changes n r point serving_ s);
+      known = λ unfinished l isin. (let k = line l isin in
+          record { interval = ended_in m.catalog.owners r.namespace point k.interval; kept = ended_there m r point k.interval k.kept; tablet_is = ap (λ z. z.tablet) k.is; slot_is = ap (λ z. z.slot) k.is });
+      in_state = record {
+        is_point = record {
+          later = g.is_point.later;
+          fixed = λ to fixed. elim (fixed_is r point changes r.namespace to fixed) [ inl k ↦ (let e = k.1 in let l = g.is_point.later in omega arith) | inr old ↦ g.is_point.fixed to old ];
+          snapshots = g.is_point.snapshots;
+          complete = g.is_point.complete;
+        };
+        begun = le_trans g.begun (le_of_lt s.before);
+        serves = serving_turned m r point serving_ n serving_ r.namespace r.to g.serves;
+        calm = g.calm;
+        switched = switched_now r point changes;
+        bodies = λ l isin. (let k = line l isin in subst (λ z. IsAfterSwitch (back m r point serving_) point serving_ z.body) k.is (body_by (active_at r.to k.interval) (back m r point serving_) serving_ point (version_of (restored_tables m.catalog.tables r.namespace r.to point) k.interval.table)));
+        back = λ l isin is. (
+            let k = line l isin in
+            let active : active_at r.to k.interval ≡ true = sym (line_restores m r point serving_ l k) ∙ is in
+            record {
+              then_ = ended_in m.catalog.owners r.namespace point k.interval;
+              kept_then = ended_there m r point k.interval k.kept;
+              tablet_then = ap (λ z. z.tablet) k.is;
+              active = still_active k.interval r.to point (owns m.catalog.owners r.namespace k.interval.table) g.is_point.later active;
+              now = begun_at point k.interval;
+              kept_now = begun_there m r point k.interval k.kept k.owned active;
+              tablet_now = ap (λ z. z.tablet) k.is;
+              slot_now = ap (λ z. z.slot) k.is;
+              opened = refl;
+              from_is = refl;
+            });
+        gone = λ l j isin is there e. (
+            let k = line l isin in
+            interval_is (λ j. j.tablet ≡ l.tablet → ended_by point j.to ≡ true) m r point
+            (λ i i_in e. (
+            let p = one_place ps activity changes i k.interval s.inv i_in k.kept (e ∙ ap (λ z. z.tablet) (sym k.is)) in
+            let owner : owner_of m.catalog.owners i.table ≡ Some r.namespace = ap (owner_of m.catalog.owners) p.table_is ∙ k.owned in
+            ap (λ z. ended_by point z.to) (ended_mine m r.namespace point i (is_mine m r.namespace i.table owner)) ∙ ended_point i.to point (λ t at. g.before.ended i t i_in owner at)))
+            (λ i i_in owner active e. absurd (true≢false (sym (line_then m r point serving_ l k i i_in owner active e) ∙ is))) j there e);
+        opens = λ j opened. interval_is (λ j. owner_of m.catalog.owners j.table ≡ Some r.namespace → j.to ≡ None → IsComing (back m r point serving_) point j) m r point
+            (λ i i_in owner no_end. absurd (some_end (owns m.catalog.owners r.namespace i.table) i.to point (is_mine m r.namespace i.table owner) no_end))
+            (λ i i_in owner active mine no_end. (
+            let k = line_of_then ps activity changes r point serving_ i s.inv i_in owner active in
+            record {
+              from_is = refl;
+              is_listed = record { line = k.line; listed = k.listed; tablet_is = k.tablet_is; slot_is = k.slot_is };
+              restores = line_then m r point serving_ k.line (line k.line k.listed) i i_in owner active (sym k.tablet_is);
+            })) j opened.kept opened.owned opened.opened;
+      };
+    }
+  where
+    some_end : (b : Bool) (to : Option ℕ) (point : ℕ) → b ≡ true → cond b (ended point to) to ≡ None → ⊥
+    some_end true None point is e = let q = e in grind arith
+    some_end true (Some t) point is e = let q = e in grind arith
+    some_end false to point is e = true≢false (sym is)
+
+-- Clones
+
+visible_later : (state : CloneState) → is_visible state ≡ false → is_cloned state ≡ false
+visible_later Accepted e = refl
+visible_later (CloneSnapshot own) e = refl
+visible_later (Copying served at) e = refl
+visible_later (CloneReleasing served at) e = refl
+visible_later (CloneComplete served at) e = e
+
+clone_state_turned : (state : CloneState) (m : Master) (r : RestorationRecord) (point : ℕ) (serving_ : Id) (n : ℕ) (c : CloneRecord) → m.clock ≤ n → (is_cloned state ≡ false → c.target_id ≡ r.namespace → ⊥) → CloneStateGood state m c → CloneStateGood state (turned m r point serving_ n) c
+clone_state_turned Accepted m r point serving_ n c le apart h = h
+clone_state_turned (CloneSnapshot own) m r point serving_ n c le apart h = record { empty = h.empty; snapshot = h.snapshot; kept = h.kept; id_is = h.id_is; namespace_is = h.namespace_is; of_schedule = h.of_schedule; reaches = h.reaches }
+clone_state_turned (Copying served at) m r point serving_ n c le apart h = record { begun = le_trans h.begun le; later = h.later; serves = serving_turned m r point serving_ n served c.source c.to h.serves; bodies = h.bodies; all = h.all }
+clone_state_turned (CloneReleasing served at) m r point serving_ n c le apart h = record {
+  since = h.since;
+  begun = le_trans h.begun le;
+  later = h.later;
+  copied = h.copied;
+  bodies = h.bodies;
+  active = λ l lists. (let k = h.active l lists in record {
+    interval = k.interval;
+    kept = other_stays m r point k.interval k.kept (not_mine m r.namespace c.target_id k.interval.table (h.listed_of l k.interval lists k.kept k.tablet_is) (apart refl));
+    tablet_is = k.tablet_is;
+    slot_is = k.slot_is;
+    opened = k.opened;
+    from_is = k.from_is;
+  });
+  listed_of = λ l j lists there e. (let o = origin m r point j there in ap (owner_of m.catalog.owners) (sym o.table_is) ∙ h.listed_of l o.was lists o.kept (o.tablet_is ∙ e));
+  opens = λ i opened. h.opens i (open_was m r point serving_ n c.target_id i (apart refl) opened);
+}
+clone_state_turned (CloneComplete served at) m r point serving_ n c le apart h = h
+
+clone_turned : (ps : Parts) (activity : List Interval) (changes : List Change) (n : ℕ) (r : RestorationRecord) (point : ℕ) (serving_ : Id) (c : CloneRecord) → IsSwitch ps activity changes n r point serving_ → In c ps.master.clones
+    → CloneGood (turned ps.master r point serving_ n) (after r point changes) c
+clone_turned ps activity changes n r point serving_ c s isin =
+    let m = ps.master in
+    let h = s.inv.operations.clones c isin in
+    let one = s.inv.operations.apart.restoration_ids in
+    let unfinished = unfinished_yet ps activity changes n r point serving_ s in
+    let unused : is_cloned c.state ≡ false → Uses c r.namespace → ⊥ = λ open_ uses. s.inv.operations.apart.one_operation r c s.there isin unfinished open_ uses in
+    record {
+      kind_is = h.kind_is;
+      drawn = h.drawn;
+      drawn_source = h.drawn_source;
+      drawn_target = h.drawn_target;
+      apart = h.apart;
+      past = lt_of_lt_of_le h.past (le_of_lt s.before);
+      pairs = λ p paired. (let g = h.pairs p paired in record { slot_from = g.slot_from; slot_to = g.slot_to; drawn = g.drawn; drawn_table = g.drawn_table; owned = g.owned });
+      drawn_listed = h.drawn_listed;
+      one_slot = h.one_slot;
+      one_target = h.one_target;
+      one_table = h.one_table;
+      tables_apart = h.tables_apart;
+      no_schedule = h.no_schedule;
+      owned = h.owned;
+      drawn_sources = h.drawn_sources;
+      covers = h.covers;
+      scheduled = h.scheduled;
+      sources = λ open_ p paired. (let k = h.sources open_ p paired in record {
+        interval = k.interval;
+        kept = other_stays m r point k.interval k.kept (not_mine m r.namespace c.source k.interval.table k.owned (λ e. unused open_ (inl e)));
+        tablet_is = k.tablet_is;
+        slot_is = k.slot_is;
+        low_is = k.low_is;
+        high_is = k.high_is;
+        active = k.active;
+        owned = k.owned;
+        pair = k.pair;
+        paired = k.paired;
+        source_is = k.source_is;
+        target_is = k.target_is;
+      });
+      reserved = λ unseen p paired. (let k = h.reserved unseen p paired in record {
+        free = λ j there at. (let o = origin m r point j there in k.free o.was o.kept (o.slot_is ∙ at));
+        unknown = λ j there e. (let o = origin m r point j there in k.unknown o.was o.kept (o.tablet_is ∙ e));
+        no_snapshot = k.no_snapshot;
+        no_restoration = λ q l there. in_mapped {A = RestorationRecord} {B = RestorationRecord} (entering r (Restoring point serving_) (listed_then m r point serving_)) (λ q. In l q.listed → l.tablet ≡ p.target → ⊥) m.restorations
+            (λ x x_in. by_record (λ x q. In l q.listed → l.tablet ≡ p.target → ⊥) m r (Restoring point serving_) (listed_then m r point serving_) x one s.there x_in
+            (λ lists e. (let z = line_is m r point serving_ l lists in k.unknown z.interval z.kept (ap (λ y. y.tablet) z.is ∙ e)))
+            (λ b lists e. k.no_restoration x l x_in lists e)) q there;
+      });
+      no_tablet = λ unseen j there owner. (let o = origin m r point j there in h.no_tablet unseen o.was o.kept (ap (owner_of m.catalog.owners) o.table_is ∙ owner));
+      no_table = λ unseen t there named. h.no_table unseen t (table_was m r point c.target_id t (λ e. unused (visible_later c.state unseen) (inr e)) there named) named;
+      no_namespace = h.no_namespace;
+      unfixed = λ open_ to fixed. elim (fixed_is r point changes c.target_id to fixed) [ inl k ↦ unused open_ (inr k.0) | inr old ↦ h.unfixed open_ to old ];
+      in_state = clone_state_turned c.state m r point serving_ n c (le_of_lt s.before) (λ open_ e. unused open_ (inr e)) h.in_state;
+    }
+
+-- All records
+
+pub floors_turned : (ps : Parts) (activity : List Interval) (changes : List Change) (n : ℕ) (r : RestorationRecord) (point : ℕ) (serving_ ns : Id) → IsSwitch ps activity changes n r point serving_
+    → floor_of ps.master ns ps.master.clock ≤ floor_of (turned ps.master r point serving_ n) ns n
+floors_turned ps activity changes n r point serving_ ns s =
+    going_floors ps.master n r (Restoring point serving_) (listed_then ps.master r point serving_) ns (le_of_lt s.before) s.inv.operations.apart.restoration_ids s.there (unfinished_yet ps activity changes n r point serving_ s) refl
+
+pub operations_turned : (ps : Parts) (activity : List Interval) (changes : List Change) (n : ℕ) (r : RestorationRecord) (point : ℕ) (serving_ : Id) → IsSwitch ps activity changes n r point serving_
+    → OperationsGood (turned ps.master r point serving_ n) (after r point changes)
+operations_turned ps activity changes n r point serving_ s =
+    let m = ps.master in
+    let ops = s.inv.operations in
+    let le = le_of_lt s.before in
+    let L = listed_then m r point serving_ in
+    let f = entering r (Restoring point serving_) L in
+    let one = ops.apart.restoration_ids in
+    let unfinished = unfinished_yet ps activity changes n r point serving_ s in
+    record {
+      kept = λ ns. le_trans (ops.kept ns) (floors_turned ps activity changes n r point serving_ ns s);
+      apart = entered_apart m r (Restoring point serving_) L s.there unfinished ops.apart;
+      schedules = λ t isin. (let g = schedule_on m (enters r (Restoring point serving_) L n m) t le (λ kind. le_refl _) (floors_turned ps activity changes n r point serving_ t.namespace s) (λ q q_in. (q, (q_in, same_on q))) (ops.schedules t isin) in
+          record { drawn = g.drawn; drawn_namespace = g.drawn_namespace; from_one = g.from_one; begun = g.begun; last = g.last; reached = g.reached });
+      snapshots = λ q isin. snapshot_turned ps activity changes n r point serving_ q s isin (floors_turned ps activity changes n r point serving_ q.namespace s);
+      restorations = λ q there. in_mapped {A = RestorationRecord} {B = RestorationRecord} f (RestorationGood (turned m r point serving_ n) (after r point changes)) m.restorations
+          (λ x isin. by_record (λ x q. RestorationGood (turned m r point serving_ n) (after r point changes) q) m r (Restoring point serving_) L x one s.there isin
+          (back_good ps activity changes n r point serving_ s) (λ b. restoration_turned ps activity changes n r point serving_ x s isin b)) q there;
+      clones = λ c isin. clone_turned ps activity changes n r point serving_ c s isin;
+      owners = ops.owners;
+      sent = λ mark isin. (
+          let k = filter_in m.sent (λ z. not (same z.operation r.id)) mark isin in
+          elim (ops.sent mark k.0) [
+            | inl q ↦ inl q
+            | inr more ↦ elim more [
+              | inl q ↦ inr (inl (q.0, (subst (λ x. In x (map f m.restorations)) (entering_other r (Restoring point serving_) L q.0 (ap (λ i. same i r.id) q.1.1.0 ∙ not_true (same mark.operation r.id) k.1)) (map_in {A = RestorationRecord} {B = RestorationRecord} f m.restorations q.0 q.1.0), q.1.1)))
+              | inr c ↦ inr (inr c)
+            ]
+          ]);
+    }

@@ -1,0 +1,255 @@
+-- A snapshot of a schedule is taken.
+use Rattle.std.proofs.Common.{ℕ, ◌≡◌, ◌≤◌, ◌<◌, ◌+◌, ◌-◌, List, [], ◌∷◌, ◌++◌, Option, Some, None, Bool, true, false, cond, ◌⊎◌, inl, inr, refl, sym, ap, subst, ◌∙◌, arith, not, le_trans, le_refl, le_of_lt, lt_of_lt_of_le}
+use Rattle.std.specs.Prelude.{is_none, is_some}
+use Rattle.std.specs.List.{filter}
+use Rattle.std.proofs.lemmas.Bool.{true≢false}
+use Rattle.model.specs.Ids.{Kind, Namespace, Table, Tablet as TabletKind, Schedule as ScheduleKind, Snapshot, Restoration, Clone, Id, In, same, same_slots}
+use Rattle.model.specs.Activity.{Interval, active_within}
+use Rattle.model.specs.Catalog.{owner_of}
+use Rattle.model.specs.Journal.{Change as Made}
+use Rattle.model.specs.Tablets.{Freeze}
+use Rattle.model.specs.Records.{Listed, Schedule, SnapshotRecord, RestorationRecord, is_restored, point_of, schedule_with, schedule_of, unfinished_of}
+use Rattle.model.specs.Schedules.{floor, complete_to, after_of, is_due, next_due}
+use Rattle.model.specs.Drawn.{drawn_of}
+use Rattle.model.specs.Acts.{TakeSnapshot, Change, UnknownSchedule, Busy, NotDue}
+use Rattle.model.specs.Operations.{user, time_of_user}
+use Rattle.model.specs.Cleanup.{floor_of}
+use Rattle.model.specs.Lists.{next_snapshot, new_snapshot, set_last, tablets_active_within, intervals_in, once}
+use Rattle.model.specs.Looks.{names}
+use Rattle.model.specs.Parts.{Master, Parts, Drawn, Check, If}
+use Rattle.model.specs.Changes.{accepts, take_snapshot, schedule_user}
+use Rattle.model.specs.Changed.{changed, the_schedule, no_schedule}
+use Rattle.law_store.proofs.Keys.{either_way}
+use Rattle.law_invariants.specs.Operations.{SnapshotsRise, ScheduleGood, SnapshotGood}
+use Rattle.law_invariants.specs.Invariant.{Inv, Later}
+use Rattle.law_invariants.proofs.Finding.{some_is, same_equal, same_self, in_append, in_added, in_first, in_second, filter_in, in_filter, in_mapped, map_in}
+use Rattle.law_invariants.proofs.Remembering.{floor_rises}
+use Rattle.law_invariants.proofs.Ticking.{by_checks, refused_keeps, KeepsAll}
+use Rattle.law_moves.proofs.Recording.{Records, recorded, SnapshotCame, SnapshotOn, Onto}
+use Rattle.law_moves.proofs.Staying.{schedule_on}
+use Rattle.law_moves.proofs.Slots.{records_keep}
+use Rattle.law_moves.proofs.Acting.{alone_keeps}
+use Rattle.law_moves.proofs.Listing.{IsLineOf, listing_only, listing_has, once_only, once_has, namespace_only, namespace_has, one_place}
+use Rattle.law_moves.proofs.Pending.{point_complete, pending_drawn, pending_unmoved, pending_stays, fence_stays, snapshot_added}
+use Rattle.law_moves.proofs.Using.{same_on, schedule_with_is, unfinished_none, neither_is, not_used, mapped_is, alone_mapped, mapped_floor}
+
+abbrev pub taken : Schedule → ℕ → Master → Records
+taken s n m = record {
+  clock = n;
+  schedules = set_last s.id n m.schedules;
+  snapshots = m.snapshots ++ new_snapshot m s n ∷ [];
+  restorations = m.restorations;
+  sent = m.sent;
+  drawn = record m.drawn { snapshots = m.drawn.snapshots + 1 };
+}
+
+drawn_more : (d : Drawn) (kind : Kind) → drawn_of kind d ≤ drawn_of kind (record d { snapshots = d.snapshots + 1 })
+drawn_more d Namespace = le_refl _
+drawn_more d Table = le_refl _
+drawn_more d TabletKind = le_refl _
+drawn_more d ScheduleKind = le_refl _
+drawn_more d Snapshot = omega arith
+drawn_more d Restoration = le_refl _
+drawn_more d Clone = le_refl _
+
+taken_floors : (m : Master) (n : ℕ) (s : Schedule) (ns : Id) → m.clock ≤ n → floor_of m ns m.clock ≤ floor_of (recorded m (taken s n m)) ns n
+taken_floors m n s ns le =
+    let up : floor_of m ns m.clock ≤ floor (schedule_of m.schedules ns) (time_of_user m ns) n =
+    floor_rises m (record m { clock = n }) ns (record { clock = le; schedules = refl; restorations = refl; clones = refl }) in
+    let is : floor_of (recorded m (taken s n m)) ns n ≡ floor (schedule_of m.schedules ns) (time_of_user m ns) n =
+    mapped_floor m.schedules (λ t. record t { last = cond (same t.id s.id) (Some n) t.last }) ns (time_of_user m ns) n (λ t. refl) (λ t. refl) in
+    subst (λ y. floor_of m ns m.clock ≤ y) (sym is) up
+
+rise_added : (rs : List SnapshotRecord) (q : SnapshotRecord) → ((r : SnapshotRecord) → In r rs → (r.id.number < q.id.number) × (r.at < q.at)) → SnapshotsRise rs → SnapshotsRise (rs ++ q ∷ [])
+rise_added [] q above h = ((λ p none. absurd none), tt)
+rise_added (r ∷ rs) q above h = (in_added (λ p. (r.id.number < p.id.number) × (r.at < p.at)) rs q h.0 (above r (inl refl)), rise_added rs q (λ p isin. above p (inr isin)) h.1)
+
+-- what a snapshot may be taken of: no snapshot of the schedule is unfinished, and a restoration that uses its namespace has no point yet
+pub record MayTake (m : Master) (s : Schedule) : Type 0 where
+  pub there : In s m.schedules
+  pub calm : unfinished_of m.snapshots s.id ≡ None
+  pub early : (r : RestorationRecord) (point : ℕ) → In r m.restorations → is_restored r.state ≡ false → point_of r.state ≡ Some point → s.namespace ≡ r.namespace → ⊥
+
+taken_good : (ps : Parts) (activity : List Interval) (changes : List Made) (n : ℕ) (s : Schedule) → ps.master.clock < n → MayTake ps.master s → Inv ps activity changes → SnapshotGood (recorded ps.master (taken s n ps.master)) (new_snapshot ps.master s n)
+taken_good ps activity changes n s before may inv =
+    let m = ps.master in
+    let w = taken s n m in
+    let ops = inv.operations in
+    let g = ops.schedules s may.there in
+    let body = Freeze (next_snapshot m) n in
+    let within = filter (active_within (after_of s.last s) n) (intervals_in m s.namespace) in
+    let line : (l : Listed) → In l (new_snapshot m s n).listed → IsLineOf body (once within) l = λ l isin. listing_only body (once within) l isin in
+    let was : (l : Listed) (isin : In l (new_snapshot m s n).listed) → In (line l isin).interval m.activity × (owner_of m.catalog.owners (line l isin).interval.table ≡ Some s.namespace) =
+    λ l isin. namespace_only m s.namespace _ (filter_in (intervals_in m s.namespace) (active_within (after_of s.last s) n) _ (once_only within _ (line l isin).listed)).0 in
+    record {
+      kind_is = refl;
+      drawn = le_refl _;
+      drawn_schedule = g.drawn;
+      drawn_namespace = g.drawn_namespace;
+      rises = (let l = g.last in omega arith);
+      past = le_refl _;
+      bodies = λ l isin. (line l isin).body_is;
+      drawn_listed = λ l isin. (
+          let d = inv.remembered.drawn _ (inv.remembered.kept _ (was l isin).0) in
+          let e : l.tablet.number ≡ (line l isin).interval.tablet.number = ap (λ i. i.number) (line l isin).tablet_is in omega arith);
+      listed_of = λ l i isin there is. (
+          let k = one_place ps activity changes i (line l isin).interval inv there (was l isin).0 (is ∙ (line l isin).tablet_is) in
+          (ap (owner_of m.catalog.owners) k.table_is ∙ (was l isin).1, k.slot_is ∙ sym (line l isin).slot_is));
+      known = λ unfinished l isin. record { interval = (line l isin).interval; kept = (was l isin).0; tablet_is = sym (line l isin).tablet_is; slot_is = sym (line l isin).slot_is };
+      lists = λ i there owner active. (
+          let first = once_has within i (in_filter (intervals_in m s.namespace) (active_within (after_of s.last s) n) i (namespace_has m s.namespace i there owner) active) in
+          let listed = listing_has body (once within) first.0 first.1.0 in
+          let kept = namespace_only m s.namespace first.0 (filter_in (intervals_in m s.namespace) (active_within (after_of s.last s) n) first.0 (once_only within first.0 first.1.0)).0 in
+          let k = one_place ps activity changes first.0 i inv kept.0 there first.1.1 in
+          record { line = listed.line; listed = listed.listed; tablet_is = listed.tablet_is ∙ first.1.1; slot_is = listed.slot_is ∙ k.slot_is });
+      reached = elim g.reached [
+        | inl l ↦ inl (lt_of_lt_of_le l (taken_floors m n s s.namespace (le_of_lt before)))
+        | inr q ↦ inr (q.0, (in_first m.snapshots (new_snapshot m s n ∷ []) q.0 q.1.0, (q.1.1.0, (q.1.1.1, all_complete q.0 q.1.0 q.1.1.0))))
+      ];
+      of_schedule = λ t isin is. (
+          let p = mapped_is {A = Schedule} (λ t. record t { last = cond (same t.id s.id) (Some n) t.last }) m.schedules t isin in
+          let e : p.0 ≡ s = ops.apart.schedule_ids p.0 s p.1.0 may.there (ap (λ q. q.id) p.1.1 ∙ is) in
+          ap (λ q. q.namespace) (sym p.1.1) ∙ ap (λ q. q.namespace) e);
+      same_namespace = λ q isin is. elim (in_append m.snapshots (new_snapshot m s n ∷ []) q isin) [
+        | inl old ↦ sym ((ops.snapshots q old).of_schedule s may.there (sym is))
+        | inr new ↦ elim new [ inl e ↦ ap (λ k. k.namespace) (sym e) | inr none ↦ absurd none ]
+      ];
+      scheduled = λ unfinished. (
+        record s { last = cond (same s.id s.id) (Some n) s.last },
+        (map_in {A = Schedule} {B = Schedule} (λ t. record t { last = cond (same t.id s.id) (Some n) t.last }) m.schedules s may.there, (refl, ap (λ b. cond b (Some n) s.last) (same_self s.id))),
+      );
+    }
+  where
+    all_complete : (q : SnapshotRecord) → In q ps.master.snapshots → q.schedule ≡ s.id → q.complete ≡ true
+    all_complete q isin is = either_way q.complete (λ b. b) (λ b. absurd (unfinished_none ps.master.snapshots s.id q may.calm isin b is))
+
+-- the schedules, of which one has its last snapshot now
+lasted : (b : Bool) (m : Master) (n : ℕ) (s t : Schedule) → m.clock < n → (b ≡ true → t.id ≡ s.id) → In (new_snapshot m s n) (taken s n m).snapshots → ScheduleGood (recorded m (taken s n m)) t → ScheduleGood (recorded m (taken s n m)) (record t { last = cond b (Some n) t.last })
+lasted false m n s t before is there h = record { drawn = h.drawn; drawn_namespace = h.drawn_namespace; from_one = h.from_one; begun = h.begun; last = h.last; reached = h.reached }
+lasted true m n s t before is there h = record {
+  drawn = h.drawn;
+  drawn_namespace = h.drawn_namespace;
+  from_one = h.from_one;
+  begun = h.begun;
+  last = le_refl _;
+  reached = inr (new_snapshot m s n, (there, (sym (is refl), refl)));
+}
+
+complete_same : (at : Option ℕ) (s t : Schedule) → s.kept_low ≡ t.kept_low → complete_to at s ≡ complete_to at t
+complete_same None s t e = ap (λ x. x - 1) e
+complete_same (Some at) s t e = refl
+
+pub taken_onto : (ps : Parts) (activity : List Interval) (changes : List Made) (n : ℕ) (s : Schedule) → ps.master.clock < n → MayTake ps.master s → Inv ps activity changes → Onto ps changes (taken s n ps.master)
+taken_onto ps activity changes n s before may inv =
+    let m = ps.master in
+    let w = taken s n m in
+    let ops = inv.operations in
+    let a = ops.apart in
+    let q0 = new_snapshot m s n in
+    let f : Schedule → Schedule = λ t. record t { last = cond (same t.id s.id) (Some n) t.last } in
+    let good = taken_good ps activity changes n s before may inv in
+    let floors : (id : Id) → floor_of m id m.clock ≤ floor_of (recorded m w) id n = λ id. taken_floors m n s id (le_of_lt before) in
+    let here : In q0 (m.snapshots ++ q0 ∷ []) = in_second m.snapshots (q0 ∷ []) q0 (inl refl) in
+    let kept : (q : SnapshotRecord) → In q m.snapshots → (r : SnapshotRecord) × (In r w.snapshots × SnapshotOn q r) = λ q isin. (q, (in_first m.snapshots (q0 ∷ []) q isin, same_on q)) in
+    record {
+      clock = le_of_lt before;
+      drawn = drawn_more m.drawn;
+      floors = floors;
+      apart = record {
+        schedule_ids = alone_mapped {A = Schedule} (λ t. t.id) f m.schedules (λ t. refl) a.schedule_ids;
+        one_schedule = alone_mapped {A = Schedule} (λ t. t.namespace) f m.schedules (λ t. refl) a.one_schedule;
+        snapshots_rise = rise_added m.snapshots q0 (λ r isin. let k = ops.snapshots r isin in let l = k.drawn in let u = k.past in (omega arith, omega arith)) a.snapshots_rise;
+        one_snapshot = λ q r in_q in_r open_q open_r e. elim (in_append m.snapshots (q0 ∷ []) q in_q) [
+          | inl old_q ↦ elim (in_append m.snapshots (q0 ∷ []) r in_r) [
+            | inl old_r ↦ a.one_snapshot q r old_q old_r open_q open_r e
+            | inr new_r ↦ elim new_r [ inl is ↦ absurd (unfinished_none m.snapshots s.id q may.calm old_q open_q (e ∙ sym (ap (λ k. k.schedule) is))) | inr none ↦ absurd none ]
+          ]
+          | inr new_q ↦ elim new_q [
+            | inl is ↦ elim (in_append m.snapshots (q0 ∷ []) r in_r) [
+              | inl old_r ↦ absurd (unfinished_none m.snapshots s.id r may.calm old_r open_r (sym e ∙ sym (ap (λ k. k.schedule) is)))
+              | inr new_r ↦ elim new_r [ inl is_r ↦ sym is ∙ is_r | inr none ↦ absurd none ]
+            ]
+            | inr none ↦ absurd none
+          ]
+        ];
+        restoration_ids = a.restoration_ids;
+        one_restoration = a.one_restoration;
+        clone_ids = a.clone_ids;
+        one_clone = a.one_clone;
+        one_operation = a.one_operation;
+        one_target = a.one_target;
+        one_made = a.one_made;
+        one_name = a.one_name;
+      };
+      complete = in_mapped {A = Schedule} {B = Schedule} f (λ t. complete_to t.complete t + 1 ≤ n) m.schedules
+          (λ t isin. subst (λ y. y + 1 ≤ n) (complete_same t.complete t (f t) refl) (le_trans (inv.master.complete t isin) (le_of_lt before)));
+      schedule = in_mapped {A = Schedule} {B = Schedule} f (ScheduleGood (recorded m w)) m.schedules
+          (λ t isin. lasted (same t.id s.id) m n s t before (λ e. same_equal t.id s.id e) here
+          (schedule_on m w t (le_of_lt before) (drawn_more m.drawn) (floors t.namespace) kept (ops.schedules t isin)));
+      schedule_came = λ t isin. (let p = mapped_is {A = Schedule} f m.schedules t isin in
+          inl (record { was = p.0; kept = p.1.0; id_is = ap (λ q. q.id) (sym p.1.1); namespace_is = ap (λ q. q.namespace) (sym p.1.1) }));
+      schedule_kept = λ t isin. inl (f t, (map_in {A = Schedule} {B = Schedule} f m.schedules t isin, (refl, refl)));
+      points = λ r point t there unfinished at isin is. (let p = mapped_is {A = Schedule} f m.schedules t isin in
+          subst (λ q. complete_to q.complete q + 1 ≤ point) p.1.1
+          (subst (λ y. y + 1 ≤ point) (complete_same p.0.complete p.0 (f p.0) refl) (point_complete m changes r point p.0 ops there unfinished at p.1.0 (ap (λ q. q.id) p.1.1 ∙ is))));
+      last = λ q there now unfinished t isin is lasts. either_way (same t.id s.id)
+          (λ b. absurd (unfinished_none m.snapshots s.id q may.calm there unfinished (sym is ∙ same_equal t.id s.id b)))
+          (λ b. (f t, (map_in {A = Schedule} {B = Schedule} f m.schedules t isin, (is, ap (λ c. cond c (Some n) t.last) b ∙ lasts))));
+      sent = λ mark isin. elim (ops.sent mark isin) [
+        | inl q ↦ inl (q.0, (in_first m.snapshots (q0 ∷ []) q.0 q.1.0, q.1.1))
+        | inr more ↦ inr more
+      ];
+      snapshot_came = in_added (λ q. In q m.snapshots ⊎ SnapshotCame m w q) m.snapshots q0 (λ q isin. inl isin) (inr (record {
+        how = inl (record {
+          kind_is = refl;
+          drawn = omega arith;
+          unfinished = refl;
+          known = λ l isin. (let k = good.known refl l isin in record { interval = k.interval; kept = k.kept; tablet_is = k.tablet_is; slot_is = k.slot_is });
+          unacked = λ l isin. (listing_only (Freeze (next_snapshot m) n) (tablets_active_within m s.namespace (after_of s.last s) n) l isin).unacked;
+          apart = λ k point isin unfinished at. (
+            λ e. may.early k point isin unfinished at e,
+            λ e. (let t = (ops.restorations k isin).scheduled unfinished in
+                let one : t.0 ≡ s = a.schedule_ids t.0 s t.1.0 may.there (t.1.1.0 ∙ sym e) in
+                may.early k point isin unfinished at (ap (λ q. q.namespace) (sym one) ∙ t.1.1.1)),
+          );
+          same_namespace = λ q isin is. (ops.snapshots q isin).of_schedule s may.there is;
+        });
+        good = good;
+      }));
+      snapshot_kept = kept;
+      restoration_came = λ r isin. inl isin;
+      restored = inv.journal.restored;
+      one_point = inv.journal.one_point;
+      awaits = λ slot present. refl;
+      fences = λ slot operation h. fence_stays m w slot (ps.tablet slot).table (ps.tablet slot).done operation (λ r isin. inl isin) h;
+      pendings = λ operation slot l e. pending_stays m w operation slot l
+          (record { snapshot = λ id slot l r e at. snapshot_added m.snapshots q0 id r e; restoration = λ id slot l r e at. e }) e;
+      given = λ operation slot l e. pending_drawn m changes operation slot l ops e;
+      unmoved = λ operation slot l r e v is. pending_unmoved m changes operation slot l r ops e v is;
+    }
+
+abbrev take_snapshot_checks : Id → ℕ → Master → List Check
+take_snapshot_checks schedule n m =
+    let found = schedule_with m.schedules schedule in
+    let s = the_schedule found in
+    If (is_none found) UnknownSchedule ∷ names (schedule_user m s) Busy ∷ If (not (is_due s n)) (NotDue (next_due s)) ∷ []
+
+pub take_snapshot_keeps : (ps : Parts) (activity : List Interval) (changes : List Made) (n : ℕ) (schedule : Id) (slots : List ℕ) → Later (0 ∷ slots) ps n → same_slots slots [] ≡ true → Inv ps activity changes
+    → KeepsAll (Change (TakeSnapshot schedule) slots) n ps activity changes (take_snapshot schedule slots n ps)
+unfolding take_snapshot changed
+take_snapshot_keeps ps activity changes n schedule (slot ∷ slots) later plan inv = absurd (true≢false (sym plan))
+take_snapshot_keeps ps activity changes n schedule [] later plan inv =
+    let m = ps.master in
+    let act = Change (TakeSnapshot schedule) [] in
+    let found = schedule_with m.schedules schedule in
+    let s = the_schedule found in
+    let before : m.clock < n = later 0 refl in
+    by_checks act n ps activity changes (take_snapshot_checks schedule n m) (accepts (TakeSnapshot schedule) [] [] (next_snapshot m ∷ []))
+    (λ why. refused_keeps act why n ps activity changes later inv tt refl)
+    (λ passes.
+    let is = schedule_with_is m.schedules schedule s (some_is found no_schedule passes.0) in
+    let neither = neither_is (user m s.namespace) (unfinished_of m.snapshots s.id) passes.1.0 in
+    let free = not_used m s.namespace (ap is_some neither.0) in
+    let may : MayTake m s = record { there = is.0; calm = neither.1; early = λ r point isin unfinished at e. free.restoration r isin unfinished (sym e) } in
+    alone_keeps act (accepts (TakeSnapshot schedule) [] [] (next_snapshot m ∷ [])) n ps activity activity changes changes (recorded m (taken s n m)) refl refl refl refl tt refl
+    (records_keep ps activity changes (taken s n m) (taken_onto ps activity changes n s before may inv) inv))

@@ -1,0 +1,426 @@
+-- What holds of the records that stay, of clones and of slots goes on to hold while others are made, move or go.
+use Rattle.std.proofs.Common.{ℕ, ◌≡◌, ◌≤◌, ◌+◌, List, Option, Some, None, true, false, inl, inr, refl, sym, ap, ◌∙◌, arith, le_trans, lt_of_lt_of_le}
+use Rattle.std.specs.Option.{option_map_or}
+use Rattle.std.proofs.lemmas.Bool.{true≢false}
+use Rattle.std.proofs.lemmas.Bool.Decides.{nat_tests}
+use Rattle.model.specs.Ids.{Kind, Namespace, Table, Tablet as TabletKind, Schedule as ScheduleKind, Snapshot, Restoration, Clone, Id, In}
+use Rattle.model.specs.Times.{ended_by}
+use Rattle.model.specs.Activity.{Interval}
+use Rattle.model.specs.Catalog.{owner_of}
+use Rattle.model.specs.Journal.{Change}
+use Rattle.model.specs.Records.{Listed, Schedule, SnapshotRecord, RestorationRecord, RestorationState, Fencing, Snapshotting, Switching, Restoring, Releasing, Restored, TabletPair, CloneRecord, CloneState, Accepted, CloneSnapshot, Copying, CloneReleasing, CloneComplete, is_restored, is_cloned, point_of}
+use Rattle.model.specs.Schedules.{after_of}
+use Rattle.model.specs.Cleanup.{floor_of}
+use Rattle.model.specs.Drawn.{drawn_of}
+use Rattle.model.specs.Parts.{Master, Parts}
+use Rattle.law_invariants.specs.Remembered.{Remembered, IsForgotten}
+use Rattle.law_invariants.specs.Operations.{IsKnown, IsOpenOf, IsReached, ScheduleGood, SnapshotGood, IsServing, IsPoint, IsCalm, BeforePoint, IsBack, IsActive, RestorationStateGood, RestorationGood, IsSource, IsReserved, CloneStateGood, CloneGood, OperationsGood, JournalGood}
+use Rattle.law_invariants.specs.Orders.{RowsPast}
+use Rattle.law_invariants.specs.Invariant.{MasterGood}
+use Rattle.law_invariants.proofs.Ticking.{namespaces_later, tables_later}
+use Rattle.law_moves.proofs.Recording.{Records, recorded, SnapshotOn, Onto}
+
+-- Intervals and listed tablets, which stay
+
+open_on : (m : Master) (w : Records) (ns : Id) (i : Interval) → IsOpenOf m ns i → IsOpenOf (recorded m w) ns i
+open_on m w ns i h = record { kept = h.kept; opened = h.opened; owned = h.owned }
+
+open_was : (m : Master) (w : Records) (ns : Id) (i : Interval) → IsOpenOf (recorded m w) ns i → IsOpenOf m ns i
+open_was m w ns i h = record { kept = h.kept; opened = h.opened; owned = h.owned }
+
+pub known_on : (m : Master) (w : Records) (l : Listed) → IsKnown m l → IsKnown (recorded m w) l
+known_on m w l h = record { interval = h.interval; kept = h.kept; tablet_is = h.tablet_is; slot_is = h.slot_is }
+
+before_on : (m : Master) (w : Records) (ns : Id) (point : ℕ) → BeforePoint m ns point → BeforePoint (recorded m w) ns point
+before_on m w ns point h = record { begun = h.begun; ended = h.ended; tables_begun = h.tables_begun; tables_ended = h.tables_ended }
+
+active_on : (m : Master) (w : Records) (l : Listed) (from : ℕ) → IsActive m l from → IsActive (recorded m w) l from
+active_on m w l from h = record { interval = h.interval; kept = h.kept; tablet_is = h.tablet_is; slot_is = h.slot_is; opened = h.opened; from_is = h.from_is }
+
+back_on : (m : Master) (w : Records) (l : Listed) (to point : ℕ) → IsBack m l to point → IsBack (recorded m w) l to point
+back_on m w l to point h = record {
+  then_ = h.then_;
+  kept_then = h.kept_then;
+  tablet_then = h.tablet_then;
+  active = h.active;
+  now = h.now;
+  kept_now = h.kept_now;
+  tablet_now = h.tablet_now;
+  slot_now = h.slot_now;
+  opened = h.opened;
+  from_is = h.from_is;
+}
+
+-- Schedules and snapshots
+
+reach_on : (m : Master) (w : Records) (schedule ns : Id) (after : ℕ) → floor_of m ns m.clock ≤ floor_of (recorded m w) ns w.clock
+    → ((q : SnapshotRecord) → In q m.snapshots → (r : SnapshotRecord) × (In r w.snapshots × SnapshotOn q r)) → IsReached m schedule ns after → IsReached (recorded m w) schedule ns after
+reach_on m w schedule ns after floors kept (inl l) = inl (lt_of_lt_of_le l floors)
+reach_on m w schedule ns after floors kept (inr q) = let k = kept q.0 q.1.0 in inr (k.0, (k.1.0, (k.1.1.schedule_is ∙ q.1.1.0, k.1.1.at_is ∙ q.1.1.1)))
+
+pub schedule_on : (m : Master) (w : Records) (s : Schedule) → m.clock ≤ w.clock → ((kind : Kind) → drawn_of kind m.drawn ≤ drawn_of kind w.drawn) → floor_of m s.namespace m.clock ≤ floor_of (recorded m w) s.namespace w.clock
+    → ((q : SnapshotRecord) → In q m.snapshots → (r : SnapshotRecord) × (In r w.snapshots × SnapshotOn q r)) → ScheduleGood m s → ScheduleGood (recorded m w) s
+schedule_on m w s clock drawn floors kept h = record {
+  drawn = le_trans h.drawn (drawn ScheduleKind);
+  drawn_namespace = le_trans h.drawn_namespace (drawn Namespace);
+  from_one = h.from_one;
+  begun = le_trans h.begun clock;
+  last = le_trans h.last clock;
+  reached = reach_on m w s.id s.namespace (after_of s.last s) floors kept h.reached;
+}
+
+snapshot_on : (ps : Parts) (changes : List Change) (w : Records) (q : SnapshotRecord) → Onto ps changes w → In q ps.master.snapshots → In q w.snapshots → SnapshotGood ps.master q → SnapshotGood (recorded ps.master w) q
+snapshot_on ps changes w q o there now h = let m = ps.master in record {
+  kind_is = h.kind_is;
+  drawn = le_trans h.drawn (o.drawn Snapshot);
+  drawn_schedule = le_trans h.drawn_schedule (o.drawn ScheduleKind);
+  drawn_namespace = le_trans h.drawn_namespace (o.drawn Namespace);
+  rises = h.rises;
+  past = le_trans h.past o.clock;
+  bodies = h.bodies;
+  drawn_listed = λ l isin. le_trans (h.drawn_listed l isin) (o.drawn TabletKind);
+  listed_of = h.listed_of;
+  known = λ unfinished l isin. known_on m w l (h.known unfinished l isin);
+  lists = h.lists;
+  reached = elim h.reached [
+    | inl l ↦ inl (lt_of_lt_of_le l (o.floors q.namespace))
+    | inr p ↦ (let k = o.snapshot_kept p.0 p.1.0 in inr (k.0, (k.1.0, (k.1.1.schedule_is ∙ p.1.1.0, (k.1.1.at_is ∙ p.1.1.1.0, k.1.1.complete p.1.1.1.1)))))
+  ];
+  of_schedule = λ s isin is. elim (o.schedule_came s isin) [
+    | inl was ↦ was.namespace_is ∙ h.of_schedule was.was was.kept (sym was.id_is ∙ is)
+    | inr new ↦ absurd (let l1 = new.drawn in let l2 = h.drawn_schedule in let e : s.id.number ≡ q.schedule.number = ap (λ i. i.number) is in omega arith)
+  ];
+  same_namespace = λ p isin is. elim (o.snapshot_came p isin) [
+    | inl old ↦ h.same_namespace p old is
+    | inr came ↦ elim came.how [
+      | inl new ↦ new.same_namespace q there is
+      | inr done ↦ done.on.namespace_is ∙ h.same_namespace done.was done.kept (sym done.on.schedule_is ∙ is)
+    ]
+  ];
+  scheduled = λ unfinished. (let s = h.scheduled unfinished in o.last q there now unfinished s.0 s.1.0 s.1.1.0 s.1.1.1);
+}
+
+-- Restorations
+
+serving_on : (ps : Parts) (changes : List Change) (w : Records) (snapshot ns : Id) (to : ℕ) → Onto ps changes w → IsServing ps.master snapshot ns to → IsServing (recorded ps.master w) snapshot ns to
+serving_on ps changes w snapshot ns to o h = let k = o.snapshot_kept h.serving h.kept in record {
+  serving = k.0;
+  kept = k.1.0;
+  id_is = k.1.1.id_is ∙ h.id_is;
+  complete = k.1.1.complete h.complete;
+  namespace_is = k.1.1.namespace_is ∙ h.namespace_is;
+  after = (let e = k.1.1.after_is in let l = h.after in omega arith);
+  reaches = (let e = k.1.1.at_is in let l = h.reaches in omega arith);
+}
+
+point_on : (ps : Parts) (changes : List Change) (w : Records) (r : RestorationRecord) (point : ℕ) → Onto ps changes w → In r ps.master.restorations → is_restored r.state ≡ false → point_of r.state ≡ Some point → IsPoint ps.master changes r point
+    → IsPoint (recorded ps.master w) changes r point
+point_on ps changes w r point o there unfinished at h = record {
+  later = h.later;
+  fixed = h.fixed;
+  snapshots = λ q isin is. elim (o.snapshot_came q isin) [
+    | inl old ↦ h.snapshots q old is
+    | inr came ↦ elim came.how [
+      | inl new ↦ absurd ((new.apart r point there unfinished at).0 is)
+      | inr done ↦ (let e = done.on.at_is in let l = h.snapshots done.was done.kept (sym done.on.namespace_is ∙ is) in omega arith)
+    ]
+  ];
+  complete = λ s isin is. o.points r point s there unfinished at isin is;
+}
+
+calm_on : (ps : Parts) (changes : List Change) (w : Records) (r : RestorationRecord) (point : ℕ) → Onto ps changes w → In r ps.master.restorations → is_restored r.state ≡ false → point_of r.state ≡ Some point → IsCalm ps.master r
+    → IsCalm (recorded ps.master w) r
+calm_on ps changes w r point o there unfinished at h = λ q isin open_ is. elim (o.snapshot_came q isin) [
+  | inl old ↦ h q old open_ is
+  | inr came ↦ elim came.how [
+    | inl new ↦ (new.apart r point there unfinished at).1 is
+    | inr done ↦ true≢false (sym done.now ∙ open_)
+  ]
+]
+
+alone_on : (ps : Parts) (changes : List Change) (w : Records) (r : RestorationRecord) (point : ℕ) (own : Id) → Onto ps changes w → In r ps.master.restorations → is_restored r.state ≡ false → point_of r.state ≡ Some point
+    → ((q : SnapshotRecord) → In q ps.master.snapshots → q.complete ≡ false → q.schedule ≡ r.schedule → q.id ≡ own) → (q : SnapshotRecord) → In q w.snapshots → q.complete ≡ false → q.schedule ≡ r.schedule → q.id ≡ own
+alone_on ps changes w r point own o there unfinished at h = λ q isin open_ is. elim (o.snapshot_came q isin) [
+  | inl old ↦ h q old open_ is
+  | inr came ↦ elim came.how [
+    | inl new ↦ absurd ((new.apart r point there unfinished at).1 is)
+    | inr done ↦ absurd (true≢false (sym done.now ∙ open_))
+  ]
+]
+
+state_on : (state : RestorationState) (ps : Parts) (changes : List Change) (w : Records) (r : RestorationRecord) → r.state ≡ state → Onto ps changes w → In r ps.master.restorations → RestorationStateGood state ps.master changes r
+    → RestorationStateGood state (recorded ps.master w) changes r
+state_on Fencing ps changes w r e o there h = let m = ps.master in record {
+  bodies = h.bodies;
+  lists = λ i opened. h.lists i (open_was m w r.namespace i opened);
+  opens = λ l isin. (let k = h.opens l isin in (k.0, (open_on m w r.namespace k.0 k.1.0, k.1.1)));
+}
+state_on (Snapshotting point own) ps changes w r e o there h = let m = ps.master in let k = o.snapshot_kept h.snapshot h.kept in record {
+  is_point = point_on ps changes w r point o there (ap is_restored e) (ap point_of e) h.is_point;
+  empty = h.empty;
+  soon = le_trans h.soon (let l = o.clock in omega arith);
+  before = before_on m w r.namespace point h.before;
+  snapshot = k.0;
+  kept = k.1.0;
+  id_is = k.1.1.id_is ∙ h.id_is;
+  at_is = ap (λ x. x + 1) k.1.1.at_is ∙ h.at_is;
+  schedule_is = k.1.1.schedule_is ∙ h.schedule_is;
+  alone = alone_on ps changes w r point own o there (ap is_restored e) (ap point_of e) h.alone;
+}
+state_on (Switching point serving) ps changes w r e o there h = let m = ps.master in record {
+  is_point = point_on ps changes w r point o there (ap is_restored e) (ap point_of e) h.is_point;
+  empty = h.empty;
+  begun = le_trans h.begun o.clock;
+  before = before_on m w r.namespace point h.before;
+  serves = serving_on ps changes w serving r.namespace r.to o h.serves;
+  calm = calm_on ps changes w r point o there (ap is_restored e) (ap point_of e) h.calm;
+}
+state_on (Restoring point serving) ps changes w r e o there h = let m = ps.master in record {
+  is_point = point_on ps changes w r point o there (ap is_restored e) (ap point_of e) h.is_point;
+  begun = le_trans h.begun o.clock;
+  serves = serving_on ps changes w serving r.namespace r.to o h.serves;
+  calm = calm_on ps changes w r point o there (ap is_restored e) (ap point_of e) h.calm;
+  switched = h.switched;
+  bodies = h.bodies;
+  back = λ l isin is. back_on m w l r.to point (h.back l isin is);
+  gone = h.gone;
+  opens = λ i opened. h.opens i (open_was m w r.namespace i opened);
+}
+state_on (Releasing point serving) ps changes w r e o there h = let m = ps.master in record {
+  is_point = point_on ps changes w r point o there (ap is_restored e) (ap point_of e) h.is_point;
+  begun = le_trans h.begun o.clock;
+  switched = h.switched;
+  bodies = h.bodies;
+  active = λ l isin. active_on m w l point (h.active l isin);
+  opens = λ i opened. h.opens i (open_was m w r.namespace i opened);
+}
+state_on (Restored point serving) ps changes w r e o there h = record { empty = h.empty; begun = le_trans h.begun o.clock; later = h.later; switched = h.switched }
+
+restoration_on : (ps : Parts) (changes : List Change) (w : Records) (r : RestorationRecord) → Onto ps changes w → In r ps.master.restorations → RestorationGood ps.master changes r → RestorationGood (recorded ps.master w) changes r
+restoration_on ps changes w r o there h = record {
+  kind_is = h.kind_is;
+  drawn = le_trans h.drawn (o.drawn Restoration);
+  drawn_namespace = le_trans h.drawn_namespace (o.drawn Namespace);
+  past = lt_of_lt_of_le h.past o.clock;
+  scheduled = λ unfinished. (let s = h.scheduled unfinished in elim (o.schedule_kept s.0 s.1.0) [
+    | inl k ↦ (k.0, (k.1.0, (k.1.1.0 ∙ s.1.1.0, k.1.1.1 ∙ s.1.1.1)))
+    | inr free ↦ absurd (free.restoration r there unfinished s.1.1.1)
+  ]);
+  known = λ unfinished l isin. known_on ps.master w l (h.known unfinished l isin);
+  in_state = state_on r.state ps changes w r refl o there h.in_state;
+}
+
+-- Clones
+
+source_on : (m : Master) (w : Records) (c : CloneRecord) (p : TabletPair) → IsSource m c p → IsSource (recorded m w) c p
+source_on m w c p h = record {
+  interval = h.interval;
+  kept = h.kept;
+  tablet_is = h.tablet_is;
+  slot_is = h.slot_is;
+  low_is = h.low_is;
+  high_is = h.high_is;
+  active = h.active;
+  owned = h.owned;
+  pair = h.pair;
+  paired = h.paired;
+  source_is = h.source_is;
+  target_is = h.target_is;
+}
+
+reserved_on : (ps : Parts) (changes : List Change) (w : Records) (p : TabletPair) → Onto ps changes w → IsReserved ps.master p → IsReserved (recorded ps.master w) p
+reserved_on ps changes w p o h = record {
+  free = h.free;
+  unknown = h.unknown;
+  no_snapshot = λ q l isin lists is. elim (o.snapshot_came q isin) [
+    | inl old ↦ h.no_snapshot q l old lists is
+    | inr came ↦ elim came.how [
+      | inl new ↦ (let k = new.known l lists in h.unknown k.interval k.kept (k.tablet_is ∙ is))
+      | inr done ↦ (let k = done.lines l lists in h.no_snapshot done.was k.0 done.kept k.1.0 (k.1.1.0 ∙ is))
+    ]
+  ];
+  no_restoration = λ r l isin lists is. elim (o.restoration_came r isin) [
+    | inl old ↦ h.no_restoration r l old lists is
+    | inr came ↦ (let k = came.known l lists in h.unknown k.interval k.kept (k.tablet_is ∙ is))
+  ];
+}
+
+clone_state_on : (state : CloneState) (ps : Parts) (changes : List Change) (w : Records) (c : CloneRecord) → is_cloned state ≡ is_cloned c.state → Onto ps changes w → In c ps.master.clones → CloneStateGood state ps.master c → CloneStateGood state (recorded ps.master w) c
+clone_state_on Accepted ps changes w c e o there h = h
+clone_state_on (CloneSnapshot own) ps changes w c e o there h = let k = o.snapshot_kept h.snapshot h.kept in record {
+  empty = h.empty;
+  snapshot = k.0;
+  kept = k.1.0;
+  id_is = k.1.1.id_is ∙ h.id_is;
+  namespace_is = k.1.1.namespace_is ∙ h.namespace_is;
+  of_schedule = λ s isin is. elim (o.schedule_came s isin) [
+    | inl was ↦ was.id_is ∙ h.of_schedule was.was was.kept (sym was.namespace_is ∙ is) ∙ sym k.1.1.schedule_is
+    | inr new ↦ absurd (new.unused c there (sym e) (sym is))
+  ];
+  reaches = (let l = h.reaches in let q = k.1.1.at_is in omega arith);
+}
+clone_state_on (Copying serving at) ps changes w c e o there h = record {
+  begun = le_trans h.begun o.clock;
+  later = h.later;
+  serves = serving_on ps changes w serving c.source c.to o h.serves;
+  bodies = h.bodies;
+  all = h.all;
+}
+clone_state_on (CloneReleasing serving at) ps changes w c e o there h = record {
+  since = h.since;
+  begun = le_trans h.begun o.clock;
+  later = h.later;
+  copied = h.copied;
+  bodies = h.bodies;
+  active = λ l isin. active_on ps.master w l h.since (h.active l isin);
+  listed_of = h.listed_of;
+  opens = λ i opened. h.opens i (open_was ps.master w c.target_id i opened);
+}
+clone_state_on (CloneComplete serving at) ps changes w c e o there h = h
+
+clone_on : (ps : Parts) (changes : List Change) (w : Records) (c : CloneRecord) → Onto ps changes w → In c ps.master.clones → CloneGood ps.master changes c → CloneGood (recorded ps.master w) changes c
+clone_on ps changes w c o there h = record {
+  kind_is = h.kind_is;
+  drawn = le_trans h.drawn (o.drawn Clone);
+  drawn_source = le_trans h.drawn_source (o.drawn Namespace);
+  drawn_target = le_trans h.drawn_target (o.drawn Namespace);
+  apart = h.apart;
+  past = lt_of_lt_of_le h.past o.clock;
+  pairs = λ p paired. (let g = h.pairs p paired in record {
+    slot_from = g.slot_from;
+    slot_to = g.slot_to;
+    drawn = le_trans g.drawn (o.drawn TabletKind);
+    drawn_table = le_trans g.drawn_table (o.drawn Table);
+    owned = g.owned;
+  });
+  drawn_listed = λ l lists. le_trans (h.drawn_listed l lists) (o.drawn TabletKind);
+  one_slot = h.one_slot;
+  one_target = h.one_target;
+  one_table = h.one_table;
+  tables_apart = h.tables_apart;
+  owned = h.owned;
+  drawn_sources = λ e paired. le_trans (h.drawn_sources e paired) (o.drawn Table);
+  covers = h.covers;
+  scheduled = λ unfinished. (let s = h.scheduled unfinished in elim (o.schedule_kept s.0 s.1.0) [
+    | inl k ↦ (k.0, (k.1.0, k.1.1.1 ∙ s.1.1))
+    | inr free ↦ absurd (free.clone c there unfinished s.1.1)
+  ]);
+  sources = λ unfinished p paired. source_on ps.master w c p (h.sources unfinished p paired);
+  reserved = λ unseen p paired. reserved_on ps changes w p o (h.reserved unseen p paired);
+  no_tablet = h.no_tablet;
+  no_table = h.no_table;
+  no_namespace = h.no_namespace;
+  no_schedule = λ unseen s isin is. elim (o.schedule_came s isin) [
+    | inl was ↦ h.no_schedule unseen was.was was.kept (sym was.namespace_is ∙ is)
+    | inr new ↦ new.unmade c there unseen (sym is)
+  ];
+  unfixed = h.unfixed;
+  in_state = clone_state_on c.state ps changes w c refl o there h.in_state;
+}
+
+pub operations_on : (ps : Parts) (changes : List Change) (w : Records) → Onto ps changes w → OperationsGood ps.master changes → OperationsGood (recorded ps.master w) changes
+operations_on ps changes w o h = record {
+  kept = λ ns. le_trans (h.kept ns) (o.floors ns);
+  apart = o.apart;
+  schedules = o.schedule;
+  snapshots = λ q isin. elim (o.snapshot_came q isin) [ inl old ↦ snapshot_on ps changes w q o old isin (h.snapshots q old) | inr came ↦ came.good ];
+  restorations = λ r isin. elim (o.restoration_came r isin) [ inl old ↦ restoration_on ps changes w r o old (h.restorations r old) | inr came ↦ came.good ];
+  clones = λ c isin. clone_on ps changes w c o isin (h.clones c isin);
+  owners = λ table ns is. le_trans (h.owners table ns is) (o.drawn Namespace);
+  sent = o.sent;
+}
+
+-- The journal, and rows
+
+pub journal_on : (ps : Parts) (changes : List Change) (w : Records) → Onto ps changes w → JournalGood ps.master changes → JournalGood (recorded ps.master w) changes
+journal_on ps changes w o h = record {
+  fixed_drawn = λ ns to is. le_trans (h.fixed_drawn ns to is) (o.drawn Namespace);
+  drawn = λ c table key op isin is. le_trans (h.drawn c table key op isin is) (o.drawn Table);
+  undone = λ r point isin at. elim (o.restoration_came r isin) [
+    | inl old ↦ h.undone r point old at
+    | inr came ↦ elim came.how [
+      | inl new ↦ absurd (let q : None ≡ Some point = sym (ap point_of new.fencing) ∙ at in grind arith)
+      | inr moved ↦ moved.undone point at
+    ]
+  ];
+  restored = o.restored;
+  one_point = o.one_point;
+}
+
+pub rows_on : (ps : Parts) (changes : List Change) (w : Records) → Onto ps changes w → RowsPast ps.master ps.tablet changes → RowsPast (recorded ps.master w) ps.tablet changes
+rows_on ps changes w o h = λ c table key op isin is. elim (h c table key op isin is) [
+  | inl past ↦ inl (le_trans past o.clock)
+  | inr b ↦ inr (record {
+    interval = b.interval;
+    kept = b.kept;
+    opened = b.opened;
+    table_is = b.table_is;
+    behind = b.behind;
+    unacked = λ r l there fencing lists at. elim (o.restoration_came r there) [
+      | inl old ↦ b.unacked r l old fencing lists at
+      | inr came ↦ elim came.how [ inl new ↦ new.unacked l lists | inr moved ↦ absurd (moved.moving fencing) ]
+    ];
+  })
+]
+
+-- The master
+
+forgotten_on : (ps : Parts) (changes : List Change) (w : Records) (i : Interval) → Onto ps changes w → IsForgotten ps.master i → IsForgotten (recorded ps.master w) i
+forgotten_on ps changes w i o h = record {
+  below = floor_later (owner_of ps.master.catalog.owners i.table) h.below;
+  over = ended_later i.to ps.master.clock w.clock o.clock h.over;
+  unknown = h.unknown;
+}
+  where
+    ended_later : (to : Option ℕ) (m n : ℕ) → m ≤ n → ended_by m to ≡ true → ended_by n to ≡ true
+    ended_later None m n le h = absurd (let q = h in grind arith)
+    ended_later (Some e) m n le h = grind (arith, nat_tests)
+
+    floor_later : (owner : Option Id) → ended_by (option_map_or (λ ns. floor_of ps.master ns ps.master.clock) owner ps.master.clock) i.to ≡ true → ended_by (option_map_or (λ ns. floor_of (recorded ps.master w) ns w.clock) owner w.clock) i.to ≡ true
+    floor_later None k = ended_later i.to ps.master.clock w.clock o.clock k
+    floor_later (Some ns) k = ended_later i.to (floor_of ps.master ns ps.master.clock) (floor_of (recorded ps.master w) ns w.clock) (o.floors ns) k
+
+pub remembered_on : (ps : Parts) (activity : List Interval) (changes : List Change) (w : Records) → Onto ps changes w → Remembered ps.master activity → Remembered (recorded ps.master w) activity
+remembered_on ps activity changes w o h = record {
+  kept = h.kept;
+  each = λ i isin. elim (h.each i isin) [ inl here ↦ inl here | inr gone ↦ inr (forgotten_on ps changes w i o gone) ];
+  drawn = λ i isin. le_trans (h.drawn i isin) (o.drawn TabletKind);
+  drawn_table = λ i isin. le_trans (h.drawn_table i isin) (o.drawn Table);
+  reserved = h.reserved;
+}
+
+pub master_on : (ps : Parts) (activity : List Interval) (changes : List Change) (w : Records) → Onto ps changes w → Remembered ps.master activity → MasterGood ps.master changes → MasterGood (recorded ps.master w) changes
+master_on ps activity changes w o old h = let m = ps.master in record {
+  namespaces = (let g = namespaces_later m.catalog.namespaces m.clock w.clock m.drawn.namespaces changes o.clock h.namespaces in record {
+    past = g.past;
+    drawn_before = λ r isin. le_trans (g.drawn_before r isin) (o.drawn Namespace);
+    unique = g.unique;
+    found = g.found;
+    viewed = g.viewed;
+  });
+  tables = (let g = tables_later m.catalog m.clock w.clock m.drawn.tables changes o.clock h.tables in record {
+    past = g.past;
+    drawn_before = λ r isin. le_trans (g.drawn_before r isin) (o.drawn Table);
+    owned = g.owned;
+    owners_drawn = λ id more. g.owners_drawn id (let l = o.drawn Table in omega arith);
+    unique = g.unique;
+    found = g.found;
+    columns = g.columns;
+    rise = g.rise;
+    viewed = g.viewed;
+    unmade = g.unmade;
+    inside = g.inside;
+    kept = g.kept;
+  });
+  past = λ ns to is. le_trans (h.past ns to is) o.clock;
+  complete = o.complete;
+  listed = λ r l isin lists. elim (o.restoration_came r isin) [
+    | inl there ↦ le_trans (h.listed r l there lists) (o.drawn TabletKind)
+    | inr came ↦ (let k = came.known l lists in let d = old.drawn k.interval (old.kept k.interval k.kept) in let e : k.interval.tablet.number ≡ l.tablet.number = ap (λ i. i.number) k.tablet_is in let u = o.drawn TabletKind in omega arith)
+  ];
+  marks = h.marks;
+  listed_of = λ r l isin lists i there is. elim (o.restoration_came r isin) [
+    | inl before ↦ h.listed_of r l before lists i there is
+    | inr came ↦ came.listed_of l i lists there is
+  ];
+}

@@ -4,28 +4,28 @@ use Rattle.std.proofs.lemmas.Bool.{cond_both}
 use Rattle.std.proofs.lemmas.List.{length-map}
 use Rattle.row_values.specs.Codes.{code_of}
 use Rattle.row_values.specs.declared.value.Item.{Item}
-use Rattle.model.specs.Ids.{Id, In, same}
-use Rattle.model.specs.Store.{in_range}
-use Rattle.model.specs.Schema.{Column}
+use Rattle.row_values.specs.Ids.{Id, same}
+use Rattle.row_values.specs.Elements.{In, AllOf}
+use Rattle.row_values.specs.Ranges.{in_range}
+use Rattle.row_values.specs.Schema.{Column}
 use Rattle.model.specs.Catalog.{TableRecord, namespace_named}
 use Rattle.model.specs.Activity.{Interval, active_at}
 use Rattle.model.specs.Journal.{Change as Made}
 use Rattle.model.specs.Acts.{NamedOp, NamedUpsert, NamedDelete, NamedItem, Command, CreateTable, AddColumn, DropColumn, DropTable, Split, Ask, AskPlan, AskKeys, AskTable, Place, Act, Look, Reply, Ok, Placed}
 use Rattle.model.specs.Parts.{Master, Parts}
 use Rattle.model.specs.Looks.{look_plan, plan_of, least_slots, free_slots, family, slots_of_table, family_of, table_of, holding, active_in, place_of}
-use Rattle.model.specs.Entries.{AllOf, IsSlot, IsName, IsKey, IsValue, IsOp, IsNamedOp, IsBatch, IsNamedBatch, IsTime, ActAsked}
+use Rattle.model.specs.Entries.{IsSlot, IsName, IsNamedOp, IsNamedBatch, IsTime, ActAsked}
+use Rattle.row_values.specs.Batches.{IsKey, IsValue, IsOp, IsBatch}
 use Rattle.model.specs.History.{look, ReplyRight}
 use Rattle.model.specs.Right.{IsActivePlace, PlacesRight, holds_keys}
 use Rattle.model.specs.Scripts.{Time, Micros, MinusMinutes, MinusSeconds, Exact, ToMaster, WriteRows, ReadRow, ReadTable, asked_at, key_alone, at_place, cell_by_id, op_by_id, item_by_id, write_at, acts_after, TimeAsked, ScriptAsked}
 use Rattle.law_invariants.specs.Invariant.{Inv}
 use Rattle.law_invariants.proofs.Finding.{both_pass, passes_both, same_equal, find_is, filter_in}
-use Rattle.law_invariants.proofs.Overlap.{code_below}
+use Rattle.law_invariants.proofs.Overlap.{code_below, holder_there}
 use Rattle.law_invariants.proofs.Remembering.{still_kept}
-use Rattle.law.specs.Covering.{CommandCovered}
+use Rattle.law.specs.Covering.{CommandCovered, ActCovered}
 use Rattle.law_changes.proofs.Plans.{has_in, planned_active}
 use Rattle.law_changes.proofs.Free.{least_free}
-use Rattle.law.specs.Covering.{ActCovered}
-use Rattle.law_invariants.proofs.Overlap.{holder_there}
 
 -- what an act of a run meets
 pub record IsFit (slots : ℕ) (act : Act) : Type 0 where

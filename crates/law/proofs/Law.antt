@@ -1,6 +1,6 @@
 -- Each entry of a legal history keeps what holds, and so the history is right.
 use Rattle.std.proofs.Common.{ℕ, ◌≡◌, ◌≤◌, max, List, [], ◌∷◌, true, sym, subst, arith, eqb, eqb-true, le_trans, le_refl, map, fold}
-use Rattle.model.specs.Ids.{has}
+use Rattle.row_values.specs.Slots.{has}
 use Rattle.model.specs.Activity.{Interval}
 use Rattle.model.specs.Journal as made
 use Rattle.model.specs.Acts.{Act, Split, CreateSchedule, DeleteSchedule, TakeSnapshot, Restore, Look, Change, Write, Read, Cutoff, Compact, Send, Process, Ack, Advance, Remove, Prune, Restart, Stats}

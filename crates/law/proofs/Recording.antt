@@ -1,7 +1,8 @@
 -- What the records' states say of the parts follows from what holds after each entry.
 use Rattle.std.proofs.Common.{ℕ, ◌≡◌, ◌≢◌, List, [], ◌∷◌, Option, Some, None, Bool, true, false, ◌||◌, inl, inr, refl, sym, ap, subst, ◌∙◌, arith}
 use Rattle.std.proofs.lemmas.Bool.{true≢false}
-use Rattle.model.specs.Ids.{Kind, kind_digit, Restoration, Clone, Id, In, same}
+use Rattle.row_values.specs.Ids.{Kind, kind_digit, Restoration, Clone, Id, same}
+use Rattle.row_values.specs.Elements.{In}
 use Rattle.model.specs.Times.{is_open}
 use Rattle.model.specs.Catalog.{is_owned_by, owner_of}
 use Rattle.model.specs.Activity.{Interval}

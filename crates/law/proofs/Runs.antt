@@ -3,7 +3,8 @@ use Rattle.std.proofs.Common.{ℕ, ◌≡◌, ◌<◌, ◌+◌, ◌^◌, List, [
 use Rattle.std.proofs.lemmas.Bool.{cond_both}
 use Rattle.model.specs.Times.{end_of_time}
 use Rattle.model.specs.Acts.{Act, Look, Ask, AskPlan, AskKeys, AskTable, Event, Reply}
-use Rattle.model.specs.Entries.{AllOf, Asked, Entry, log_of, stamp_of}
+use Rattle.row_values.specs.Elements.{AllOf}
+use Rattle.model.specs.Entries.{Asked, Entry, log_of, stamp_of}
 use Rattle.model.specs.History.{IsStep, Legal, entry_of, held, journal_of, activity_of, most_entries, replay}
 use Rattle.model.specs.Scripts.{ScriptCommand, Tick, ToMaster, WriteRows, ReadRow, ReadTable, Numbered, has_plan, acts_of, acts_after, asked_at, key_alone, ScriptAsked}
 use Rattle.model.specs.Running.{Run, event_of, may_follow, performed, performed_all, after_look, looked, with_look, made_by, with_text, text_of, ran, run_from, run_of, begun}

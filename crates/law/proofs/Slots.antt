@@ -2,7 +2,8 @@
 use Rattle.std.proofs.Common.{ℕ, ◌≡◌, List, [], ◌∷◌, Option, Some, None, refl, ◌∙◌}
 use Rattle.std.specs.Option.{option_map_or}
 use Rattle.std.proofs.lemmas.Bool.{cond_both}
-use Rattle.model.specs.Ids.{Id, Kind, Tablet, Snapshot, Restoration, Clone, has}
+use Rattle.row_values.specs.Ids.{Id, Kind, Tablet, Snapshot, Restoration, Clone}
+use Rattle.row_values.specs.Slots.{has}
 use Rattle.model.specs.Records.{Schedule, SnapshotRecord, RestorationRecord, RestorationState, Fencing, CloneRecord, CloneState, Accepted, schedule_with, schedule_of}
 use Rattle.model.specs.Acts.{Act, Command, CreateNamespace}
 use Rattle.model.specs.Parts.{Master, Parts, MasterAct, Ticks, Changes, Sends, Acks, Unsends, Moves, Removes, Prunes, Restarts, Outcome}

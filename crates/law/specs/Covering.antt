@@ -1,6 +1,6 @@
 -- The acts of which the law is proved so far. The definition grows with each act whose lemma stands.
 use Rattle.std.specs.Prelude.{List, [], ◌∷◌}
-use Rattle.model.specs.Ids.{Kind, Clone}
+use Rattle.row_values.specs.Ids.{Kind, Clone}
 use Rattle.model.specs.Acts.{Act, Command, Split, CreateSchedule, DeleteSchedule, TakeSnapshot, Restore, Look, Change, Write, Read, Cutoff, Compact, Send, Process, Ack, Advance, Remove, Prune, Restart, Stats}
 use Rattle.model.specs.Entries.{Entry}
 use Rattle.law_changes.specs.Commands.{IsOfCatalog}

@@ -1,6 +1,6 @@
 -- Commands under their plans: a stale plan is refused, and each command on namespaces and tables keeps what holds.
 use Rattle.std.proofs.Common.{ℕ, ◌≡◌, List, [], ◌∷◌, Option, Some, None, Bool, true, false, refl, not}
-use Rattle.model.specs.Ids.{same_slots}
+use Rattle.row_values.specs.Slots.{same_slots}
 use Rattle.model.specs.Catalog.{namespace_named}
 use Rattle.model.specs.Journal.{Change as Made}
 use Rattle.model.specs.Records.{Schedule, schedule_with, schedule_of}

@@ -5,8 +5,10 @@ use Rattle.std.specs.Option.{is_some}
 use Rattle.std.specs.List.{list_any}
 use Rattle.std.proofs.lemmas.Bool.{true≢false}
 use Rattle.std.proofs.lemmas.Bool.Decides.{nat_tests}
-use Rattle.model.specs.Ids.{Kind, Namespace, Table, Tablet as TabletKind, Schedule, Snapshot, Restoration, Clone, Id, no_id, In, has, same, same_slots}
-use Rattle.model.specs.Schema.{NewColumn, first_schema, numbered}
+use Rattle.row_values.specs.Ids.{Kind, Namespace, Table, Tablet as TabletKind, Schedule, Snapshot, Restoration, Clone, Id, no_id, same}
+use Rattle.row_values.specs.Elements.{In}
+use Rattle.row_values.specs.Slots.{has, same_slots}
+use Rattle.row_values.specs.Schema.{NewColumn, first_schema, numbered}
 use Rattle.model.specs.Activity.{Interval}
 use Rattle.model.specs.Catalog.{Catalog, NamespaceRecord, owner_of, namespace_named, current_named, current_tables}
 use Rattle.model.specs.Drawn.{drawn_of}

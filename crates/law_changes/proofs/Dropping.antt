@@ -4,7 +4,9 @@ use Rattle.std.specs.Prelude.{is_none}
 use Rattle.std.specs.Option.{is_some}
 use Rattle.std.proofs.lemmas.Bool.{cond_both, true≢false}
 use Rattle.std.proofs.lemmas.Bool.Decides.{nat_tests}
-use Rattle.model.specs.Ids.{Id, In, has, same, same_slots, rising}
+use Rattle.row_values.specs.Ids.{Id, same}
+use Rattle.row_values.specs.Elements.{In}
+use Rattle.row_values.specs.Slots.{has, same_slots, rising}
 use Rattle.model.specs.Times.{before_end, ended, ended_by, is_open}
 use Rattle.model.specs.Activity.{Interval, active_at, end_table_tablets}
 use Rattle.model.specs.Catalog.{TableRecord, namespace_named, owner_of, end_table}

@@ -3,7 +3,7 @@ use Rattle.std.proofs.Common.{ℕ, ◌≡◌, ◌≤◌, ◌<◌, ◌+◌, List,
 use Rattle.std.specs.Prelude.{is_none, is_some}
 use Rattle.model.specs.Journal.{Change as Made, NamespaceMade, NamespaceDropped}
 use Rattle.model.specs.Catalog.{NamespaceRecord, namespace_named, current_tables, by_id, kept_from}
-use Rattle.model.specs.Records.{schedule_of}
+use Rattle.model.specs.Records.{schedule_of, Schedule as ScheduleRecord, CloneRecord, is_visible}
 use Rattle.model.specs.Acts.{CreateNamespace, DropNamespace, Change, NameTaken, TooMany, UnknownNamespace, Busy, NotEmpty, UnderSchedule}
 use Rattle.model.specs.Parts.{Master, Parts, Drawn, Check, If}
 use Rattle.model.specs.Operations.{holder, time_of_user}
@@ -23,7 +23,6 @@ use Rattle.std.proofs.lemmas.Bool.{true≢false}
 use Rattle.std.specs.Option.{option_or}
 use Rattle.std.specs.Str.{bytes_eq}
 use Rattle.model.specs.Times.{is_open, ended}
-use Rattle.model.specs.Records.{Schedule as ScheduleRecord, CloneRecord, is_visible}
 use Rattle.model.specs.Schedules.{floor}
 use Rattle.model.specs.Cleanup.{floor_of}
 use Rattle.law_store.proofs.Keys.{either_way, key_self}
@@ -31,7 +30,8 @@ use Rattle.law_invariants.specs.Operations.{OperationsGood}
 use Rattle.law_invariants.proofs.Finding.{passes_both, same_equal, in_added, in_mapped}
 use Rattle.law_invariants.proofs.Records.{kept_by, kept_beside}
 use Rattle.law_invariants.proofs.Operating.{WasNamed, NewName}
-use Rattle.model.specs.Ids.{Id, In, same, Kind, Namespace, Table, Tablet, Schedule, Snapshot, Restoration, Clone}
+use Rattle.row_values.specs.Ids.{Id, same, Kind, Namespace, Table, Tablet, Schedule, Snapshot, Restoration, Clone}
+use Rattle.row_values.specs.Elements.{In}
 use Rattle.model.specs.Drawn.{drawn_of}
 use Rattle.model.specs.Activity.{Interval}
 

@@ -1,7 +1,8 @@
 -- A command that makes and drops no table keeps what holds.
 use Rattle.std.proofs.Common.{ℕ, ◌≡◌, ◌≤◌, List, ◌∷◌, Some, cond, true, ◌⊎◌, inl, refl, sym, ap, subst, ◌∙◌, arith, leb, le_of_lt, le_trans, le_refl}
 use Rattle.std.specs.Option.{is_some}
-use Rattle.model.specs.Ids.{Kind, Namespace as NamespaceKind, Table as TableKind, Id, In, same}
+use Rattle.row_values.specs.Ids.{Kind, Namespace as NamespaceKind, Table as TableKind, Id, same}
+use Rattle.row_values.specs.Elements.{In}
 use Rattle.model.specs.Activity.{Interval, active_at}
 use Rattle.model.specs.Times.{before_end, ended}
 use Rattle.model.specs.Catalog.{Catalog, NamespaceRecord, TableRecord, owner_of, kept_from, end_table}
@@ -16,7 +17,7 @@ use Rattle.model.specs.Changed.{changed}
 use Rattle.model.specs.History.{told}
 use Rattle.model.specs.Right.{NothingLate}
 use Rattle.law_invariants.specs.Remembered.{activity_after, Remembered}
-use Rattle.law_invariants.proofs.Remembering.{remembered_on}
+use Rattle.law_invariants.proofs.Remembering.{remembered_on, floor_rises}
 use Rattle.law_invariants.specs.Invariant.{Covered, IsGood, SlotGood, SlotWorks, MasterGood, Inv, Later, is_awaited}
 use Rattle.law_invariants.proofs.Finding.{both_pass, same_equal, in_mapped}
 use Rattle.law_store.proofs.Keys.{either_way}
@@ -29,7 +30,6 @@ use Rattle.law_invariants.specs.Orders.{RowsPast}
 use Rattle.law_invariants.proofs.Hearing.{clocks_rise, rows_on}
 use Rattle.law_invariants.proofs.Undoing.{RowsFrom, journal_on}
 use Rattle.law_invariants.proofs.Operating.{NotHeld, WasNamed, NewName, Onward, going, operations_on}
-use Rattle.law_invariants.proofs.Remembering.{floor_rises}
 use Rattle.model.specs.Cleanup.{floor_of}
 use Rattle.law_invariants.proofs.Ordering.{rows_same, orders_on, obeyed_on, orders_mild, obeyed_mild}
 use Rattle.law_invariants.proofs.Working.{SameFixed, comes_on, tables_drawn, all_listed, work_later}

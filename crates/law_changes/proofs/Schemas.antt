@@ -1,7 +1,7 @@
 -- Tables get columns, lose them, and change their names.
 use Rattle.std.proofs.Common.{ℕ, ◌≡◌, ◌≤◌, ◌<◌, ◌+◌, length, List, [], ◌∷◌, Option, Some, None, false, inl, inr, refl, sym, ap, subst, ◌∙◌, arith, ◌==◌, le_of_lt}
 use Rattle.std.specs.Prelude.{is_none, is_some}
-use Rattle.model.specs.Schema.{ColumnKind, Schema, column_named, with_column, without_column}
+use Rattle.row_values.specs.Schema.{ColumnKind, Schema, column_named, with_column, without_column}
 use Rattle.model.specs.Journal.{Change as Made, ChangeAct, ColumnAdded, ColumnDropped, TableRenamed}
 use Rattle.model.specs.Catalog.{TableRecord, namespace_named, end_table}
 use Rattle.model.specs.Tablets.{SetVersion}
@@ -20,7 +20,7 @@ use Rattle.law_invariants.proofs.Working.{SameFixed, before_any}
 use Rattle.law_invariants.proofs.Undoing.{one_more}
 use Rattle.law_changes.proofs.Told.{master_early, told_either}
 use Rattle.law_changes.proofs.Quiet.{IsMild, Follows, quiet_keeps, quiet_works, same_drawn, KeepsCatalog, same_names, marks_stay, ended_tables}
-use Rattle.model.specs.Ids.{In}
+use Rattle.row_values.specs.Elements.{In}
 use Rattle.law_invariants.specs.Operations.{OperationsGood}
 use Rattle.law_invariants.proofs.Operating.{NotHeld, not_held}
 use Rattle.law_invariants.proofs.Finding.{in_append}

@@ -2,7 +2,8 @@
 use Rattle.std.proofs.Common.{ℕ, ◌≡◌, ◌<◌, List, [], ◌∷◌, Bool, true, false, cond, ◌&&◌, ◌||◌, refl, sym, ap, ◌∙◌, arith, not, eqb, eqb-true}
 use Rattle.std.proofs.lemmas.Bool.{cond_both}
 use Rattle.std.proofs.lemmas.Bool.Decides.{nat_tests}
-use Rattle.model.specs.Ids.{Id, has, same_slots}
+use Rattle.row_values.specs.Ids.{Id}
+use Rattle.row_values.specs.Slots.{has, same_slots}
 use Rattle.model.specs.Tablets.{Tablet, TabletAct, Told, act_for, effect, Clock}
 use Rattle.model.specs.Acts.{Act, Command, Change}
 use Rattle.model.specs.Parts.{Parts, Outcome}

@@ -1,7 +1,8 @@
 -- The slots after a tablet is removed: its own is empty, and the others are as they were.
 use Rattle.std.proofs.Common.{ℕ, ◌≡◌, ◌≢◌, ◌≤◌, ◌<◌, List, None, false, ◌⊎◌, inl, inr, refl, sym, ◌∙◌, arith, le_of_lt}
 use Rattle.std.proofs.lemmas.Bool.{true≢false}
-use Rattle.model.specs.Ids.{Kind, Namespace, Table, Tablet as TabletKind, Schedule, Snapshot, Restoration, Clone, Id, In}
+use Rattle.row_values.specs.Ids.{Kind, Namespace, Table, Tablet as TabletKind, Schedule, Snapshot, Restoration, Clone, Id}
+use Rattle.row_values.specs.Elements.{In}
 use Rattle.model.specs.Activity.{Interval}
 use Rattle.model.specs.Journal.{Change}
 use Rattle.model.specs.Tablets.{Tablet, Mark, BodyKind, emptied}

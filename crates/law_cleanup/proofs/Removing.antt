@@ -3,7 +3,9 @@ use Rattle.std.proofs.Common.{ℕ, ◌≡◌, ◌≢◌, ◌≤◌, ◌<◌, Lis
 use Rattle.std.specs.Option.{is_some}
 use Rattle.std.proofs.lemmas.Bool.{true≢false}
 use Rattle.std.proofs.lemmas.Bool.Decides.{nat_tests}
-use Rattle.model.specs.Ids.{Id, Tablet as TabletKind, In, has, same, same_slots}
+use Rattle.row_values.specs.Ids.{Id, Tablet as TabletKind, same}
+use Rattle.row_values.specs.Elements.{In}
+use Rattle.row_values.specs.Slots.{has, same_slots}
 use Rattle.model.specs.Times.{ended_by}
 use Rattle.model.specs.Activity.{Interval, last_of, forget}
 use Rattle.model.specs.Journal.{Change as Made}

@@ -2,7 +2,9 @@
 use Rattle.std.proofs.Common.{ℕ, ◌≡◌, ◌≤◌, ◌<◌, List, [], ◌∷◌, Option, Some, None, false, inl, inr, refl, sym, ap, subst, ◌∙◌, arith, not, eqb, leb, le_refl, le_of_lt}
 use Rattle.std.proofs.lemmas.Bool.{true≢false}
 use Rattle.std.proofs.lemmas.Bool.Decides.{nat_tests}
-use Rattle.model.specs.Ids.{Id, Kind, Tablet as TabletKind, Snapshot, In, has, same_slots}
+use Rattle.row_values.specs.Ids.{Id, Kind, Tablet as TabletKind, Snapshot}
+use Rattle.row_values.specs.Elements.{In}
+use Rattle.row_values.specs.Slots.{has, same_slots}
 use Rattle.model.specs.Activity.{Interval, last_of}
 use Rattle.model.specs.Journal.{Change as Made}
 use Rattle.model.specs.Tablets.{Tablet, FrozenSet, DropFrozen, effect}

@@ -2,9 +2,11 @@
 use Rattle.std.proofs.Common.{ℕ, ◌≡◌, ◌≤◌, ◌<◌, ◌+◌, List, [], ◌∷◌, ◌++◌, map, length, not, Option, Some, None, true, false, cond, ◌&&◌, ◌||◌, inl, inr, refl, sym, ap, subst, ◌∙◌, arith, leb, le_trans, le_refl}
 use Rattle.std.specs.Option.{is_some, option_or, option_map, option_map_or}
 use Rattle.std.proofs.lemmas.Bool.{true≢false}
-use Rattle.model.specs.Ids.{Kind, Namespace, Table, Tablet as TabletKind, Schedule as ScheduleKind, Snapshot, Restoration, Clone, Id, In, has, same}
+use Rattle.row_values.specs.Ids.{Kind, Namespace, Table, Tablet as TabletKind, Schedule as ScheduleKind, Snapshot, Restoration, Clone, Id, same}
+use Rattle.row_values.specs.Elements.{In}
+use Rattle.row_values.specs.Slots.{has}
 use Rattle.model.specs.Times.{holds_at, before_end, ended_by}
-use Rattle.model.specs.Store.{in_range}
+use Rattle.row_values.specs.Ranges.{in_range}
 use Rattle.model.specs.Catalog.{TableRecord, Owner, tables_at, owner_of, owns, is_owned_by, namespace_named, kept_from}
 use Rattle.model.specs.Activity.{Interval, active_at}
 use Rattle.model.specs.Restored.{record_at}

@@ -1,7 +1,8 @@
 -- A clone is accepted: its record is added to the others.
 use Rattle.std.proofs.Common.{ℕ, ◌≡◌, ◌≤◌, ◌<◌, List, [], ◌∷◌, ◌++◌, Option, Some, None, false, ◌&&◌, ◌⊎◌, inl, inr, refl, sym, ap, subst, ◌∙◌, arith, not, le_trans}
 use Rattle.std.specs.Option.{option_and_then}
-use Rattle.model.specs.Ids.{Kind, Namespace, Table, Tablet as TabletKind, Schedule as ScheduleKind, Snapshot, Restoration, Clone, Id, In, same}
+use Rattle.row_values.specs.Ids.{Kind, Namespace, Table, Tablet as TabletKind, Schedule as ScheduleKind, Snapshot, Restoration, Clone, Id, same}
+use Rattle.row_values.specs.Elements.{In}
 use Rattle.model.specs.Activity.{Interval}
 use Rattle.model.specs.Journal.{Change}
 use Rattle.model.specs.Tablets.{Mark, Release, BodyKind, kind_of}

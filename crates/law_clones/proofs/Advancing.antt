@@ -1,7 +1,8 @@
 -- An advance of a clone: its record moves, all that it lists was acked, and it waits for no snapshot.
 use Rattle.std.proofs.Common.{ℕ, ◌≡◌, ◌≤◌, List, [], ◌∷◌, None, true, false, refl, sym, ap, subst, ◌∙◌, arith, le_refl}
 use Rattle.std.specs.Option.{option_map_or}
-use Rattle.model.specs.Ids.{Restoration, Clone, Id, In}
+use Rattle.row_values.specs.Ids.{Restoration, Clone, Id}
+use Rattle.row_values.specs.Elements.{In}
 use Rattle.model.specs.Activity.{Interval}
 use Rattle.model.specs.Journal.{Change as Made}
 use Rattle.model.specs.Records.{Listed, CloneRecord, CloneState, is_cloned}

@@ -1,7 +1,7 @@
 -- A clone is complete: its target's tablets were released.
 use Rattle.std.proofs.Common.{ℕ, ◌≡◌, ◌≤◌, ◌<◌, List, [], inl, refl, sym, ap, subst, ◌∙◌, arith, le_refl, le_of_lt}
 use Rattle.std.proofs.lemmas.Bool.{true≢false}
-use Rattle.model.specs.Ids.{Id}
+use Rattle.row_values.specs.Ids.{Id}
 use Rattle.model.specs.Activity.{Interval}
 use Rattle.model.specs.Journal.{Change as Made}
 use Rattle.model.specs.Records.{CloneRecord, CloneReleasing, CloneComplete, Copying, is_visible}

@@ -2,7 +2,8 @@
 use Rattle.std.proofs.Common.{ℕ, ◌≡◌, ◌≤◌, ◌<◌, ◌+◌, List, [], ◌∷◌, length, take, Option, Some, None, true, ◌&&◌, ◌⊎◌, inl, inr, refl, sym, ap, subst, ◌∙◌, arith, leb, leb-true, ltb, ltb-true}
 use Rattle.std.specs.List.{filter}
 use Rattle.std.proofs.lemmas.Bool.{true≢false}
-use Rattle.model.specs.Ids.{Id, In, same}
+use Rattle.row_values.specs.Ids.{Id, same}
+use Rattle.row_values.specs.Elements.{In}
 use Rattle.model.specs.Times.{holds_at, before_end, ended_by}
 use Rattle.model.specs.Catalog.{TableRecord, tables_at, by_id, put_table, owner_of}
 use Rattle.model.specs.Activity.{Interval, active_at}

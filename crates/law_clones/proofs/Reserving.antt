@@ -1,6 +1,7 @@
 -- Numbers are drawn, and owners of tables that are yet to be made are noted.
 use Rattle.std.proofs.Common.{ℕ, ◌≡◌, ◌≤◌, ◌<◌, List, [], ◌∷◌, ◌++◌, Some, ◌⊎◌, inl, inr, refl, sym, ap, subst, ◌∙◌, arith, le_refl, le_trans}
-use Rattle.model.specs.Ids.{Kind, Namespace, Table, Tablet as TabletKind, Id, In, same}
+use Rattle.row_values.specs.Ids.{Kind, Namespace, Table, Tablet as TabletKind, Id, same}
+use Rattle.row_values.specs.Elements.{In}
 use Rattle.model.specs.Catalog.{Owner, owner_of}
 use Rattle.model.specs.Activity.{Interval}
 use Rattle.model.specs.Journal.{Change}

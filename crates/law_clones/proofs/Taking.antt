@@ -2,12 +2,12 @@
 use Rattle.std.proofs.Common.{ℕ, ◌≡◌, ◌≤◌, ◌+◌, List, [], ◌∷◌, length, Bool, true, false, cond, ◌&&◌, inl, inr, refl, sym, ap, ◌∙◌, arith}
 use Rattle.std.specs.List.{filter}
 use Rattle.std.proofs.lemmas.Bool.{true≢false}
-use Rattle.model.specs.Ids.{Id, In, same}
-use Rattle.model.specs.Store.{in_range}
+use Rattle.row_values.specs.Ids.{Id, same}
+use Rattle.row_values.specs.Elements.{In, put_in, in_order}
+use Rattle.row_values.specs.Ranges.{in_range}
 use Rattle.model.specs.Activity.{Interval, active_at}
 use Rattle.model.specs.Records.{IdPair}
 use Rattle.model.specs.Stands.{holders}
-use Rattle.model.specs.Lists.{put_in, in_order}
 use Rattle.model.specs.Changed.{pair_tablets, target_in}
 use Rattle.law_store.proofs.Keys.{either_way}
 use Rattle.law_invariants.specs.Operations.{takers}

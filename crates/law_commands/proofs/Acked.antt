@@ -1,7 +1,8 @@
 -- An ack changes a record's list alone, and there one mark: what holds of the records goes on.
 use Rattle.std.proofs.Common.{ℕ, ◌≡◌, ◌≤◌, ◌<◌, List, [], ◌∷◌, Bool, true, false, cond, ◌&&◌, ◌||◌, ◌⊎◌, inl, inr, map, refl, sym, ap, subst, ◌∙◌, not, eqb, eqb-true}
 use Rattle.std.specs.Option.{option_or, option_map}
-use Rattle.model.specs.Ids.{Id, In, same}
+use Rattle.row_values.specs.Ids.{Id, same}
+use Rattle.row_values.specs.Elements.{In}
 use Rattle.model.specs.Catalog.{kept_from}
 use Rattle.model.specs.Activity.{Interval}
 use Rattle.model.specs.Journal.{Change}

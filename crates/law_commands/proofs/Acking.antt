@@ -2,7 +2,8 @@
 use Rattle.std.proofs.Common.{ℕ, ◌≡◌, ◌≤◌, List, [], ◌∷◌, Option, Some, None, Bool, true, false, cond, ◌&&◌, inl, inr, map, refl, sym, ap, subst, ◌∙◌, arith, not, eqb, eqb-true, le_refl, le_trans}
 use Rattle.std.proofs.lemmas.Bool.{true≢false}
 use Rattle.std.proofs.lemmas.Bool.Decides.{nat_tests}
-use Rattle.model.specs.Ids.{Kind, Namespace, Table, Tablet as TabletKind, Schedule, Snapshot, Restoration, Clone, Id, In, same}
+use Rattle.row_values.specs.Ids.{Kind, Namespace, Table, Tablet as TabletKind, Schedule, Snapshot, Restoration, Clone, Id, same}
+use Rattle.row_values.specs.Elements.{In}
 use Rattle.model.specs.Activity.{Interval}
 use Rattle.model.specs.Journal.{Change}
 use Rattle.model.specs.Tablets.{Tablet, Command, Body, Fence, Freeze, RestoreFrom, Hide, Copy, Release, ticked, kind_of, is_done}

@@ -2,8 +2,10 @@
 use Rattle.std.proofs.Common.{ℕ, ◌≡◌, ◌≢◌, ◌≤◌, ◌<◌, ◌+◌, List, [], ◌∷◌, ◌++◌, Some, None, true, false, inl, inr, refl, sym, ap, subst, ◌∙◌, arith, le_refl, le_of_lt}
 use Rattle.std.proofs.lemmas.Bool.{true≢false}
 use Rattle.row_values.specs.Codes.{code_of}
-use Rattle.model.specs.Ids.{Id, In, same}
-use Rattle.model.specs.Store.{Version, in_range, read_of, rows_at, of_rows}
+use Rattle.row_values.specs.Ids.{Id, same}
+use Rattle.row_values.specs.Elements.{In}
+use Rattle.row_values.specs.Store.{Version, read_of, rows_at, of_rows}
+use Rattle.row_values.specs.Ranges.{in_range}
 use Rattle.model.specs.Activity.{Interval}
 use Rattle.model.specs.Journal.{Change, row_at}
 use Rattle.model.specs.Tablets.{Tablet, InService, Command, Mark, Body, Fence, Freeze, Release, Copy, FenceKind, FreezeKind, CopyKind, FrozenSet, set_of, rows_of_set, cutoff_of_set, processed, is_done}
@@ -103,7 +105,7 @@ copied_by m changes slot n t q operation tablet serving at cs b p known id_is is
     λ key ranged. gi.sets f s.isin key b.to (ap (λ a. in_range a from.interval.high (code_of key)) from.low_is ∙ ap (λ z. in_range p.low z (code_of key)) from.high_is ∙ ranged) low s.reaches from.active in
     let vs = of_rows (rows_at f.versions b.to) at in
     let u = copied_with t n tablet p vs at operation cs done in
-    let are : AreRowsAt vs p.low p.high at changes b.to from.interval.table = are_rows_restored f.versions p.low p.high at changes b.to from.interval.table sorted keys reads in
+    let are : AreRowsAt vs p.low p.high at changes b.to from.interval.table = are_rows_restored f.versions p.low p.high at b.to (row_at changes b.to from.interval.table) sorted keys reads in
     let no_set : (k : FrozenSet) → In k t.frozen → ⊥ = λ k held. subst (In k) bare.frozen held in
     let none_done : (id : Id) → is_done t.done id FreezeKind ≡ false = λ id. ap (λ ds. is_done ds id FreezeKind) bare.done in
     let copy : IsCopy changes b at p u = record {

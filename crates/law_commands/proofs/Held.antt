@@ -1,7 +1,8 @@
 -- A tablet does a command of the operation that holds its namespace: no other operation has anything in its slot.
 use Rattle.std.proofs.Common.{ℕ, ◌≡◌, ◌≢◌, ◌≤◌, ◌<◌, List, [], ◌∷◌, ◌++◌, Some, false, ◌⊎◌, inl, inr, refl, sym, ap, subst, ◌∙◌, le_of_lt}
 use Rattle.std.proofs.lemmas.Bool.{true≢false}
-use Rattle.model.specs.Ids.{Id, In, same}
+use Rattle.row_values.specs.Ids.{Id, same}
+use Rattle.row_values.specs.Elements.{In}
 use Rattle.model.specs.Catalog.{owner_of}
 use Rattle.model.specs.Journal.{Change}
 use Rattle.model.specs.Tablets.{Tablet, Command, Mark, Body, FenceKind, FreezeKind, kind_of, is_done, is_vacant}

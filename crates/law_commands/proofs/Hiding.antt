@@ -2,7 +2,8 @@
 use Rattle.std.proofs.Common.{ℕ, ◌≡◌, ◌≤◌, ◌+◌, List, [], ◌∷◌, ◌++◌, Option, Some, None, true, false, refl, sym, ap, subst, ◌∙◌, arith, le_trans, le_of_lt, lt_of_lt_of_le}
 use Rattle.std.proofs.lemmas.Bool.{true≢false}
 use Rattle.row_values.specs.declared.rows.KeyedRow.{KeyedRow}
-use Rattle.model.specs.Ids.{Id, In}
+use Rattle.row_values.specs.Ids.{Id}
+use Rattle.row_values.specs.Elements.{In}
 use Rattle.model.specs.Times.{ended_by}
 use Rattle.model.specs.Catalog.{owner_of}
 use Rattle.model.specs.Activity.{Interval}

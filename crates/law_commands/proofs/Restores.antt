@@ -4,9 +4,11 @@ use Rattle.std.proofs.lemmas.Bool.{true≢false}
 use Rattle.std.proofs.lemmas.Bool.Decides.{nat_tests}
 use Rattle.row_values.specs.Codes.{code_of}
 use Rattle.row_values.specs.declared.rows.KeyedRow.{KeyedRow}
-use Rattle.model.specs.Ids.{Id, In, same}
+use Rattle.row_values.specs.Ids.{Id, same}
+use Rattle.row_values.specs.Elements.{In}
 use Rattle.model.specs.Times.{before_end}
-use Rattle.model.specs.Store.{Version, Below, in_range, read_of, rows_at, of_rows}
+use Rattle.row_values.specs.Store.{Version, Below, read_of, rows_at, of_rows}
+use Rattle.row_values.specs.Ranges.{in_range}
 use Rattle.model.specs.Catalog.{owner_of}
 use Rattle.model.specs.Activity.{Interval, active_at, active_within}
 use Rattle.model.specs.Journal.{Change, row_at}
@@ -215,7 +217,7 @@ restored_by m changes slot n t operation tablet snapshot at version cs rows r kn
     ∙ (gn.comes r at known waits_of b.opened).before key (ap (λ a. in_range a b.now.high (code_of key)) (sym gn.low_is) ∙ ap (λ z. in_range t.low z (code_of key)) (sym gn.high_is) ∙ ranged)
     ∙ ap (λ id. row_at changes r.to id key) (sym gn.table_is) in
     let are : AreRowsAt vs t.low t.high at (before_restore changes r.namespace at changes) r.to t.table =
-    are_rows_restored f.versions t.low t.high at (before_restore changes r.namespace at changes) r.to t.table sorted keys (λ key ranged. then_reads key ranged ∙ sym (now_before key ranged)) in
+    are_rows_restored f.versions t.low t.high at r.to (row_at (before_restore changes r.namespace at changes) r.to t.table) sorted keys (λ key ranged. then_reads key ranged ∙ sym (now_before key ranged)) in
     let mine_slot : (j : Listed) → In j r.listed → j.slot ≡ slot → RestoringSlot changes r at j u = λ j j_lists there. (
     let old : RestoringSlot changes r at j t = subst (λ q. RestorationSlot q m changes r slot t) is (d.works.obeyed.restorations r known) j j_lists there in record {
       acked = λ a. done_still t.done (mark_of c) r.id (kind_of j.body) (old.acked a);

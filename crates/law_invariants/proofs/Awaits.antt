@@ -2,7 +2,8 @@
 use Rattle.std.proofs.Common.{ℕ, ◌≡◌, List, [], ◌∷◌, Some, None, true, false, cond, ◌&&◌, inl, inr, refl, sym, ap, ◌∙◌, not, arith}
 use Rattle.std.specs.List.{list_any}
 use Rattle.std.proofs.lemmas.Bool.{true≢false}
-use Rattle.model.specs.Ids.{Id, In, same}
+use Rattle.row_values.specs.Ids.{Id, same}
+use Rattle.row_values.specs.Elements.{In}
 use Rattle.model.specs.Tablets.{Mark, RestoreFromKind, is_done}
 use Rattle.model.specs.Records.{Listed, RestorationRecord, RestorationState, Restoring}
 use Rattle.model.specs.Stands.{awaited_in, awaited_of, first_of_two, is_restore}

@@ -1,8 +1,9 @@
 -- The catalog stands for the view through each accepted command that changes it.
 use Rattle.std.proofs.Common.{inl, inr, length, ℕ, ◌≡◌, ◌≤◌, ◌+◌, false, List, [], ◌∷◌, Option, Some, None, refl, sym, ap, subst, ◌∙◌, arith, le_refl}
 use Rattle.std.specs.Option.{is_some, is_none, option_or}
-use Rattle.model.specs.Ids.{Id, In}
-use Rattle.model.specs.Schema.{Column, ColumnKind, NewColumn, column_named, first_schema, with_column, without_column}
+use Rattle.row_values.specs.Ids.{Id}
+use Rattle.row_values.specs.Elements.{In}
+use Rattle.row_values.specs.Schema.{Column, ColumnKind, NewColumn, column_named, first_schema, with_column, without_column}
 use Rattle.model.specs.Records.{IdPair}
 use Rattle.model.specs.Catalog.{tables_at, TableRecord, namespace_named, current_named}
 use Rattle.model.specs.Journal.{Change, ChangeAct, TableRenamed, TableDropped, ColumnAdded, ColumnDropped}

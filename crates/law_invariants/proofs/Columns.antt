@@ -3,8 +3,8 @@ use Rattle.std.proofs.Common.{ℕ, ◌≡◌, ◌<◌, ◌≤◌, ◌+◌, Bool,
 use Rattle.std.specs.List.{filter}
 use Rattle.std.proofs.lemmas.Bool.Decides.{nat_tests}
 use Rattle.std.specs.Str.{bytes_eq}
-use Rattle.model.specs.Ids.{In}
-use Rattle.model.specs.Schema.{Schema, Column, ColumnKind, NewColumn, column_named, numbered, first_schema, with_column, without_column}
+use Rattle.row_values.specs.Elements.{In}
+use Rattle.row_values.specs.Schema.{Schema, Column, ColumnKind, NewColumn, column_named, numbered, first_schema, with_column, without_column}
 use Rattle.model.specs.Entries.{NotNamed, NamesDiffer}
 use Rattle.law_store.proofs.Keys.{either_way, equal_keys, key_self, key_sym}
 use Rattle.law_invariants.specs.Invariant.{ColumnsStand}

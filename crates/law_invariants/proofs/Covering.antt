@@ -4,11 +4,12 @@ use Rattle.std.specs.Option.{is_some}
 use Rattle.std.proofs.Math.Nat.{div-le_self}
 use Rattle.std.proofs.lemmas.Bool.{true≢false}
 use Rattle.std.proofs.lemmas.Bool.Decides.{nat_tests}
-use Rattle.model.specs.Ids.{Id, In, same}
+use Rattle.row_values.specs.Ids.{Id, same}
+use Rattle.row_values.specs.Elements.{In}
 use Rattle.model.specs.Activity.{Interval, end_table_tablets}
 use Rattle.model.specs.Stands.{holders}
 use Rattle.model.specs.Changed.{shares, next_table}
-use Rattle.model.specs.Schema.{Column}
+use Rattle.row_values.specs.Schema.{Column}
 use Rattle.model.specs.Journal.{Change, TableMade, TableDropped, table_at}
 use Rattle.model.specs.Parts.{Master}
 use Rattle.model.specs.History.{with}

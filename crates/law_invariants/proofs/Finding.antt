@@ -4,7 +4,8 @@ use Rattle.std.specs.List.{filter, find}
 use Rattle.std.specs.Option.{option_map, is_some, is_none, unwrap_or}
 use Rattle.std.proofs.lemmas.Bool.{cond_both}
 use Rattle.std.proofs.lemmas.Bool.Decides.{nat_tests}
-use Rattle.model.specs.Ids.{Kind, Namespace, Table, Tablet, Schedule, Snapshot, Restoration, Clone, kind_digit, Id, same, In}
+use Rattle.row_values.specs.Ids.{Kind, Namespace, Table, Tablet, Schedule, Snapshot, Restoration, Clone, kind_digit, Id, same}
+use Rattle.row_values.specs.Elements.{In}
 use Rattle.law_store.proofs.Keys.{either_way}
 
 -- Tests

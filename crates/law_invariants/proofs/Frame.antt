@@ -1,7 +1,7 @@
 -- One tablet's part does what it is told, and the others set their clocks.
 use Rattle.std.proofs.Common.{ℕ, ◌≡◌, ◌≤◌, List, [], ◌∷◌, Bool, true, false, ◌&&◌, sym, subst, ◌∙◌, arith, not, eqb, eqb-true, le_refl}
 use Rattle.std.proofs.lemmas.Bool.{cond_both}
-use Rattle.model.specs.Ids.{has}
+use Rattle.row_values.specs.Slots.{has}
 use Rattle.model.specs.Activity.{Interval}
 use Rattle.model.specs.Journal.{Change}
 use Rattle.model.specs.Tablets.{Tablet, TabletAct, Clock, act_for, effect}

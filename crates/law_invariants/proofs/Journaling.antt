@@ -5,8 +5,8 @@ use Rattle.std.proofs.lemmas.Bool.{true≢false}
 use Rattle.std.proofs.lemmas.Bool.Decides.{nat_tests}
 use Rattle.row_values.specs.Rows.{absent_row}
 use Rattle.row_values.specs.declared.rows.Row.{Row}
-use Rattle.model.specs.Ids.{Id, same}
-use Rattle.model.specs.Schema.{Column}
+use Rattle.row_values.specs.Ids.{Id, same}
+use Rattle.row_values.specs.Schema.{Column}
 use Rattle.model.specs.Journal.{Change, ChangeAct, NamespaceMade, NamespaceDropped, TableMade, TableRenamed, TableDropped, ColumnAdded, ColumnDropped, RowChanged, NamespaceRestored, NamespaceCloned, TableView, moved_to, renamed, with_column, without_column, restored_table, cloned_table, restored_row, cloned_row, source_of, table_after, row_after, table_at, row_at}
 use Rattle.model.specs.Right.{is_fixed, NothingLate}
 use Rattle.model.specs.History.{with}

@@ -1,6 +1,7 @@
 -- The last interval of a tablet is one of the tablet's.
 use Rattle.std.proofs.Common.{◌≡◌, List, [], ◌∷◌, Option, Some, None, true, ◌⊎◌, inl, inr, subst}
-use Rattle.model.specs.Ids.{Id, In, same}
+use Rattle.row_values.specs.Ids.{Id, same}
+use Rattle.row_values.specs.Elements.{In}
 use Rattle.model.specs.Activity.{Interval, last_from, last_of}
 use Rattle.law_store.proofs.Keys.{either_way}
 

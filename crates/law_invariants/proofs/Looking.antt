@@ -2,9 +2,10 @@
 use Rattle.std.proofs.Common.{ℕ, ◌≡◌, ◌<◌, ◌≤◌, Bool, true, false, List, [], ◌∷◌, map, Option, Some, None, refl, sym, ap, subst, ◌∙◌, le_trans, le_of_lt}
 use Rattle.std.specs.Option.{option_map, is_some, is_none, unwrap_or, option_or, option_to_list}
 use Rattle.std.proofs.lemmas.Bool.{ltb-false, cond_both}
-use Rattle.model.specs.Ids.{Id, In, no_id}
+use Rattle.row_values.specs.Ids.{Id, no_id}
+use Rattle.row_values.specs.Elements.{In}
 use Rattle.model.specs.Times.{holds_at, time_of, is_future, is_below}
-use Rattle.model.specs.Schema.{Column, column_named, is_of_kind}
+use Rattle.row_values.specs.Schema.{Column, column_named, is_of_kind}
 use Rattle.model.specs.Catalog.{TableRecord, namespace_named, name_of, table_named, current_named, current_table, kept_from}
 use Rattle.model.specs.Restored.{record_at}
 use Rattle.model.specs.Journal.{Change, namespace_at, table_at}

@@ -2,9 +2,10 @@
 use Rattle.std.proofs.Common.{ℕ, ◌≡◌, List, [], ◌∷◌, ◌++◌, Option, Some, None, true, false, cond, ◌||◌, refl, sym, ap, ◌∙◌, max}
 use Rattle.std.specs.Option.{is_none}
 use Rattle.std.proofs.lemmas.Bool.{cond_both, true≢false}
-use Rattle.model.specs.Ids.{Id, In, same}
+use Rattle.row_values.specs.Ids.{Id, same}
+use Rattle.row_values.specs.Elements.{In}
 use Rattle.model.specs.Times.{ended}
-use Rattle.model.specs.Schema.{Schema}
+use Rattle.row_values.specs.Schema.{Schema}
 use Rattle.model.specs.Catalog.{Catalog, NamespaceRecord, TableRecord, KeptFrom, Owner, namespace_named, set_kept_from, end_namespace, end_table, change_table}
 use Rattle.model.specs.Looks.{known}
 use Rattle.law_store.proofs.Keys.{either_way}

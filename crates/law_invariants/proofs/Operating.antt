@@ -3,7 +3,9 @@ use Rattle.std.proofs.Common.{ℕ, ◌≡◌, ◌≤◌, ◌<◌, ◌+◌, List,
 use Rattle.std.specs.Option.{is_some, option_or, option_map}
 use Rattle.std.proofs.lemmas.Bool.{true≢false}
 use Rattle.std.proofs.lemmas.Bool.Decides.{nat_tests}
-use Rattle.model.specs.Ids.{Kind, Namespace, Table, Tablet, Schedule as ScheduleKind, Snapshot, Restoration, Clone, Id, In, has, same}
+use Rattle.row_values.specs.Ids.{Kind, Namespace, Table, Tablet, Schedule as ScheduleKind, Snapshot, Restoration, Clone, Id, same}
+use Rattle.row_values.specs.Elements.{In}
+use Rattle.row_values.specs.Slots.{has}
 use Rattle.model.specs.Times.{is_open, ended_by, before_end}
 use Rattle.model.specs.Catalog.{Catalog, NamespaceRecord, TableRecord, owner_of, kept_from}
 use Rattle.model.specs.Activity.{Interval, active_at, active_within}

@@ -2,8 +2,10 @@
 -- operation has it do.
 use Rattle.std.proofs.Common.{ℕ, ◌≡◌, ◌≤◌, ◌<◌, List, [], Option, Some, None, true, false, ◌⊎◌, inl, inr, refl, sym, ap, subst, ◌∙◌, arith, le_refl, le_trans, lt_of_lt_of_le}
 use Rattle.std.proofs.lemmas.Bool.{true≢false}
-use Rattle.model.specs.Ids.{Kind, Namespace, Table, Tablet as TabletKind, Schedule, Snapshot, Restoration, Clone, Id, In, has}
-use Rattle.model.specs.Store.{Version, of_rows, rows_at}
+use Rattle.row_values.specs.Ids.{Kind, Namespace, Table, Tablet as TabletKind, Schedule, Snapshot, Restoration, Clone, Id}
+use Rattle.row_values.specs.Elements.{In}
+use Rattle.row_values.specs.Slots.{has}
+use Rattle.row_values.specs.Store.{Version, of_rows, rows_at}
 use Rattle.model.specs.Catalog.{Catalog, owner_of}
 use Rattle.model.specs.Activity.{Interval}
 use Rattle.model.specs.Journal.{Change, row_at}

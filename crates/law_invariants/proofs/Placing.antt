@@ -5,15 +5,16 @@ use Rattle.std.proofs.lemmas.Bool.Decides.{nat_tests}
 use Rattle.std.specs.List.{filter}
 use Rattle.std.specs.Option.{unwrap_or, option_to_list}
 use Rattle.row_values.specs.Codes.{code_of}
-use Rattle.model.specs.Ids.{Id, In, same, no_id}
+use Rattle.row_values.specs.Ids.{Id, same, no_id}
+use Rattle.row_values.specs.Elements.{In, put_in, in_order}
 use Rattle.model.specs.Times.{time_of, is_future, is_below, is_open, before_end}
-use Rattle.model.specs.Store.{in_range}
+use Rattle.row_values.specs.Ranges.{in_range}
 use Rattle.model.specs.Catalog.{namespace_named, kept_from}
 use Rattle.model.specs.Activity.{Interval, active_at}
 use Rattle.model.specs.Journal.{Change}
 use Rattle.model.specs.Acts.{NamedItem, Reply, Placed, UnknownNamespace, UnknownTable, UnknownColumn, Future, TooOld, CrossTablet}
 use Rattle.model.specs.Parts.{Master, Parts, Check, If, Outcome, judged, answered}
-use Rattle.model.specs.Lists.{put_in, in_order, by_range}
+use Rattle.model.specs.Lists.{by_range}
 use Rattle.model.specs.Looks as looks
 use Rattle.model.specs.Looks.{look_keys, look_table, table_asked, known, the_table, batch_fault, holding, first_code, other_code, code_outside, place_of, active_in}
 use Rattle.model.specs.Right.{TableFound, IsActivePlace, PlacesRight, LookPlacesRight, holds_keys}

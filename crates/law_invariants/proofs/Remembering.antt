@@ -3,7 +3,9 @@ use Rattle.std.proofs.Common.{ℕ, ◌≡◌, ◌≤◌, ◌<◌, List, Option, 
 use Rattle.std.proofs.lemmas.Bool.{cond_both, true≢false}
 use Rattle.std.proofs.lemmas.Bool.Decides.{nat_tests}
 use Rattle.std.specs.Option.{option_map, option_or, option_map_or}
-use Rattle.model.specs.Ids.{Id, In, has}
+use Rattle.row_values.specs.Ids.{Id}
+use Rattle.row_values.specs.Elements.{In}
+use Rattle.row_values.specs.Slots.{has}
 use Rattle.model.specs.Times.{ended_by, before_end}
 use Rattle.model.specs.Catalog.{owner_of}
 use Rattle.model.specs.Activity.{Interval, active_at}

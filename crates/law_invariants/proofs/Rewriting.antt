@@ -1,6 +1,7 @@
 -- A tablet's versions give way to others that read the same from a later cutoff on.
 use Rattle.std.proofs.Common.{ℕ, ◌≡◌, ◌≤◌, ◌+◌, List, ◌∙◌, le_trans, lt_of_lt_of_le}
-use Rattle.model.specs.Store.{Version, Below, in_range, read_of}
+use Rattle.row_values.specs.Store.{Version, Below, read_of}
+use Rattle.row_values.specs.Ranges.{in_range}
 use Rattle.model.specs.Journal.{Change}
 use Rattle.model.specs.Tablets.{Tablet}
 use Rattle.model.specs.Parts.{Master}

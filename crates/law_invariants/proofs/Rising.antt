@@ -2,7 +2,8 @@
 use Rattle.std.proofs.Common.{ℕ, ◌≡◌, ◌≤◌, List, [], ◌∷◌, ◌++◌, Option, Some, None, Bool, true, false, cond, inl, inr, refl, sym, ap, subst, ◌∙◌, arith, le_refl}
 use Rattle.std.proofs.lemmas.Bool.{true≢false}
 use Rattle.std.proofs.lemmas.Bool.Decides.{nat_tests}
-use Rattle.model.specs.Ids.{Id, same, In}
+use Rattle.row_values.specs.Ids.{Id, same}
+use Rattle.row_values.specs.Elements.{In}
 use Rattle.model.specs.Times.{is_open, ended, ended_by}
 use Rattle.model.specs.Catalog.{TableRecord, end_table}
 use Rattle.law_invariants.specs.Invariant.{EndsBy, IsPast, RecordsRise}

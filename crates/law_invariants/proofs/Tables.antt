@@ -6,10 +6,11 @@ use Rattle.std.proofs.lemmas.Bool.{cond_both, true≢false}
 use Rattle.std.proofs.lemmas.Bool.Decides.{nat_tests}
 use Rattle.std.specs.Str.{bytes_eq}
 use Rattle.row_values.specs.declared.value.Item.{Item}
-use Rattle.model.specs.Ids.{Id, same, In}
+use Rattle.row_values.specs.Ids.{Id, same}
+use Rattle.row_values.specs.Elements.{In}
 use Rattle.model.specs.Times.{is_open, holds_at, ended_by}
-use Rattle.model.specs.Schema as schema
-use Rattle.model.specs.Schema.{Schema, Column, ColumnKind, NewColumn, column_named, first_schema}
+use Rattle.row_values.specs.Schema as schema
+use Rattle.row_values.specs.Schema.{Schema, Column, ColumnKind, NewColumn, column_named, first_schema}
 use Rattle.model.specs.Catalog.{Catalog, NamespaceRecord, TableRecord, KeptFrom, Owner, table_named, current_named, end_table, change_table, owner_of, kept_from, set_kept_from}
 use Rattle.model.specs.Restored.{record_at}
 use Rattle.model.specs.Journal.{Change, ChangeAct, NamespaceMade, NamespaceDropped, TableMade, TableRenamed, TableDropped, ColumnAdded, ColumnDropped, RowChanged, TableView, renamed, with_column, without_column, table_after, table_at}

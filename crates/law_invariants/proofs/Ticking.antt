@@ -1,8 +1,8 @@
 -- Clocks that rise to a stamp keep what holds; and an act keeps it where each of its refusals, or else its outcome, does.
 use Rattle.std.proofs.Common.{ℕ, ◌≡◌, ◌≤◌, ◌<◌, ◌+◌, List, [], ◌∷◌, Option, Some, None, Bool, true, false, cond, ◌&&◌, refl, sym, subst, arith, not, le_trans, le_of_lt, lt_of_lt_of_le, eqb}
 use Rattle.std.proofs.lemmas.Bool.{cond_both}
-use Rattle.model.specs.Ids.{has}
-use Rattle.model.specs.Store.{Version, Below}
+use Rattle.row_values.specs.Slots.{has}
+use Rattle.row_values.specs.Store.{Version, Below}
 use Rattle.model.specs.Catalog.{Catalog, NamespaceRecord}
 use Rattle.model.specs.Activity.{Interval}
 use Rattle.model.specs.Journal.{Change}

@@ -2,7 +2,8 @@
 use Rattle.std.proofs.Common.{ℕ, ◌≡◌, ◌≤◌, List, [], ◌∷◌, Option, Some, None, Bool, true, false, cond, ◌||◌, ◌⊎◌, inl, inr, refl, sym, ap, subst, ◌∙◌, le_refl, le_trans}
 use Rattle.std.proofs.lemmas.Bool.{cond_both, true≢false}
 use Rattle.row_values.specs.declared.value.RowOp.{RowOp}
-use Rattle.model.specs.Ids.{Id, In}
+use Rattle.row_values.specs.Ids.{Id}
+use Rattle.row_values.specs.Elements.{In}
 use Rattle.model.specs.Catalog.{Catalog, is_owned_by, owner_of}
 use Rattle.model.specs.Activity.{Interval}
 use Rattle.model.specs.Journal.{Change, RowChanged}

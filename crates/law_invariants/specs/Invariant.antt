@@ -4,10 +4,13 @@ use Rattle.std.specs.List.{list_any}
 use Rattle.std.specs.Option.{is_some}
 use Rattle.std.specs.Str.{bytes_eq}
 use Rattle.row_values.specs.Codes.{code_of}
-use Rattle.model.specs.Ids.{Id, In, has, same}
+use Rattle.row_values.specs.Ids.{Id, same}
+use Rattle.row_values.specs.Elements.{In}
+use Rattle.row_values.specs.Slots.{has}
 use Rattle.model.specs.Times.{holds_at, is_open, before_end, ended_by}
-use Rattle.model.specs.Store.{Below, in_range, read_of}
-use Rattle.model.specs.Schema.{Column, Schema}
+use Rattle.row_values.specs.Store.{Below, read_of}
+use Rattle.row_values.specs.Ranges.{in_range}
+use Rattle.row_values.specs.Schema.{Column, Schema}
 use Rattle.model.specs.Catalog.{Catalog, NamespaceRecord, TableRecord, KeptFrom, namespace_named, name_of, table_named, owner_of, kept_from}
 use Rattle.model.specs.Activity.{Interval, active_at}
 use Rattle.model.specs.Restored.{record_at}

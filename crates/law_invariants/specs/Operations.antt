@@ -2,9 +2,10 @@
 use Rattle.std.specs.Prelude.{◌≡◌, ◌≢◌, ℕ, ◌≤◌, ◌<◌, ◌+◌, Bool, true, false, List, [], ◌∷◌, Some, None, ◌⊎◌, ◌&&◌, if◌then◌else◌}
 use Rattle.std.specs.List.{list_any}
 use Rattle.row_values.specs.declared.value.RowOp.{RowOp}
-use Rattle.model.specs.Ids.{Id, Snapshot as SnapshotKind, Restoration as RestorationKind, Clone as CloneKind, In, same}
+use Rattle.row_values.specs.Ids.{Id, Snapshot as SnapshotKind, Restoration as RestorationKind, Clone as CloneKind, same}
+use Rattle.row_values.specs.Elements.{In}
 use Rattle.model.specs.Times.{ended_by, is_open}
-use Rattle.model.specs.Store.{in_range}
+use Rattle.row_values.specs.Ranges.{in_range}
 use Rattle.model.specs.Catalog.{NamespaceRecord, TableRecord, Owner, owner_of, owns, kept_from}
 use Rattle.model.specs.Activity.{Interval, active_at, active_within}
 use Rattle.model.specs.Journal.{Change, RowChanged}

@@ -1,6 +1,7 @@
 -- The activity of all tablets that ever were, beside that which the master keeps: a removal forgets a tablet's intervals.
 use Rattle.std.specs.Prelude.{◌≡◌, ℕ, ◌≤◌, true, false, List, ◌&&◌, ◌⊎◌, not, if◌then◌else◌}
-use Rattle.model.specs.Ids.{In, has}
+use Rattle.row_values.specs.Elements.{In}
+use Rattle.row_values.specs.Slots.{has}
 use Rattle.model.specs.Times.{ended_by}
 use Rattle.model.specs.Activity.{Interval}
 use Rattle.model.specs.Records.{TabletPair, CloneRecord, is_visible}

@@ -2,7 +2,7 @@
 use Rattle.std.proofs.Common.{ℕ, ◌≡◌, ◌≤◌, List, [], ◌∷◌, Option, Some, None, Bool, true, false, not, refl, ap, subst, ◌∙◌, arith}
 use Rattle.std.specs.Prelude.{is_none, unwrap_or, nat_lt, nat_le, length, ◌==◌}
 use Rattle.std.proofs.lemmas.Bool.Decides.{nat_tests}
-use Rattle.model.specs.Ids.{same_slots, has}
+use Rattle.row_values.specs.Slots.{same_slots, has}
 use Rattle.model.specs.Catalog.{TableRecord, namespace_named}
 use Rattle.model.specs.Activity.{Interval}
 use Rattle.model.specs.Tablets.{Tablet, PutOut}

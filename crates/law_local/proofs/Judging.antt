@@ -1,9 +1,9 @@
 -- Outcomes under the same checks, and lists of slots that are the same.
 use Rattle.std.proofs.Common.{ℕ, ◌≡◌, List, [], ◌∷◌, Bool, true, false, refl, arith}
 use Rattle.std.proofs.lemmas.Bool.Decides.{nat_tests}
-use Rattle.model.specs.Ids.{same_slots, has}
+use Rattle.row_values.specs.Slots.{same_slots, has}
 use Rattle.model.specs.Parts.{Outcome, Check, If, judged}
-use Rattle.model.specs.Entries.{AllOf}
+use Rattle.row_values.specs.Elements.{AllOf}
 
 abbrev pub comes : Check → Bool
 comes (If b why) = b

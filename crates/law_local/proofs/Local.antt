@@ -1,6 +1,6 @@
 -- Each act has the same outcome on parts that agree on its slots, and leaves parts that agree.
 use Rattle.std.proofs.Common.{ℕ, ◌≡◌, ◌==◌, ◌&&◌, not, [], ◌∷◌, cond, refl, ap, ◌∙◌}
-use Rattle.model.specs.Ids.{has}
+use Rattle.row_values.specs.Slots.{has}
 use Rattle.model.specs.Tablets.{act_for, effect}
 use Rattle.model.specs.Acts.{Act, Look, Change, Write, Read, Cutoff, Compact, Send, Process, Ack, Advance, Remove, Prune, Restart, Stats}
 use Rattle.model.specs.Parts.{Parts, Outcome}

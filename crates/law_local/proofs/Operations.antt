@@ -1,6 +1,6 @@
 -- What a coordinator does reads the master, or the inbox and the marks of the tablets that it names; a prune reads the master.
 use Rattle.std.proofs.Common.{ℕ, ◌≡◌, ap, ◌∙◌}
-use Rattle.model.specs.Ids.{Id}
+use Rattle.row_values.specs.Ids.{Id}
 use Rattle.model.specs.Parts.{Parts}
 use Rattle.model.specs.Coordination.{pending, sending, processing, acknowledging, send, process, ack}
 use Rattle.model.specs.Moves.{advancing, progress_of, advance}

@@ -3,14 +3,14 @@ use Rattle.std.proofs.Common.{ℕ, ◌≡◌, ◌==◌, ◌&&◌, ◌++◌, List
 use Rattle.std.specs.Prelude.{is_some, unwrap_or}
 use Rattle.std.specs.Option.{option_or}
 use Rattle.row_values.specs.declared.rows.KeyedRow.{KeyedRow}
-use Rattle.model.specs.Ids.{Id}
+use Rattle.row_values.specs.Ids.{Id}
 use Rattle.model.specs.Times.{time_of, is_future, is_below}
-use Rattle.model.specs.Store.{precedes}
+use Rattle.row_values.specs.Store.{precedes}
 use Rattle.model.specs.Tablets.{Tablet, serves}
 use Rattle.model.specs.Acts.{At, Refusal, Future, Fenced, StaleSchema, TooOld, Idle, Rows}
 use Rattle.model.specs.Parts.{Parts, Outcome, If, judged, answered}
-use Rattle.model.specs.Entries.{AllOf, IsSlot}
-use Rattle.model.specs.Lists.{in_order}
+use Rattle.row_values.specs.Elements.{AllOf, in_order}
+use Rattle.model.specs.Entries.{IsSlot}
 use Rattle.model.specs.Looks.{names}
 use Rattle.model.specs.RowActs.{read, moved, covers, is_empty, goes_on, moved_from_key, moved_from_scan, first_moved, first_fence, other_version, stale, first_cutoff, rows_in, rows_of_places, cut_rows}
 use Rattle.law_local.specs.Agreeing.{Agree}

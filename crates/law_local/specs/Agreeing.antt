@@ -1,6 +1,6 @@
 -- Parts that agree on slots, and what a master's plan names of the parts that an act reads.
 use Rattle.std.specs.Prelude.{◌≡◌, ◌≤◌, ℕ, true, false, List, Some, is_none}
-use Rattle.model.specs.Ids.{has}
+use Rattle.row_values.specs.Slots.{has}
 use Rattle.model.specs.Activity.{Interval, last_of}
 use Rattle.model.specs.Acts.{Act, Change, Split, Remove}
 use Rattle.model.specs.Parts.{Master, Parts}

@@ -3,7 +3,7 @@
 #![tactic(auto)]
 
 ghost use Rattle.std.specs.Prelude.{◌≡◌, ◌==◌, ◌&&◌, ℕ, true, false, not};
-ghost use Rattle.model.specs.Ids.{has};
+ghost use Rattle.row_values.specs.Slots.{has};
 ghost use Rattle.model.specs.Acts.{Act, Event};
 ghost use Rattle.model.specs.Parts.{Parts};
 ghost use Rattle.model.specs.Entries.{ActAsked, slots_of, stamp_of};

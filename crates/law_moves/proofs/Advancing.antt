@@ -1,7 +1,8 @@
 -- An advance: it is refused, or the record that it names moves, of which all that it lists was acked.
 use Rattle.std.proofs.Common.{ℕ, ◌≡◌, List, [], ◌∷◌, Option, Some, None, true, cond, inl, inr, arith, refl, sym, ap, ◌∙◌}
 use Rattle.std.specs.Option.{option_map}
-use Rattle.model.specs.Ids.{Restoration, Clone, Id, In}
+use Rattle.row_values.specs.Ids.{Restoration, Clone, Id}
+use Rattle.row_values.specs.Elements.{In}
 use Rattle.model.specs.Activity.{Interval}
 use Rattle.model.specs.Journal.{Change as Made}
 use Rattle.model.specs.Records.{Listed, State, first_unacked}

@@ -1,6 +1,6 @@
 -- Commands on schedules under their plans.
 use Rattle.std.proofs.Common.{ℕ, ◌≡◌, List, ◌∷◌, true}
-use Rattle.model.specs.Ids.{same_slots}
+use Rattle.row_values.specs.Slots.{same_slots}
 use Rattle.model.specs.Activity.{Interval}
 use Rattle.model.specs.Journal.{Change as Made}
 use Rattle.model.specs.Acts.{Command, CreateSchedule, DeleteSchedule, TakeSnapshot, Restore, Change}

@@ -2,7 +2,8 @@
 use Rattle.std.proofs.Common.{ℕ, ◌≡◌, ◌≤◌, ◌<◌, ◌+◌, ◌-◌, List, [], ◌∷◌, map, Option, Some, None, Bool, true, false, cond, ◌&&◌, ◌||◌, ◌⊎◌, inl, inr, refl, sym, ap, subst, ◌∙◌, arith, not, le_trans, le_refl, le_of_lt, lt_of_lt_of_le}
 use Rattle.std.specs.Option.{option_map_or}
 use Rattle.std.proofs.lemmas.Bool.{true≢false}
-use Rattle.model.specs.Ids.{Snapshot, Restoration, Clone, Id, In, same}
+use Rattle.row_values.specs.Ids.{Snapshot, Restoration, Clone, Id, same}
+use Rattle.row_values.specs.Elements.{In}
 use Rattle.model.specs.Activity.{Interval}
 use Rattle.model.specs.Journal.{Change as Made}
 use Rattle.model.specs.Records.{Listed, Schedule, SnapshotRecord, schedule_of, unsent}

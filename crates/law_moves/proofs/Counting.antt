@@ -4,9 +4,10 @@ use Rattle.std.specs.List.{filter}
 use Rattle.std.specs.Option.{is_some}
 use Rattle.std.proofs.lemmas.Bool.{true≢false}
 use Rattle.std.proofs.lemmas.Bool.Decides.{nat_tests}
-use Rattle.model.specs.Ids.{Id, In, same}
+use Rattle.row_values.specs.Ids.{Id, same}
+use Rattle.row_values.specs.Elements.{In}
 use Rattle.model.specs.Times.{ended, before_end}
-use Rattle.model.specs.Store.{in_range}
+use Rattle.row_values.specs.Ranges.{in_range}
 use Rattle.model.specs.Catalog.{Owner, owns}
 use Rattle.model.specs.Activity.{Interval, active_at}
 use Rattle.model.specs.Restored.{begun_at, end_namespace_tablets}

@@ -1,6 +1,7 @@
 -- Which tablets a record lists, and that a tablet has one slot and one table.
 use Rattle.std.proofs.Common.{ℕ, ◌≡◌, List, [], ◌∷◌, Option, Some, None, true, false, inl, inr, refl, sym, ap, ◌∙◌, not}
-use Rattle.model.specs.Ids.{Id, In, same}
+use Rattle.row_values.specs.Ids.{Id, same}
+use Rattle.row_values.specs.Elements.{In}
 use Rattle.model.specs.Times.{is_open}
 use Rattle.model.specs.Activity.{Interval}
 use Rattle.model.specs.Catalog.{owner_of, owns, is_owned_by}

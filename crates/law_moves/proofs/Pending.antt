@@ -2,15 +2,15 @@
 use Rattle.std.proofs.Common.{ℕ, ◌≡◌, ◌≤◌, ◌+◌, List, [], ◌∷◌, ◌++◌, Option, Some, None, true, false, ◌&&◌, ◌⊎◌, inl, inr, refl, sym, ap, subst, ◌∙◌, arith, not, eqb}
 use Rattle.std.specs.Option.{option_and_then}
 use Rattle.std.proofs.lemmas.Bool.{true≢false}
-use Rattle.model.specs.Ids.{Kind, Namespace, Table, Tablet as TabletKind, Schedule as ScheduleKind, Snapshot, Restoration, Clone, Id, In, same}
+use Rattle.row_values.specs.Ids.{Kind, Namespace, Table, Tablet as TabletKind, Schedule as ScheduleKind, Snapshot, Restoration, Clone, Id, same}
+use Rattle.row_values.specs.Elements.{In}
 use Rattle.model.specs.Journal.{Change}
 use Rattle.model.specs.Tablets.{Mark}
-use Rattle.model.specs.Records.{Listed, SnapshotRecord, RestorationRecord, RestorationState, Fencing, Snapshotting, Switching, Restoring, Releasing, Restored, CloneRecord, is_restored, is_cloned, unacked_at}
+use Rattle.model.specs.Records.{Listed, SnapshotRecord, RestorationRecord, RestorationState, Fencing, Snapshotting, Switching, Restoring, Releasing, Restored, CloneRecord, is_restored, is_cloned, unacked_at, Schedule, point_of}
 use Rattle.model.specs.Drawn.{drawn_of}
 use Rattle.model.specs.Coordination.{pending, pending_of, unfinished_snapshot, unfinished_restoration, unfinished_clone}
 use Rattle.model.specs.Parts.{Master}
 use Rattle.law_store.proofs.Keys.{either_way}
-use Rattle.model.specs.Records.{Schedule, point_of}
 use Rattle.model.specs.Schedules.{complete_to}
 use Rattle.law_invariants.specs.Operations.{OperationsGood, IsPoint, RestorationStateGood}
 use Rattle.law_invariants.specs.Orders.{FencePlace, IsFence}

@@ -2,7 +2,8 @@
 use Rattle.std.proofs.Common.{ℕ, ◌≡◌, ◌≤◌, ◌<◌, ◌+◌, List, [], ◌∷◌, Option, Some, None, true, false, ◌||◌, inl, inr, refl, sym, ap, subst, ◌∙◌, arith, leb, le-leb, le_refl, le_of_lt}
 use Rattle.std.specs.Option.{option_map, unwrap_or}
 use Rattle.std.proofs.lemmas.Bool.{true≢false}
-use Rattle.model.specs.Ids.{Id, In}
+use Rattle.row_values.specs.Ids.{Id}
+use Rattle.row_values.specs.Elements.{In}
 use Rattle.model.specs.Times.{before_end}
 use Rattle.model.specs.Activity.{Interval, active_within}
 use Rattle.model.specs.Catalog.{owner_of}

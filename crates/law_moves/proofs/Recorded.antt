@@ -2,7 +2,8 @@
 use Rattle.std.proofs.Common.{ℕ, ◌≡◌, ◌≤◌, ◌<◌, ◌+◌, List, map, Option, Some, None, Bool, true, false, cond, inl, inr, refl, sym, ap, subst, ◌∙◌, arith, not, leb, leb-true, le-leb, le_trans, le_refl, le_of_lt, lt_of_lt_of_le}
 use Rattle.std.proofs.lemmas.Bool.{true≢false}
 use Rattle.std.proofs.lemmas.Bool.Decides.{nat_tests}
-use Rattle.model.specs.Ids.{Id, In, same}
+use Rattle.row_values.specs.Ids.{Id, same}
+use Rattle.row_values.specs.Elements.{In}
 use Rattle.model.specs.Times.{ended, ended_by, before_end}
 use Rattle.model.specs.Activity.{Interval, active_at, active_within}
 use Rattle.model.specs.Catalog.{TableRecord, owner_of, owns}

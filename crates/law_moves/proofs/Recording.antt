@@ -1,7 +1,8 @@
 -- The master's records of schedules, snapshots and restorations change while its catalog, its activity and its clones stay: what holds
 -- of the others goes on to hold, and what is asked of the new ones and of those that moved is said here.
 use Rattle.std.proofs.Common.{ℕ, ◌≡◌, ◌≤◌, ◌<◌, ◌+◌, List, Some, None, true, false, ◌⊎◌}
-use Rattle.model.specs.Ids.{Kind, Snapshot, Restoration, Id, In}
+use Rattle.row_values.specs.Ids.{Kind, Snapshot, Restoration, Id}
+use Rattle.row_values.specs.Elements.{In}
 use Rattle.model.specs.Activity.{Interval}
 use Rattle.model.specs.Catalog.{owner_of}
 use Rattle.model.specs.Journal.{Change}

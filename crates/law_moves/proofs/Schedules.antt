@@ -3,11 +3,13 @@ use Rattle.std.proofs.Common.{ℕ, ◌≡◌, ◌≤◌, ◌<◌, ◌+◌, List,
 use Rattle.std.specs.Prelude.{is_none, is_some}
 use Rattle.std.specs.List.{filter}
 use Rattle.std.proofs.lemmas.Bool.{true≢false}
-use Rattle.model.specs.Ids.{Kind, Namespace, Table, Tablet as TabletKind, Schedule as ScheduleKind, Snapshot, Restoration, Clone, Id, In, same, same_slots, no_id}
+use Rattle.row_values.specs.Ids.{Kind, Namespace, Table, Tablet as TabletKind, Schedule as ScheduleKind, Snapshot, Restoration, Clone, Id, same, no_id}
+use Rattle.row_values.specs.Elements.{In}
+use Rattle.row_values.specs.Slots.{same_slots}
 use Rattle.model.specs.Activity.{Interval}
 use Rattle.model.specs.Catalog.{namespace_named}
 use Rattle.model.specs.Journal.{Change as Made}
-use Rattle.model.specs.Records.{Schedule, is_visible, schedule_with, schedule_of, unfinished_of}
+use Rattle.model.specs.Records.{Schedule, schedule_with, schedule_of, unfinished_of}
 use Rattle.model.specs.Schedules.{is_period, floor, low, complete_to}
 use Rattle.model.specs.Drawn.{drawn_of}
 use Rattle.model.specs.Acts.{CreateSchedule, DeleteSchedule, Change, UnknownNamespace, UnknownSchedule, Busy, ScheduleExists, BadPeriod}

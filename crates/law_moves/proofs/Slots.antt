@@ -1,7 +1,8 @@
 -- What holds of slots goes on to hold while records of operations are made, move or go.
 use Rattle.std.proofs.Common.{ℕ, ◌≡◌, ◌≤◌, List, [], ◌∷◌, Some, None, Bool, true, false, ◌||◌, ◌⊎◌, inl, inr, refl, sym, ap, subst, ◌∙◌, arith, le_trans}
 use Rattle.std.proofs.lemmas.Bool.{true≢false}
-use Rattle.model.specs.Ids.{Table, Tablet as TabletKind, Id, In, same}
+use Rattle.row_values.specs.Ids.{Table, Tablet as TabletKind, Id, same}
+use Rattle.row_values.specs.Elements.{In}
 use Rattle.model.specs.Activity.{Interval}
 use Rattle.model.specs.Journal.{Change}
 use Rattle.model.specs.Tablets.{Tablet, Presence, Vacant, InService, OutOfService, BodyKind, FenceKind, FreezeKind, RestoreFromKind, HideKind, CopyKind, ReleaseKind, Mark, is_vacant, is_serving, is_mark, is_done, kind_of, set_of}

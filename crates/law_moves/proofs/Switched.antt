@@ -4,7 +4,8 @@ use Rattle.std.specs.List.{filter}
 use Rattle.std.specs.Option.{option_map_or}
 use Rattle.std.proofs.lemmas.Bool.{true≢false}
 use Rattle.std.proofs.lemmas.Bool.Decides.{nat_tests}
-use Rattle.model.specs.Ids.{Restoration, Id, In}
+use Rattle.row_values.specs.Ids.{Restoration, Id}
+use Rattle.row_values.specs.Elements.{In}
 use Rattle.model.specs.Times.{ended, ended_by, before_end}
 use Rattle.model.specs.Activity.{Interval, active_at}
 use Rattle.model.specs.Catalog.{owner_of, owns}

@@ -2,7 +2,8 @@
 use Rattle.std.proofs.Common.{ℕ, ◌≡◌, List, [], ◌∷◌, ◌++◌, Option, Some, None, Bool, true, false, cond, ◌&&◌, ◌||◌, inl, inr, refl, sym, ap, ◌∙◌, arith, not, map}
 use Rattle.std.specs.Option.{is_some, option_or, option_map}
 use Rattle.std.proofs.lemmas.Bool.{true≢false}
-use Rattle.model.specs.Ids.{Id, In, same}
+use Rattle.row_values.specs.Ids.{Id, same}
+use Rattle.row_values.specs.Elements.{In}
 use Rattle.model.specs.Records.{Schedule, SnapshotRecord, RestorationRecord, CloneRecord, is_restored, is_cloned, schedule_with, schedule_of, unfinished_of}
 use Rattle.model.specs.Schedules.{low, least_with, floor}
 use Rattle.model.specs.Operations.{user, restoration_of, clone_with, time_of_user}

@@ -4,7 +4,7 @@ use Rattle.std.specs.Option.{is_some}
 use Rattle.std.proofs.lemmas.Bool.Decides.{nat_tests}
 use Rattle.row_values.specs.Rows.{absent_row}
 use Rattle.row_values.specs.declared.rows.Row.{Row}
-use Rattle.model.specs.Ids.{Id, same}
+use Rattle.row_values.specs.Ids.{Id, same}
 use Rattle.model.specs.Catalog.{Owner, owner_of, owns, is_owned_by}
 use Rattle.model.specs.Journal.{Change, NamespaceRestored, TableView, is_in, restored_table, restored_row, table_at, row_at}
 use Rattle.model.specs.History.{with}

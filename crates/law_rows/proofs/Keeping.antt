@@ -1,8 +1,11 @@
 -- Counts, restarts, compactions and cutoffs keep what holds: they change no read.
 use Rattle.std.proofs.Common.{ℕ, ◌≡◌, ◌≤◌, ◌<◌, ◌+◌, max, List, [], ◌∷◌, length, inl, inr, Option, Some, None, Bool, true, false, cond, ◌&&◌, ◌||◌, refl, sym, ap, subst, ◌∙◌, arith, not, eqb, eqb-true, le_trans, le_refl, le_of_lt}
 use Rattle.std.proofs.lemmas.Bool.Decides.{nat_tests}
-use Rattle.model.specs.Ids.{Id, In, has, same}
-use Rattle.model.specs.Store.{in_range, kept}
+use Rattle.row_values.specs.Ids.{Id, same}
+use Rattle.row_values.specs.Elements.{In}
+use Rattle.row_values.specs.Slots.{has}
+use Rattle.row_values.specs.Ranges.{in_range}
+use Rattle.row_values.specs.Store.{kept}
 use Rattle.row_values.specs.Codes.{code_of}
 use Rattle.law_store.proofs.Members.{keys_kept}
 use Rattle.model.specs.Journal.{Change}

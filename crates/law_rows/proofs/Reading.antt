@@ -2,19 +2,20 @@
 use Rattle.std.proofs.Common.{ℕ, ◌≡◌, ◌≤◌, ◌<◌, List, [], ◌∷◌, Option, Some, None, true, false, ◌&&◌, map, inl, inr, refl, sym, ap, subst, ◌∙◌, arith, ltb-false, le_trans, le_of_lt, is_some}
 use Rattle.std.proofs.lemmas.Bool.Decides.{nat_tests}
 use Rattle.std.specs.Option.{option_or, unwrap_or}
-use Rattle.model.specs.Ids.{Id, In, has, same}
+use Rattle.row_values.specs.Ids.{Id, same}
+use Rattle.row_values.specs.Elements.{In, in_order, AllOf}
+use Rattle.row_values.specs.Slots.{has}
 use Rattle.model.specs.Times.{time_of, is_future, is_below, before_end, is_open}
-use Rattle.model.specs.Store.{precedes}
+use Rattle.row_values.specs.Store.{precedes}
 use Rattle.model.specs.Journal.{Change, table_at, row_at}
 use Rattle.model.specs.Tablets.{Tablet, is_serving, serves}
 use Rattle.model.specs.Acts.{At, Read, Rows, Idle, Fenced, StaleSchema, Future, TooOld}
 use Rattle.model.specs.Parts.{Parts, If, answered}
-use Rattle.model.specs.Lists.{in_order}
 use Rattle.model.specs.Looks.{names}
-use Rattle.model.specs.Entries.{slots_of, AllOf, IsSlot}
+use Rattle.model.specs.Entries.{slots_of, IsSlot}
 use Rattle.model.specs.RowActs.{read, first_moved, moved_from_key, moved_from_scan, moved, goes_on, is_empty, covers, first_fence, stale, first_cutoff, rows_of_places, cut_rows}
 use Rattle.law_store.proofs.Keys.{either_way}
-use Rattle.law_store.proofs.Reading.{read_right}
+use Rattle.law_rows.proofs.Places.{read_right}
 use Rattle.law_invariants.specs.Invariant.{Inv, Later}
 use Rattle.law_invariants.proofs.Finding.{both_pass, second_fails}
 use Rattle.law_invariants.proofs.Ticking.{refused_keeps, by_checks, KeepsAll, nothing_told}

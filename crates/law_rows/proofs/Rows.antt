@@ -6,8 +6,9 @@ use Rattle.row_values.specs.Rows.{applied}
 use Rattle.row_values.specs.Codes.{code_of}
 use Rattle.row_values.specs.declared.rows.Row.{Row}
 use Rattle.row_values.specs.declared.value.Item.{Item}
-use Rattle.model.specs.Ids.{Id, In, same}
-use Rattle.model.specs.Store.{in_range}
+use Rattle.row_values.specs.Ids.{Id, same}
+use Rattle.row_values.specs.Elements.{In}
+use Rattle.row_values.specs.Ranges.{in_range}
 use Rattle.model.specs.Journal.{Change, RowChanged, is_in, namespace_at, table_at, row_at}
 use Rattle.model.specs.Tablets.{Tablet}
 use Rattle.model.specs.Right.{is_fixed, NothingLate}

@@ -5,9 +5,11 @@ use Rattle.std.proofs.lemmas.Bool.Decides.{nat_tests}
 use Rattle.std.specs.List.{list_all}
 use Rattle.row_values.specs.Codes.{code_of}
 use Rattle.row_values.specs.declared.value.Item.{Item}
-use Rattle.model.specs.Ids.{Id, In, same}
+use Rattle.row_values.specs.Ids.{Id, same}
+use Rattle.row_values.specs.Elements.{In}
 use Rattle.model.specs.Times.{before_end}
-use Rattle.model.specs.Store.{in_range, written}
+use Rattle.row_values.specs.Ranges.{in_range}
+use Rattle.row_values.specs.Store.{written}
 use Rattle.model.specs.Catalog.{owner_of}
 use Rattle.model.specs.Activity.{Interval}
 use Rattle.model.specs.Journal.{Change, RowChanged, TableView, is_in, table_at, row_at}
@@ -18,7 +20,7 @@ use Rattle.model.specs.Acts.{At, Write, Ok, Fenced, StaleSchema}
 use Rattle.model.specs.Parts.{Master, Parts, If}
 use Rattle.model.specs.Looks.{names}
 use Rattle.model.specs.Entries.{slots_of}
-use Rattle.model.specs.History.{rows_made}
+use Rattle.model.specs.History.{rows_made, told}
 use Rattle.model.specs.RowActs.{write, takes, covers, moved}
 use Rattle.law_store.specs.Sorted.{item_step, EachItemKey}
 use Rattle.law_store.proofs.Members.{keys_written}
@@ -30,7 +32,6 @@ use Rattle.law_invariants.proofs.Undoing.{before_none, owned_is}
 use Rattle.row_values.specs.declared.value.RowOp.{RowOp}
 use Rattle.law_invariants.specs.Orders.{RestorationSlot, FencingSlot, CopyingSlot, CloneSlot, RowsPast}
 use Rattle.law_invariants.proofs.Hearing.{effect_clock}
-use Rattle.model.specs.History.{told}
 use Rattle.law_invariants.proofs.Ordering.{SourcesStay, orders_mild, obeyed_mild}
 use Rattle.law_invariants.proofs.Working.{SameFixed, comes_on, tables_drawn, all_listed, operations_journal, works_journal}
 use Rattle.law_invariants.proofs.Finding.{not_passing, both_pass, same_self, same_equal}

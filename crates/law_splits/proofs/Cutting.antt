@@ -1,7 +1,7 @@
 -- A tablet's activity ends: its open interval is closed, and all others stay.
 use Rattle.std.proofs.Common.{ℕ, ◌≡◌, ◌<◌, Option, Some, None, true, false, cond, inl, inr, sym, ap, ◌∙◌, leb, le_trans, le_of_lt}
 use Rattle.std.proofs.lemmas.Bool.{cond_both}
-use Rattle.model.specs.Ids.{Id, same}
+use Rattle.row_values.specs.Ids.{Id, same}
 use Rattle.model.specs.Times.{before_end, ended}
 use Rattle.model.specs.Activity.{Interval, active_at}
 use Rattle.model.specs.Catalog.{owner_of}

@@ -2,9 +2,11 @@
 use Rattle.std.proofs.Common.{ℕ, ◌≡◌, ◌≢◌, ◌≤◌, ◌<◌, ◌+◌, List, [], ◌∷◌, ◌++◌, Some, None, true, inl, inr, refl, sym, ap, subst, ◌∙◌, arith, leb, leb-true, le-leb, le_trans, le_refl, le_of_lt}
 use Rattle.std.specs.Option.{is_some}
 use Rattle.std.proofs.lemmas.Bool.{true≢false}
-use Rattle.model.specs.Ids.{Id, In, same}
+use Rattle.row_values.specs.Ids.{Id, same}
+use Rattle.row_values.specs.Elements.{In}
 use Rattle.model.specs.Times.{before_end, ended, ended_by, is_open}
-use Rattle.model.specs.Store.{in_range, part_of}
+use Rattle.row_values.specs.Ranges.{in_range}
+use Rattle.row_values.specs.Store.{part_of}
 use Rattle.model.specs.Activity.{Interval, end_tablet}
 use Rattle.model.specs.Catalog.{owner_of}
 use Rattle.model.specs.Journal.{Change, table_at}

@@ -3,8 +3,10 @@ use Rattle.std.proofs.Common.{ℕ, ◌≡◌, ◌≢◌, ◌≤◌, ◌<◌, ◌
 use Rattle.std.specs.Prelude.{is_none, unwrap_or}
 use Rattle.std.proofs.lemmas.Bool.{true≢false}
 use Rattle.std.proofs.lemmas.Bool.Decides.{nat_tests}
-use Rattle.model.specs.Ids.{Id, In, has, same_slots}
-use Rattle.model.specs.Store.{part_of}
+use Rattle.row_values.specs.Ids.{Id}
+use Rattle.row_values.specs.Elements.{In}
+use Rattle.row_values.specs.Slots.{has, same_slots}
+use Rattle.row_values.specs.Store.{part_of}
 use Rattle.model.specs.Activity.{Interval, end_tablet}
 use Rattle.model.specs.Catalog.{TableRecord, namespace_named, owner_of}
 use Rattle.model.specs.Journal.{Change as Made}

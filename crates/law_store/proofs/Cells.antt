@@ -8,7 +8,7 @@ use Rattle.row_values.specs.declared.value.Cell.{Cell}
 use Rattle.row_values.specs.declared.value.RowOp.{RowOp}
 use Rattle.row_values.specs.declared.value.RowOp.TheVariants.{Upsert, Delete}
 use Rattle.row_values.specs.declared.rows.Row.{Row}
-use Rattle.model.specs.Store.{Version, read_step, read_of}
+use Rattle.row_values.specs.Store.{Version, read_step, read_of}
 use Rattle.law_store.specs.Sorted.{RiseFrom, SortedCells, RowOf, IsRow}
 
 rise_put : (n : ℕ) (c : Cell) (cs : List Cell) → RiseFrom n cs → n ≤ c.column → RiseFrom n (put_cell c cs)

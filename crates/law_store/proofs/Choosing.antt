@@ -7,7 +7,8 @@ use Rattle.std.specs.Str.{bytes_eq}
 use Rattle.row_values.specs.Rows.{absent_row}
 use Rattle.row_values.specs.Codes.{code_of}
 use Rattle.row_values.specs.declared.rows.Row.{Row}
-use Rattle.model.specs.Store.{Version, read_step, read_of, in_range, part_of, frozen, Below}
+use Rattle.row_values.specs.Store.{Version, read_step, read_of, part_of, frozen, Below}
+use Rattle.row_values.specs.Ranges.{in_range}
 use Rattle.law_store.specs.Sorted.{Leads, Sorted}
 use Rattle.law_store.proofs.Keys.{either_way, equal_keys}
 

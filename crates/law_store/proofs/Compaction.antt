@@ -6,7 +6,7 @@ use Rattle.std.specs.Str.{bytes_eq}
 use Rattle.row_values.specs.Rows.{absent_row}
 use Rattle.row_values.specs.declared.rows.Row.{Row}
 use Rattle.row_values.specs.declared.value.RowOp.TheVariants.{Upsert}
-use Rattle.model.specs.Store.{Version, read_step, read_of, has_old, kept_of, kept_from, kept, Below}
+use Rattle.row_values.specs.Store.{Version, read_step, read_of, has_old, kept_of, kept_from, kept, Below}
 use Rattle.law_store.specs.Sorted.{Leads, Sorted, OnceOld}
 use Rattle.law_store.proofs.Keys.{either_way, equal_keys}
 use Rattle.law_store.proofs.Cells.{row_read, absent_is, upsert_row}

@@ -9,7 +9,7 @@ use Rattle.std.proofs.lemmas.Cmp.{nat_list_cmp_total}
 use Rattle.std.proofs.lemmas.Map.Text.{is_eq-slice_cmp}
 use Rattle.std.proofs.lemmas.Slice.Eq.{bytes_eq-Decides}
 use Rattle.std.proofs.lemmas.Bool.{true≢false}
-use Rattle.model.specs.Store.{precedes}
+use Rattle.row_values.specs.Store.{precedes}
 
 abbrev order : List ℕ → List ℕ → Ordering
 order = slice_cmp nat_cmp

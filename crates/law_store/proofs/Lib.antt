@@ -7,4 +7,3 @@ pub mod Merging
 pub mod Listing
 pub mod Restoring
 pub mod Members
-pub mod Reading

@@ -7,8 +7,7 @@ use Rattle.row_values.specs.Rows.{absent_row, applied}
 use Rattle.row_values.specs.declared.rows.Row.{Row}
 use Rattle.row_values.specs.declared.rows.KeyedRow.{KeyedRow}
 use Rattle.row_values.specs.declared.value.RowOp.TheVariants.{Upsert}
-use Rattle.model.specs.Store.{Version, read_step, read_of, has_key, present, rows_from, rows_at, of_rows, Below}
-use Rattle.model.specs.Right.{of_key}
+use Rattle.row_values.specs.Store.{Version, read_step, read_of, has_key, present, rows_from, rows_at, of_rows, Below, of_key}
 use Rattle.law_store.specs.Sorted.{Leads, Sorted, Behind, RowsBehind, Rising, StampedAt}
 use Rattle.law_store.proofs.Keys.{either_way, equal_keys, precedes_back, precedes_other}
 use Rattle.law_store.proofs.Cells.{row_read, absent_is, upsert_row}

@@ -5,8 +5,9 @@ use Rattle.std.proofs.lemmas.Bool.{cond_both}
 use Rattle.row_values.specs.Codes.{code_of}
 use Rattle.row_values.specs.declared.rows.KeyedRow.{KeyedRow}
 use Rattle.row_values.specs.declared.value.Item.{Item}
-use Rattle.model.specs.Ids.{In}
-use Rattle.model.specs.Store.{Version, precedes, put_version, written, read_of, has_key, kept_from, kept, in_range, part_of, frozen, rows_from, rows_at, of_rows}
+use Rattle.row_values.specs.Elements.{In}
+use Rattle.row_values.specs.Store.{Version, precedes, put_version, written, read_of, has_key, kept_from, kept, part_of, frozen, rows_from, rows_at, of_rows}
+use Rattle.row_values.specs.Ranges.{in_range}
 use Rattle.law_store.specs.Sorted.{EachKey, EachRowKey, EachItemKey}
 use Rattle.law_store.proofs.Compaction.{by_kept}
 

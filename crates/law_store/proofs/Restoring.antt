@@ -6,11 +6,9 @@ use Rattle.row_values.specs.declared.rows.Row.{Row}
 use Rattle.row_values.specs.declared.rows.KeyedRow.{KeyedRow}
 use Rattle.row_values.specs.declared.value.RowOp.TheVariants.{Upsert}
 use Rattle.row_values.specs.Codes.{code_of}
-use Rattle.model.specs.Ids.{Id, In}
-use Rattle.model.specs.Journal.{Change, row_at}
-use Rattle.model.specs.Stands.{AreRowsAt}
-use Rattle.model.specs.Store.{in_range, Version, precedes, read_of, has_key, has_old, present, rows_from, rows_at, of_rows, kept_from, kept}
-use Rattle.model.specs.Right.{of_key}
+use Rattle.row_values.specs.Elements.{In}
+use Rattle.row_values.specs.Ranges.{in_range}
+use Rattle.row_values.specs.Store.{AreRows, Version, precedes, read_of, has_key, has_old, present, rows_from, rows_at, of_rows, kept_from, kept, of_key}
 use Rattle.law_store.specs.Sorted.{EachKey, Sorted, IsRow, RowsBehind, Rising, ArePresent}
 use Rattle.law_store.proofs.Keys.{either_way, key_self, key_sym, precedes_apart}
 use Rattle.law_store.proofs.Cells.{row_read, upsert_row}
@@ -106,12 +104,12 @@ stamp_in [] n v isin = absurd isin
 stamp_in (r ∷ rs) n v (inl e) = ap (λ u. u.stamp) (sym e)
 stamp_in (r ∷ rs) n v (inr isin) = stamp_in rs n v isin
 
--- the rows at a time of a store that reads there as the view does
-pub are_rows_restored : (vs : List Version) (low high stamp : ℕ) (changes : List Change) (to : ℕ) (table : Id) → Sorted vs
+-- the rows at a time of a store, where they are these in the range
+pub are_rows_restored : (vs : List Version) (low high stamp to : ℕ) (row : List ℕ → Row) → Sorted vs
     → EachKey (λ key. in_range low high (code_of key)) vs
-    → ((key : List ℕ) → in_range low high (code_of key) ≡ true → read_of vs key to ≡ row_at changes to table key)
-    → AreRowsAt (of_rows (rows_at vs to) stamp) low high stamp changes to table
-are_rows_restored vs low high stamp changes to table sorted inside reads = record {
+    → ((key : List ℕ) → in_range low high (code_of key) ≡ true → read_of vs key to ≡ row key)
+    → AreRows (of_rows (rows_at vs to) stamp) low high stamp row
+are_rows_restored vs low high stamp to row sorted inside reads = record {
   stamps = stamp_in (rows_at vs to) stamp;
   upserts = ap (λ rs. of_rows rs stamp) (sym (restored_rows_at vs to stamp stamp sorted (le_refl stamp)));
   rows = λ key within. restored_reads vs to stamp key stamp (le_refl stamp) ∙ reads key within;

@@ -6,7 +6,7 @@ use Rattle.std.specs.Str.{bytes_eq}
 use Rattle.row_values.specs.Rows.{absent_row}
 use Rattle.row_values.specs.declared.value.Item.{Item}
 use Rattle.row_values.specs.declared.rows.Row.{Row}
-use Rattle.model.specs.Store.{Version, precedes, put_version, written, read_step, read_of, Below}
+use Rattle.row_values.specs.Store.{Version, precedes, put_version, written, read_step, read_of, Below}
 use Rattle.law_store.specs.Sorted.{Leads, Sorted, Behind, item_step}
 use Rattle.law_store.proofs.Keys.{either_way, equal_keys, key_self, key_sym, precedes_back, precedes_apart, precedes_up}
 

@@ -6,12 +6,7 @@ use Rattle.row_values.specs.declared.value.Item.{Item}
 use Rattle.row_values.specs.declared.rows.Row.{Row}
 use Rattle.row_values.specs.declared.rows.KeyedRow.{KeyedRow}
 use Rattle.row_values.specs.declared.value.Cell.{Cell}
-use Rattle.row_values.specs.Codes.{code_of}
-use Rattle.model.specs.Ids.{In}
-use Rattle.model.specs.Store.{Version, precedes, has_old, read_of, in_range}
-use Rattle.model.specs.Acts.{At}
-use Rattle.model.specs.Journal.{Change, row_at}
-use Rattle.model.specs.Tablets.{Tablet}
+use Rattle.row_values.specs.Store.{Version, precedes, has_old}
 
 -- a version of the key and the stamp may stand ahead of the list: no key there precedes its own, and no stamp of its
 -- own key there is earlier
@@ -87,9 +82,3 @@ EachRowKey test (r ∷ rs) = (test r.key ≡ true) × EachRowKey test rs
 abbrev pub EachItemKey : (List ℕ → Bool) → List Item → Type 0
 EachItemKey test [] = Unit {0}
 EachItemKey test (item ∷ items) = (test item.key ≡ true) × EachItemKey test items
-
--- the places' tablets read at x as the view does, of the keys in their ranges
-abbrev pub ReadsView : List Change → ℕ → (ℕ → Tablet) → List At → Type 0
-ReadsView changes x tablets places = (place : At) (key : List ℕ) → In place places
-    → in_range (tablets place.slot).low (tablets place.slot).high (code_of key) ≡ true
-    → read_of (tablets place.slot).versions key x ≡ row_at changes x (tablets place.slot).table key

@@ -7,17 +7,13 @@ ghost use Rattle.std.specs.Prelude.{◌≡◌, ◌≤◌, ◌<◌, ◌+◌, ℕ,
 ghost use Rattle.row_values.specs.Codes.{code_of};
 ghost use Rattle.row_values.specs.Rows.{absent_row};
 ghost use Rattle.row_values.specs.declared.rows.KeyedRow.{KeyedRow};
+ghost use Rattle.row_values.specs.declared.rows.Row.{Row};
 ghost use Rattle.row_values.specs.declared.value.Item.{Item};
-ghost use Rattle.model.specs.Acts.{At};
-ghost use Rattle.model.specs.Ids.{Id};
-ghost use Rattle.model.specs.Journal.{Change, row_at};
-ghost use Rattle.model.specs.Lists.{in_order};
-ghost use Rattle.model.specs.Right.{InOrder, RowsRight, of_key};
-ghost use Rattle.model.specs.RowActs.{cut_rows, rows_of_places};
-ghost use Rattle.model.specs.Store.{Below, Version, frozen, in_range, kept, of_rows, part_of, precedes, present, put_version, read_of, read_step, rows_at, written};
-ghost use Rattle.model.specs.Stands.{AreRowsAt};
-ghost use Rattle.model.specs.Tablets.{Tablet};
-ghost use Rattle.law_store.specs.Sorted.{EachItemKey, EachKey, OnceOld, ReadsView, Rising, Sorted, StampedAt, item_step};
+ghost use Rattle.row_values.specs.Ids.{Id};
+ghost use Rattle.row_values.specs.Elements.{in_order};
+ghost use Rattle.row_values.specs.Store.{AreRows, InOrder, of_key, Below, Version, frozen, kept, of_rows, part_of, precedes, present, put_version, read_of, read_step, rows_at, written};
+ghost use Rattle.row_values.specs.Ranges.{in_range};
+ghost use Rattle.law_store.specs.Sorted.{EachItemKey, EachKey, OnceOld, Rising, Sorted, StampedAt, item_step};
 
 /// A write changes what is read of its keys from its stamp on, item by item, and nothing else. The
 /// order of a store's versions is kept by writes whose stamp is not before those that it has.
@@ -72,14 +68,13 @@ pub fn restored_rows_are_read()
     ensures rows { (versions : List Version) (to stamp x : ℕ) → Sorted versions → stamp ≤ x → rows_at (of_rows (rows_at versions to) stamp) x ≡ rows_at versions to }
     ensures kept { (versions : List Version) (to stamp cutoff : ℕ) → Sorted versions → kept (of_rows (rows_at versions to) stamp) cutoff ≡ of_rows (rows_at versions to) stamp }
     ensures sorted { (versions : List Version) (to stamp : ℕ) → Sorted versions → Sorted (of_rows (rows_at versions to) stamp) }
-    ensures are_rows { (versions : List Version) (low high stamp : ℕ) (changes : List Change) (to : ℕ) (table : Id) → Sorted versions → EachKey (λ key. in_range low high (code_of key)) versions → ((key : List ℕ) → in_range low high (code_of key) ≡ true → read_of versions key to ≡ row_at changes to table key) → AreRowsAt (of_rows (rows_at versions to) stamp) low high stamp changes to table }
+    ensures are_rows { (versions : List Version) (low high stamp to : ℕ) (row : List ℕ → Row) → Sorted versions → EachKey (λ key. in_range low high (code_of key)) versions → ((key : List ℕ) → in_range low high (code_of key) ≡ true → read_of versions key to ≡ row key) → AreRows (of_rows (rows_at versions to) stamp) low high stamp row }
     ensures stamped { (rows : List KeyedRow) (stamp : ℕ) → StampedAt stamp (of_rows rows stamp) }
 {}
 
-/// Rows of several places that are put in order by key are in order, and those of one key stay in the
-/// order of the places. So a read of tablets whose stores read as the view does is right.
-pub fn reads_are_right()
+/// Rows that are put in order by key are in order, and those of one key stay in the order in which they
+/// stood.
+pub fn rows_are_ordered()
     ensures ordered { (rows : List KeyedRow) → InOrder (in_order (λ r s. precedes r.key s.key) rows) }
     ensures stable { (rows : List KeyedRow) (key : List ℕ) → of_key key (in_order (λ r s. precedes r.key s.key) rows) ≡ of_key key rows }
-    ensures right { (places : List At) (tablets : ℕ → Tablet) (changes : List Change) (asked : Option (List ℕ)) (x : ℕ) (columns : List ℕ) → ReadsView changes x tablets places → RowsRight changes x asked columns tablets places (cut_rows columns (in_order (λ r s. precedes r.key s.key) (rows_of_places places asked x tablets))) }
 {}

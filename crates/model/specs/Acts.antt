@@ -3,8 +3,8 @@ use Rattle.std.specs.Prelude.{ℕ, List, Option}
 use Rattle.row_values.specs.declared.value.Value.{Value}
 use Rattle.row_values.specs.declared.value.Item.{Item}
 use Rattle.row_values.specs.declared.rows.KeyedRow.{KeyedRow}
-use Rattle.model.specs.Ids.{Id}
-use Rattle.model.specs.Schema.{Column, ColumnKind, NewColumn}
+use Rattle.row_values.specs.Ids.{Id}
+use Rattle.row_values.specs.Schema.{Column, ColumnKind, NewColumn}
 use Rattle.model.specs.Tablets.{Standing, BodyKind}
 use Rattle.model.specs.Records.{State}
 

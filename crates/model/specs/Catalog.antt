@@ -3,8 +3,8 @@
 use Rattle.std.specs.Prelude.{ℕ, Bool, false, List, [], ◌∷◌, ◌++◌, Option, Some, None, ◌&&◌, nat_lt, max, map, if◌then◌else◌}
 use Rattle.std.specs.List.{filter}
 use Rattle.std.specs.Str.{bytes_eq}
-use Rattle.model.specs.Ids.{Id, same}
-use Rattle.model.specs.Schema.{Schema}
+use Rattle.row_values.specs.Ids.{Id, same}
+use Rattle.row_values.specs.Schema.{Schema}
 use Rattle.model.specs.Times.{is_open, holds_at, ended}
 
 pub record NamespaceRecord : Type 0 where

@@ -1,9 +1,10 @@
 -- What an accepted command makes of the master: names and schemas, tablets' activity, schedules and records. Each function
 -- sets the clock to the stamp, besides what it says. Identifiers are the next ones of their kind.
-use Rattle.std.specs.Prelude.{slice_index, ℕ, ◌+◌, ◌-◌, ◌*◌, ◌/◌, not, List, [], ◌∷◌, ◌++◌, map, length, if◌then◌else◌, Option, None, unwrap_or}
+use Rattle.std.specs.Prelude.{slice_index, ℕ, ◌+◌, ◌-◌, not, List, [], ◌∷◌, ◌++◌, map, length, if◌then◌else◌, Option, None, unwrap_or}
 use Rattle.std.specs.List.{filter}
-use Rattle.model.specs.Ids.{Id, same, no_id, Namespace as NamespaceKind, Table as TableKind, Tablet as TabletKind, Schedule as ScheduleKind, Restoration as RestorationKind, Clone as CloneKind}
-use Rattle.model.specs.Schema.{NewColumn, Schema, first_schema, with_column, without_column}
+use Rattle.row_values.specs.Ranges.{share_from}
+use Rattle.row_values.specs.Ids.{Id, same, no_id, Namespace as NamespaceKind, Table as TableKind, Tablet as TabletKind, Schedule as ScheduleKind, Restoration as RestorationKind, Clone as CloneKind}
+use Rattle.row_values.specs.Schema.{NewColumn, Schema, first_schema, with_column, without_column}
 use Rattle.model.specs.Catalog.{TableRecord, Owner, namespace_named, tables_at, set_kept_from, end_namespace, end_table, change_table}
 use Rattle.model.specs.Activity.{Interval, end_tablet, end_table_tablets}
 use Rattle.model.specs.Tablets.{Fence}
@@ -47,7 +48,7 @@ begins slot tablet table low high n = record { slot = slot; tablet = tablet; tab
 abbrev pub shares : List ℕ → ℕ → ℕ → ℕ → Master → List Interval
 shares [] place count n m = []
 shares (slot ∷ slots) place count n m =
-    begins slot (next_tablet m (place + 1)) (next_table m) (place * 65536 / count) ((place + 1) * 65536 / count) n ∷ shares slots (place + 1) count n m
+    begins slot (next_tablet m (place + 1)) (next_table m) (share_from count place) (share_from count (place + 1)) n ∷ shares slots (place + 1) count n m
 
 -- the two children of a split, in the slots behind the parent's
 abbrev pub children : Interval → ℕ → List ℕ → ℕ → Master → List Interval

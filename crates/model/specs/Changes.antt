@@ -3,10 +3,11 @@ use Rattle.std.specs.Prelude.{ℕ, ◌+◌, not, ◌&&◌, List, [], ◌∷◌, 
 use Rattle.std.specs.List.{filter}
 use Rattle.std.specs.Option.{option_or}
 use Rattle.std.specs.Str.{bytes_eq}
-use Rattle.model.specs.Ids.{Id, same_slots}
+use Rattle.row_values.specs.Ids.{Id}
+use Rattle.row_values.specs.Slots.{same_slots}
 use Rattle.model.specs.Times.{is_open}
-use Rattle.model.specs.Store.{part_of}
-use Rattle.model.specs.Schema.{ColumnKind, NewColumn, column_named}
+use Rattle.row_values.specs.Store.{part_of}
+use Rattle.row_values.specs.Schema.{ColumnKind, NewColumn, column_named}
 use Rattle.model.specs.Catalog.{TableRecord, namespace_named, current_named, current_tables, by_id}
 use Rattle.model.specs.Activity.{Interval}
 use Rattle.model.specs.Tablets.{Tablet, TabletAct, Make, Child, SetVersion, PutOut, Told}

@@ -3,7 +3,8 @@
 use Rattle.std.specs.Prelude.{ℕ, Bool, true, false, List, [], ◌∷◌, ◌++◌, Option, Some, None, ◌==◌, ◌&&◌, ◌||◌, ◌+◌, ◌-◌, not, max, min, nat_le, nat_lt, length, is_some, map, if◌then◌else◌}
 use Rattle.std.specs.Option.{option_or, option_map_or}
 use Rattle.std.specs.List.{list_any, filter}
-use Rattle.model.specs.Ids.{Id, Kind, Tablet, same, same_slots, rising}
+use Rattle.row_values.specs.Ids.{Id, Kind, Tablet, same}
+use Rattle.row_values.specs.Slots.{same_slots, rising}
 use Rattle.model.specs.Times.{ended_by}
 use Rattle.model.specs.Catalog.{NamespaceRecord, TableRecord, KeptFrom, Catalog, owner_of}
 use Rattle.model.specs.Activity.{Interval, last_of, forget}

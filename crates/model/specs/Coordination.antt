@@ -3,7 +3,7 @@
 use Rattle.std.specs.Prelude.{ℕ, List, [], ◌∷◌, ◌++◌, Option, Some, None, ◌==◌, ◌&&◌, not, nat_lt, map, if◌then◌else◌}
 use Rattle.std.specs.Option.{option_and_then}
 use Rattle.row_values.specs.declared.rows.KeyedRow.{KeyedRow}
-use Rattle.model.specs.Ids.{Id, Kind, Snapshot, Restoration, Clone, same}
+use Rattle.row_values.specs.Ids.{Id, Kind, Snapshot, Restoration, Clone, same}
 use Rattle.model.specs.Tablets.{Tablet as TabletPart, FrozenSet, Body, RestoreFrom, Copy, Command, Offer, set_of, rows_of_set, cutoff_of_set, kind_of, is_done}
 use Rattle.model.specs.Tablets as tell
 use Rattle.model.specs.Records.{Listed, SnapshotRecord, RestorationRecord, CloneRecord, unacked_at, acked_at, is_restored, is_cloned, is_sent, unsent_at}

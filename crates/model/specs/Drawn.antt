@@ -1,9 +1,10 @@
 -- Numbers that are drawn once, over the whole history, whatever is restored: identifiers, the ids of a table's columns, and the
 -- versions of its schema.
 use Rattle.std.specs.Prelude.{◌≡◌, ℕ, ◌≤◌, ◌<◌, true, List, [], ◌∷◌, Option, Some, None, ◌+◌, max, fold, if◌then◌else◌}
-use Rattle.model.specs.Ids.{Id, Kind, Namespace, Table, Tablet, Schedule, Snapshot, Restoration, Clone, same, In}
+use Rattle.row_values.specs.Ids.{Id, Kind, Namespace, Table, Tablet, Schedule, Snapshot, Restoration, Clone, same}
+use Rattle.row_values.specs.Elements.{In}
 use Rattle.model.specs.Times.{is_open}
-use Rattle.model.specs.Schema.{Column}
+use Rattle.row_values.specs.Schema.{Column}
 use Rattle.model.specs.Catalog.{TableRecord}
 use Rattle.model.specs.Acts.{Reply, Ok}
 use Rattle.model.specs.Parts.{Drawn, Parts}

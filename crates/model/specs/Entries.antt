@@ -2,16 +2,14 @@
 use Rattle.std.specs.Prelude.{◌≡◌, ℕ, ◌≤◌, ◌<◌, false, List, [], ◌∷◌, Option, Some, None, ◌==◌, ◌^◌, min, fold, map, length, if◌then◌else◌}
 use Rattle.std.specs.Str.{bytes_eq}
 use Rattle.row_values.specs.Stamps as rule
-use Rattle.row_values.specs.declared.value.Value.{Value}
-use Rattle.row_values.specs.declared.value.Value.TheVariants.{Int, Text, Null}
-use Rattle.row_values.specs.declared.value.RowOp.{RowOp}
-use Rattle.row_values.specs.declared.value.RowOp.TheVariants.{Upsert, Delete}
-use Rattle.row_values.specs.declared.value.Item.{Item}
-use Rattle.model.specs.Ids.{Kind, Tablet, Snapshot, rising}
+use Rattle.row_values.specs.Ids.{Kind, Tablet, Snapshot}
+use Rattle.row_values.specs.Slots.{rising}
 use Rattle.model.specs.Times.{end_of_time}
-use Rattle.model.specs.Schema.{NewColumn}
+use Rattle.row_values.specs.Schema.{NewColumn}
 use Rattle.model.specs.Acts.{NamedOp, NamedUpsert, NamedDelete, NamedItem, Command, CreateNamespace, DropNamespace, CreateTable, AddColumn, DropColumn, RenameTable, DropTable, Split, CreateSchedule, Restore, CloneNamespace, ListTablets, Ask, AskPlan, AskKeys, AskTable, Act, Look, Change, Write, Read, Cutoff, Compact, Send, Process, Ack, Advance, Remove, Prune, Restart, Stats, Event, Reply}
 use Rattle.model.specs.Parts.{Parts}
+use Rattle.row_values.specs.Elements.{AllOf}
+use Rattle.row_values.specs.Batches.{IsKey, IsValue, IsBatch}
 
 -- an event that was performed, with its place in the history, its stamp and its reply
 pub record Entry : Type 0 where
@@ -59,34 +57,15 @@ stamp_of event ps = rule.stamp_of 0 (map (clock_at ps) (slots_of event.act)) eve
 
 -- limits of what an event may name
 
-abbrev pub AllOf : {A : Type 0} → (A → Type 0) → List A → Type 0
-AllOf P [] = Unit {0}
-AllOf P (x ∷ xs) = P x × AllOf P xs
-
 abbrev pub IsSlot : ℕ → ℕ → Type 0
 IsSlot slots slot = (1 ≤ slot) × (slot ≤ slots)
 
 abbrev pub IsName : List ℕ → Type 0
 IsName name = (1 ≤ length name) × (length name ≤ 32)
 
-abbrev pub IsKey : List ℕ → Type 0
-IsKey key = (1 ≤ length key) × (length key ≤ 64)
-
-abbrev pub IsValue : Value → Type 0
-IsValue (Int number) = Unit {0}
-IsValue (Text text) = length text ≤ 256
-IsValue Null = Unit {0}
-
-abbrev pub IsOp : RowOp → Type 0
-IsOp (Upsert cells) = (length cells ≤ 16) × AllOf (λ c. IsValue c.value) cells
-IsOp Delete = Unit {0}
-
 abbrev pub IsNamedOp : NamedOp → Type 0
 IsNamedOp (NamedUpsert cells) = (length cells ≤ 16) × AllOf (λ c. IsName c.column × IsValue c.value) cells
 IsNamedOp NamedDelete = Unit {0}
-
-abbrev pub IsBatch : List Item → Type 0
-IsBatch batch = (1 ≤ length batch) × (length batch ≤ 64) × AllOf (λ i. IsKey i.key × IsOp i.op) batch
 
 abbrev pub IsNamedBatch : List NamedItem → Type 0
 IsNamedBatch batch = (1 ≤ length batch) × (length batch ≤ 64) × AllOf (λ i. IsKey i.key × IsNamedOp i.op) batch

@@ -2,9 +2,10 @@
 use Rattle.std.specs.Prelude.{◌≡◌, ℕ, ◌≤◌, ◌<◌, Bool, true, false, List, [], ◌∷◌, ◌++◌, Option, Some, None, ◌==◌, ◌&&◌, ◌+◌, ◌-◌, nat_lt, not, length, unwrap_or, if◌then◌else◌}
 use Rattle.std.specs.List.{filter}
 use Rattle.row_values.specs.declared.value.Item.{Item}
-use Rattle.model.specs.Ids.{Id, has}
+use Rattle.row_values.specs.Ids.{Id}
+use Rattle.row_values.specs.Slots.{has}
 use Rattle.model.specs.Times.{end_of_time, time_of}
-use Rattle.model.specs.Schema.{Column, column_named, numbered}
+use Rattle.row_values.specs.Schema.{Column, column_named, numbered}
 use Rattle.model.specs.Catalog.{TableRecord, namespace_named}
 use Rattle.model.specs.Activity.{Interval}
 use Rattle.model.specs.Tablets.{act_for, effect}

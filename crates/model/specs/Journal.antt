@@ -7,8 +7,8 @@ use Rattle.std.specs.Str.{bytes_eq}
 use Rattle.row_values.specs.Rows.{applied, absent_row, cut_to}
 use Rattle.row_values.specs.declared.rows.Row.{Row}
 use Rattle.row_values.specs.declared.value.RowOp.{RowOp}
-use Rattle.model.specs.Ids.{Id, same}
-use Rattle.model.specs.Schema.{Column, column_ids}
+use Rattle.row_values.specs.Ids.{Id, same}
+use Rattle.row_values.specs.Schema.{Column, column_ids}
 use Rattle.model.specs.Records.{IdPair}
 
 -- a change of the catalog, of a row, or of a whole namespace

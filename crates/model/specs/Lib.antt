@@ -1,7 +1,4 @@
-pub mod Ids
 pub mod Times
-pub mod Store
-pub mod Schema
 pub mod Catalog
 pub mod Activity
 pub mod Tablets

@@ -4,10 +4,11 @@ use Rattle.std.specs.List.{filter, find}
 use Rattle.std.specs.Option.{option_or, option_to_list}
 use Rattle.row_values.specs.Codes.{code_of}
 use Rattle.row_values.specs.declared.value.Value.{Value}
-use Rattle.model.specs.Ids.{Id, same, no_id, has, rising}
+use Rattle.row_values.specs.Ids.{Id, same, no_id}
+use Rattle.row_values.specs.Slots.{has, rising}
 use Rattle.model.specs.Times.{is_open, time_of, is_future, is_below}
-use Rattle.model.specs.Store.{in_range}
-use Rattle.model.specs.Schema.{Column, column_named, first_schema, is_of_kind}
+use Rattle.row_values.specs.Ranges.{in_range}
+use Rattle.row_values.specs.Schema.{Column, column_named, first_schema, is_of_kind}
 use Rattle.model.specs.Catalog.{kept_from, TableRecord, namespace_named, table_named, current_named, current_table}
 use Rattle.model.specs.Activity.{Interval}
 use Rattle.model.specs.Records.{CloneRecord, is_cloned}

@@ -3,7 +3,7 @@
 use Rattle.std.specs.Prelude.{ℕ, Bool, true, false, List, [], ◌++◌, Option, Some, None, ◌&&◌, ◌||◌, ◌+◌, is_some, map, if◌then◌else◌}
 use Rattle.std.specs.Option.{unwrap_or, option_map, option_map_or, option_and_then}
 use Rattle.std.specs.List.{list_any, filter}
-use Rattle.model.specs.Ids.{Id, Kind, Snapshot, Restoration, Clone, same}
+use Rattle.row_values.specs.Ids.{Id, Kind, Snapshot, Restoration, Clone, same}
 use Rattle.model.specs.Tablets.{Body, RestoreFrom, Copy, Release}
 use Rattle.model.specs.Records.{Listed, Schedule, SnapshotRecord, RestorationRecord, CloneRecord, TabletPair, RestorationState, Fencing, Snapshotting, Switching, Restoring, Releasing, Restored, CloneState, Accepted, CloneSnapshot, Copying, CloneReleasing, CloneComplete, State, IsComplete, IsSnapshot, IsSwitching, IsRestoring, IsReleasing, IsRestored, IsCopying, first_unacked, unsent, schedule_with, schedule_of, unfinished_of}
 use Rattle.model.specs.Acts.{NotPending, Waiting, Advanced}

@@ -2,7 +2,7 @@
 -- it uses the namespace that it holds, and a clone its source too.
 use Rattle.std.specs.Prelude.{ℕ, not, ◌&&◌, ◌||◌, List, [], ◌∷◌, if◌then◌else◌, Option, Some, None, option_map}
 use Rattle.std.specs.Option.{option_or}
-use Rattle.model.specs.Ids.{Id, same}
+use Rattle.row_values.specs.Ids.{Id, same}
 use Rattle.model.specs.Records.{RestorationRecord, CloneRecord, is_restored, is_cloned}
 use Rattle.model.specs.Parts.{Master}
 

@@ -1,7 +1,7 @@
 -- The parts of a cluster: the master, and a tablet's part in each slot from 1 on. What an act does is told as plain data:
 -- its refusals in order, and else what each touched part is told, and the reply.
 use Rattle.std.specs.Prelude.{ℕ, Bool, List, [], ◌∷◌, if◌then◌else◌}
-use Rattle.model.specs.Ids.{Id}
+use Rattle.row_values.specs.Ids.{Id}
 use Rattle.model.specs.Catalog.{Catalog, empty_catalog}
 use Rattle.model.specs.Activity.{Interval}
 use Rattle.model.specs.Tablets.{Tablet as TabletPart, Told, emptied}

@@ -2,7 +2,7 @@
 -- to do a command of its state.
 use Rattle.std.specs.Prelude.{ℕ, Bool, true, false, List, [], ◌∷◌, Option, Some, None, ◌==◌, ◌&&◌, ◌||◌, not, map, if◌then◌else◌}
 use Rattle.std.specs.List.{list_any, filter}
-use Rattle.model.specs.Ids.{Id, same}
+use Rattle.row_values.specs.Ids.{Id, same}
 use Rattle.model.specs.Tablets.{Body}
 
 pub record Listed : Type 0 where

@@ -2,9 +2,9 @@
 -- table gets later never takes an id that was given before, not even one that the time doesn't show.
 use Rattle.std.specs.Prelude.{ℕ, false, List, [], ◌∷◌, ◌++◌, Option, Some, None, ◌&&◌, ◌+◌, map, if◌then◌else◌}
 use Rattle.std.specs.Option.{unwrap_or, option_map_or}
-use Rattle.model.specs.Ids.{Id, same}
+use Rattle.row_values.specs.Ids.{Id, same}
 use Rattle.model.specs.Times.{holds_at, ended}
-use Rattle.model.specs.Schema.{Schema}
+use Rattle.row_values.specs.Schema.{Schema}
 use Rattle.model.specs.Catalog.{Catalog, TableRecord, Owner, tables_at, latest, current_table, end_tables, owns, set_kept_from}
 use Rattle.model.specs.Activity.{Interval, active_at}
 use Rattle.model.specs.Tablets.{RestoreFrom, Hide}

@@ -1,7 +1,8 @@
 -- What retention keeps: while a time is retained, nothing removes a version, a frozen set, a tablet or a catalog record that
 -- it needs.
 use Rattle.std.specs.Prelude.{◌≡◌, ℕ, ◌≤◌, ◌<◌, true, false, List, [], ◌∷◌, Option, Some, None, ◌&&◌, ◌+◌, ◌-◌, max, not, if◌then◌else◌}
-use Rattle.model.specs.Ids.{Id, same, In}
+use Rattle.row_values.specs.Ids.{Id, same}
+use Rattle.row_values.specs.Elements.{In}
 use Rattle.model.specs.Catalog.{owns, kept_from}
 use Rattle.model.specs.Activity.{Interval, active_at, last_of}
 use Rattle.model.specs.Tablets.{Tablet, FrozenSet, set_of, is_vacant}

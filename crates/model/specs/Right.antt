@@ -1,14 +1,16 @@
 -- When an entry is right: its reply is that of one list of stamped changes, the journal of the entries before it.
 use Rattle.std.specs.Prelude.{◌≡◌, ℕ, ◌<◌, Bool, true, false, List, [], ◌∷◌, ◌++◌, Option, Some, None, ◌==◌, ◌&&◌, ◌||◌, if◌then◌else◌}
-use Rattle.std.specs.List.{filter, list_all}
+use Rattle.std.specs.List.{list_all}
 use Rattle.std.specs.Option.{is_some}
 use Rattle.std.specs.Str.{bytes_eq}
 use Rattle.row_values.specs.Rows.{cut_to}
 use Rattle.row_values.specs.Codes.{code_of}
 use Rattle.row_values.specs.declared.rows.KeyedRow.{KeyedRow}
-use Rattle.model.specs.Ids.{Id, same, In}
-use Rattle.model.specs.Store.{precedes, in_range, present}
-use Rattle.model.specs.Schema.{Column}
+use Rattle.row_values.specs.Ids.{Id, same}
+use Rattle.row_values.specs.Elements.{In}
+use Rattle.row_values.specs.Store.{present, InOrder, of_key}
+use Rattle.row_values.specs.Ranges.{in_range}
+use Rattle.row_values.specs.Schema.{Column}
 use Rattle.model.specs.Activity.{Interval, active_at}
 use Rattle.model.specs.Journal.{Change, ChangeAct, NamespaceMade, NamespaceDropped, TableMade, TableRenamed, TableDropped, ColumnAdded, ColumnDropped, RowChanged, NamespaceRestored, NamespaceCloned, TableView, is_in, namespace_at, table_at, row_at, shown_at}
 use Rattle.model.specs.Tablets.{Tablet}
@@ -31,18 +33,6 @@ abbrev pub rows_of_places : List Change → ℕ → Option (List ℕ) → List �
 rows_of_places changes x asked columns tablets [] key = []
 rows_of_places changes x asked columns tablets (place ∷ places) key =
     row_of_place changes x asked columns (tablets place.slot) key ++ rows_of_places changes x asked columns tablets places key
-
-abbrev pub InOrderFrom : List ℕ → List KeyedRow → Type 0
-InOrderFrom low [] = Unit {0}
-InOrderFrom low (r ∷ rs) = (precedes r.key low ≡ false) × InOrderFrom r.key rs
-
--- the keys don't fall
-abbrev pub InOrder : List KeyedRow → Type 0
-InOrder [] = Unit {0}
-InOrder (r ∷ rs) = InOrderFrom r.key rs
-
-abbrev pub of_key : List ℕ → List KeyedRow → List KeyedRow
-of_key key rows = filter (λ r. bytes_eq r.key key) rows
 
 -- a read gives the rows of the view at x: in order of key, those of one key in the order of the places
 pub record RowsRight (changes : List Change) (x : ℕ) (asked : Option (List ℕ)) (columns : List ℕ) (tablets : ℕ → Tablet) (places : List At) (rows : List KeyedRow) : Type 0 where

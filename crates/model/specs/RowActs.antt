@@ -6,9 +6,10 @@ use Rattle.row_values.specs.Codes.{code_of}
 use Rattle.row_values.specs.Rows.{cut_to}
 use Rattle.row_values.specs.declared.rows.KeyedRow.{KeyedRow}
 use Rattle.row_values.specs.declared.value.Item.{Item}
-use Rattle.model.specs.Ids.{Id, no_id}
+use Rattle.row_values.specs.Ids.{Id, no_id}
 use Rattle.model.specs.Times.{time_of, is_future, is_below}
-use Rattle.model.specs.Store.{Version, precedes, read_of, kept, in_range, present, rows_at}
+use Rattle.row_values.specs.Store.{Version, precedes, read_of, kept, present, rows_at}
+use Rattle.row_values.specs.Ranges.{in_range}
 use Rattle.model.specs.Catalog.{owner_of}
 use Rattle.model.specs.Activity.{Interval}
 use Rattle.model.specs.Tablets.{Tablet, FrozenSet, standing, is_vacant, serves, RaiseCutoff, Write as WriteRows, Compact as CompactRows, Restart as RestartTablet}
@@ -16,7 +17,7 @@ use Rattle.model.specs.Records.{Schedule, schedule_of}
 use Rattle.model.specs.Acts.{At, Refusal, Future, Fenced, Moved, StaleSchema, TooOld, Idle, Ok, Rows, CutoffAt, Compacted, Counts, NoTablet}
 use Rattle.model.specs.Parts.{Master, Parts, Ticks, Restarts, Outcome, If, judged, answered}
 use Rattle.model.specs.Schedules.{allowed_cutoff}
-use Rattle.model.specs.Lists.{in_order}
+use Rattle.row_values.specs.Elements.{in_order}
 use Rattle.model.specs.Looks.{known, names}
 
 -- the slot's part doesn't have what is wanted of it

@@ -2,7 +2,7 @@
 use Rattle.std.specs.Prelude.{ℕ, ◌+◌, ◌&&◌, Bool, true, false, nat_lt, if◌then◌else◌, List, [], ◌∷◌, ◌++◌, codes, Option, Some, None}
 use Rattle.std.specs.Fmt.{decimal}
 use Rattle.model.specs.Times.{end_of_time}
-use Rattle.model.specs.Schema.{Column}
+use Rattle.row_values.specs.Schema.{Column}
 use Rattle.model.specs.Acts.{Act, Look, Ask, Event, Reply, Placed, Rows}
 use Rattle.model.specs.Entries.{Entry, log_of, stamp_of}
 use Rattle.model.specs.History.{replay, held, most_entries, entry_of}

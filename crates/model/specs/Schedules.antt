@@ -1,7 +1,7 @@
 -- Schedules: the window to which a database may be taken back, when a snapshot is due, how far the history may be cut, and
 -- what retention still needs. Times in ticks, periods in minutes.
 use Rattle.std.specs.Prelude.{ℕ, ◌≤◌, ◌<◌, Bool, List, [], ◌∷◌, Option, Some, None, ◌+◌, ◌-◌, ◌*◌, max, min, nat_le, nat_lt, ◌&&◌, if◌then◌else◌}
-use Rattle.model.specs.Ids.{Id, same}
+use Rattle.row_values.specs.Ids.{Id, same}
 use Rattle.model.specs.Times.{minute, second, end_of_time}
 use Rattle.model.specs.Records.{Schedule, SnapshotRecord}
 

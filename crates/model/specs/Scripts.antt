@@ -5,10 +5,11 @@ use Rattle.row_values.specs.declared.value.Cell.{Cell}
 use Rattle.row_values.specs.declared.value.RowOp.{RowOp}
 use Rattle.row_values.specs.declared.value.RowOp.TheVariants.{Upsert, Delete}
 use Rattle.row_values.specs.declared.value.Item.{Item}
-use Rattle.model.specs.Schema.{Column, column_named, column_ids}
+use Rattle.row_values.specs.Schema.{Column, column_named, column_ids}
 use Rattle.model.specs.Acts.{NamedCell, NamedOp, NamedUpsert, NamedDelete, NamedItem, Command, CreateTable, AddColumn, DropColumn, DropTable, Split, Ask, AskPlan, AskKeys, AskTable, At, Place, Act, Change, Write, Read, Reply, Planned, Placed}
 use Rattle.model.specs.Times.{end_of_time}
-use Rattle.model.specs.Entries.{CommandAsked, IsName, IsKey, IsNamedBatch}
+use Rattle.model.specs.Entries.{CommandAsked, IsName, IsNamedBatch}
+use Rattle.row_values.specs.Batches.{IsKey}
 use Rattle.model.specs.History.{id_of_column}
 
 -- a time as a script writes it: microseconds, so much before the script's reading, or a hybrid time

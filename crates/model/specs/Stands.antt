@@ -4,9 +4,11 @@ use Rattle.std.specs.Prelude.{◌≡◌, ◌≢◌, ℕ, ◌≤◌, ◌<◌, Boo
 use Rattle.std.specs.List.{list_any, filter}
 use Rattle.std.specs.Option.{is_some}
 use Rattle.row_values.specs.Codes.{code_of}
-use Rattle.model.specs.Ids.{Id, same, In}
+use Rattle.row_values.specs.Ids.{Id, same}
+use Rattle.row_values.specs.Elements.{In}
 use Rattle.model.specs.Times.{before_end, is_open}
-use Rattle.model.specs.Store.{Version, read_of, in_range, of_rows, rows_at}
+use Rattle.row_values.specs.Store.{Version, read_of, AreRows}
+use Rattle.row_values.specs.Ranges.{in_range}
 use Rattle.model.specs.Catalog.{owns}
 use Rattle.model.specs.Activity.{Interval, active_at, last_of}
 use Rattle.row_values.specs.declared.value.RowOp.{RowOp}
@@ -86,11 +88,8 @@ Cover activity changes = (table : Id) (code x : ℕ) → code < 65536 → is_som
 -- What a record's state says
 
 -- the versions are the rows of the view at T whose code is in the range, one upsert each at the stamp
-pub record AreRowsAt (versions : List Version) (low high stamp : ℕ) (changes : List Change) (to : ℕ) (table : Id) : Type 0 where
-  pub stamps : (v : Version) → In v versions → v.stamp ≡ stamp
-  pub upserts : versions ≡ of_rows (rows_at versions stamp) stamp
-  pub rows : (key : List ℕ) → in_range low high (code_of key) ≡ true → read_of versions key stamp ≡ row_at changes to table key
-  pub inside : (v : Version) → In v versions → in_range low high (code_of v.key) ≡ true
+abbrev pub AreRowsAt : List Version → ℕ → ℕ → ℕ → List Change → ℕ → Id → Type 0
+AreRowsAt versions low high stamp changes to table = AreRows versions low high stamp (row_at changes to table)
 
 -- the tablet holds the frozen set of the snapshot, of versions at or before its time. What can be read of it `FrozenStands` says
 pub record HoldsFrozen (snapshot : Id) (at : ℕ) (t : Tablet) : Type 0 where

@@ -3,8 +3,8 @@ use Rattle.std.specs.Prelude.{ℕ, Bool, true, false, List, [], ◌∷◌, ◌++
 use Rattle.std.specs.List.{list_any, filter}
 use Rattle.row_values.specs.declared.value.Item.{Item}
 use Rattle.row_values.specs.declared.rows.KeyedRow.{KeyedRow}
-use Rattle.model.specs.Ids.{Id, Tablet as TabletKind, Table as TableKind, same}
-use Rattle.model.specs.Store.{Version, written, kept, frozen, rows_at, of_rows}
+use Rattle.row_values.specs.Ids.{Id, Tablet as TabletKind, Table as TableKind, same}
+use Rattle.row_values.specs.Store.{Version, written, kept, frozen, rows_at, of_rows}
 
 -- what a coordinator has a tablet do
 pub data Body : Type 0 where

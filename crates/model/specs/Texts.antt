@@ -5,8 +5,8 @@ use Rattle.row_values.specs.declared.rows.KeyedRow.{KeyedRow}
 use Rattle.row_values.specs.declared.value.Value.{Value}
 use Rattle.row_values.specs.declared.value.Value.TheVariants.{Int, Text, Null}
 use Rattle.row_values.specs.declared.value.Cell.{Cell}
-use Rattle.model.specs.Ids.{Id, kind_digit}
-use Rattle.model.specs.Schema.{Column}
+use Rattle.row_values.specs.Ids.{Id, kind_digit}
+use Rattle.row_values.specs.Schema.{Column}
 use Rattle.model.specs.Tablets.{Standing, Empty, Serving, Hidden}
 use Rattle.model.specs.Records.{State, IsCreating, IsComplete, IsFencing, IsSnapshot, IsSwitching, IsRestoring, IsReleasing, IsRestored, IsAccepted, IsCopying}
 use Rattle.model.specs.Acts as acts

@@ -3,7 +3,7 @@
 use Rattle.std.specs.Prelude.{ℕ, List, [], ◌∷◌, ◌++◌, Option, Some, None, not, map, if◌then◌else◌}
 use Rattle.std.specs.Option.{option_or, option_map}
 use Rattle.std.specs.List.{filter}
-use Rattle.model.specs.Ids.{Id}
+use Rattle.row_values.specs.Ids.{Id}
 use Rattle.model.specs.Tablets.{Command}
 use Rattle.model.specs.Records.{Listed, Sent, is_restored, is_cloned, first_unacked, is_sent}
 use Rattle.model.specs.Acts.{Act, Send, Process, Ack, Advance, WorkItem, SendWork, CollectWork, AdvanceWork}

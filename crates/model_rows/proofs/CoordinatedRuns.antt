@@ -2,7 +2,7 @@
 use Rattle.std.proofs.Common.{ℕ, zero, suc, List, [], ◌∷◌, Option, Some, None}
 use Rattle.std.specs.Option.{option_map_or, option_map}
 use Rattle.row_values.specs.declared.value.Item.{Item}
-use Rattle.model.specs.Ids.{Id}
+use Rattle.row_values.specs.Ids.{Id}
 use Rattle.model.specs.Catalog.{TableRecord}
 use Rattle.model.specs.Tablets.{Command as TabletCommand}
 use Rattle.model.specs.Records.{RestorationRecord, RestorationState, Switching, CloneRecord, CloneState, Copying}

@@ -2,7 +2,7 @@
 use Rattle.std.proofs.Common.{◌≡◌, ℕ, [], ◌∷◌, ◌++◌, List, None, Some, refl}
 use Rattle.row_values.specs.declared.value.Value.TheVariants.{Text, Null}
 use Rattle.model.specs.Acts.{AddColumn, AskKeys, CreateTable, CrossTablet, DropColumn, Future, Look, NamedUpsert, RenameTable, TooOld, UnknownTable}
-use Rattle.model.specs.Schema.{Column, IntColumn, TextColumn}
+use Rattle.row_values.specs.Schema.{Column, IntColumn, TextColumn}
 use Rattle.model_rows.specs.Computed.{the_book}
 use Rattle.model_rows.specs.Runs.{Do, Line, Shown, begun, shown}
 use Rattle.model_rows.specs.Scripts.{number, B, N, S, Seen, T, a, cell, change, create_namespace, create_schedule, early, get, get_at, home, ht, int_column, kept_v, look_for, new_int, ok, place, placed, planned, planned_change, put, q, refused, row, rows, scan, set, t, text_column, tick, u, v, v_is, w, x, zzz}

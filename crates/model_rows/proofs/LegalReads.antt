@@ -3,7 +3,9 @@ use Rattle.std.proofs.Common.{ap, ◌≡◌, ℕ, ◌<◌, ◌≤◌, ◌^◌, �
 use Rattle.std.proofs.lemmas.Bool.{ltb-true}
 use Rattle.model.specs.Times.{end_of_time}
 use Rattle.model.specs.Acts.{Reply, Rows, Event, CreateTable, NamedCell, NamedUpsert, AskKeys}
-use Rattle.model.specs.Entries.{Entry, ActAsked, CommandAsked, AskAsked, AllOf, IsName, IsValue, stamp_of, log_of}
+use Rattle.model.specs.Entries.{Entry, ActAsked, CommandAsked, AskAsked, IsName, stamp_of, log_of}
+use Rattle.row_values.specs.Elements.{AllOf}
+use Rattle.row_values.specs.Batches.{IsValue}
 use Rattle.model.specs.History.{Legal, IsStep, replay, entry_of, held, most_entries}
 use Rattle.model_rows.proofs.Numbers.{first_number, two_is_not_one}
 use Rattle.model_rows.specs.Computed.{the_book}

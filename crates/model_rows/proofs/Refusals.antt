@@ -1,7 +1,7 @@
 -- Refusals: fences, names that are taken, stale events, limits.
 use Rattle.std.proofs.Common.{◌≡◌, ℕ, [], ◌∷◌, ◌++◌, List, None, map, refl}
 use Rattle.model.specs.Acts.{AddColumn, BadPeriod, Busy, CloneNamespace, CreateTable, DropNamespace, DropTable, Fenced, Moved, NameTaken, NoSchedule, NotEmpty, NotPending, ScheduleExists, StalePlan, StaleSchema, TooMany, UnderSchedule, UnknownNamespace}
-use Rattle.model.specs.Schema.{IntColumn, NewColumn}
+use Rattle.row_values.specs.Schema.{IntColumn, NewColumn}
 use Rattle.model.specs.Tablets.{Serving}
 use Rattle.model_rows.specs.Computed.{the_book}
 use Rattle.model_rows.specs.Runs.{begun, shown}

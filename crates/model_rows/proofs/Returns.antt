@@ -3,7 +3,7 @@ use Rattle.std.proofs.Common.{◌≡◌, ℕ, [], ◌∷◌, ◌++◌, List, Som
 use Rattle.row_values.specs.declared.value.Value.TheVariants.{Text}
 use Rattle.row_values.specs.declared.value.Cell.{Cell}
 use Rattle.model.specs.Acts.{Counts, AddColumn, Compacted, DropTable, ListTablets, Present, Pruned, Removable, Tablets}
-use Rattle.model.specs.Schema.{TextColumn}
+use Rattle.row_values.specs.Schema.{TextColumn}
 use Rattle.model_rows.specs.Computed.{the_book}
 use Rattle.model_rows.specs.Runs.{Line, Shown, shown}
 use Rattle.model_rows.specs.Scripts.{stats, number, B, R, Seen, T, a, cell, change, compact, did, early, gave, get, home, int_column, kept_v, look_present, look_removable, ok, place, placed, planned, planned_change, prune, put, q, ready, restore, row, rows, set, settle, t, text_column, v, v_is, w, x}

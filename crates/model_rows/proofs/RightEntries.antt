@@ -8,18 +8,20 @@ use Rattle.row_values.specs.declared.rows.KeyedRow.{KeyedRow}
 use Rattle.row_values.specs.declared.value.Cell.{Cell}
 use Rattle.row_values.specs.Codes.{code_of}
 use Rattle.row_values.specs.Rows.{cut_to}
-use Rattle.model.specs.Store.{in_range, present}
+use Rattle.row_values.specs.Ranges.{in_range}
+use Rattle.row_values.specs.Store.{present, of_key}
 use Rattle.model.specs.Acts.{At, Act, NamedCell, NamedItem, Placed, Rows}
 use Rattle.model.specs.Entries.{Entry}
 use Rattle.model.specs.History.{Right, ReplyRight, replay, journal_of}
 use Rattle.model.specs.Looks.{batch_fault, place_of}
 use Rattle.model.specs.Activity.{Interval, active_at}
-use Rattle.model.specs.Schema.{Column}
+use Rattle.row_values.specs.Schema.{Column}
 use Rattle.model_rows.specs.Runs.{Run, entry_on, event_of, done}
 use Rattle.model.specs.Tablets.{Tablet}
 use Rattle.model.specs.Journal.{Change, ChangeAct, NamespaceRestored, NamespaceCloned, namespace_at, table_at, row_at}
-use Rattle.model.specs.Right.{NothingLate, is_fixed, TableFound, LookRight, PlacesRight, holds_keys, of_key, rows_of_places}
-use Rattle.model.specs.Ids.{Id, In}
+use Rattle.model.specs.Right.{NothingLate, is_fixed, TableFound, LookRight, PlacesRight, holds_keys, rows_of_places}
+use Rattle.row_values.specs.Ids.{Id}
+use Rattle.row_values.specs.Elements.{In}
 use Rattle.model_rows.specs.Scripts.{asked, asking, reading, t, row}
 
 -- a change that fixes no time of a namespace

@@ -3,7 +3,7 @@ use Rattle.std.proofs.Common.{◌≡◌, ℕ, ◌+◌, [], ◌∷◌, ◌++◌, 
 use Rattle.std.specs.Fmt.{decimal}
 use Rattle.row_values.specs.declared.value.Value.TheVariants.{Text}
 use Rattle.model.specs.Acts.{AddColumn, CreateNamespace, CreateTable, DropColumn, NamedCell, NamedUpsert, RenameTable}
-use Rattle.model.specs.Schema.{IntColumn, TextColumn}
+use Rattle.row_values.specs.Schema.{IntColumn, TextColumn}
 use Rattle.model.specs.Scripts.{Exact, Numbered, ReadRow, ReadTable, ScriptCommand, Tick, ToMaster, WriteRows}
 use Rattle.model.specs.Running.{run_of}
 use Rattle.model_rows.specs.Computed.{the_book}

@@ -2,10 +2,10 @@
 use Rattle.std.proofs.Common.{◌≡◌, ℕ, false, [], ◌∷◌, refl, arith, ap, sym, subst}
 use Rattle.std.proofs.lemmas.Bool.{true≢false, leb-true, ltb-true}
 use Rattle.std.proofs.lemmas.Bool.Decides.{nat_tests}
-use Rattle.model.specs.Ids.{In}
+use Rattle.row_values.specs.Elements.{In}
 use Rattle.model.specs.Journal.{row_at}
 use Rattle.model.specs.Parts.{Parts}
-use Rattle.model.specs.Store.{read_of}
+use Rattle.row_values.specs.Store.{read_of}
 use Rattle.model.specs.Stands.{Stands, LiveStands, Cover}
 use Rattle.model.specs.Tablets.{FrozenSet, is_vacant}
 use Rattle.model_rows.proofs.Numbers.{none_is_not_one}

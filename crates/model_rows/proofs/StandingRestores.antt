@@ -5,10 +5,12 @@ use Rattle.std.proofs.lemmas.Bool.Decides.{leb_tells, nat_tests}
 use Rattle.std.specs.Option.{is_some}
 use Rattle.row_values.specs.declared.value.RowOp.TheVariants.{Upsert}
 use Rattle.row_values.specs.Codes.{code_of}
-use Rattle.model.specs.Ids.{Id, In, same}
+use Rattle.row_values.specs.Ids.{Id, same}
+use Rattle.row_values.specs.Elements.{In}
 use Rattle.model.specs.Activity.{Interval}
 use Rattle.model.specs.Journal.{TableView, row_at, table_at}
-use Rattle.model.specs.Store.{Version, in_range, read_of}
+use Rattle.row_values.specs.Store.{Version, read_of}
+use Rattle.row_values.specs.Ranges.{in_range}
 use Rattle.model.specs.Stands.{AreRowsAt, Cover, FrozenStands, LiveStands, holders}
 use Rattle.model.specs.Tablets.{FrozenSet}
 use Rattle.model_rows.proofs.Numbers.{first_cell, two_is_not_one}

@@ -7,7 +7,7 @@ use Rattle.model.specs.History.{replay, entry_of, journal_of, activity_of, snaps
 use Rattle.model.specs.Looks.{plan_of, look_plan, look_keys, look_table, look_present}
 use Rattle.model.specs.Moves.{advance}
 use Rattle.model.specs.RowActs.{write, read, cutoff, compact, restart, stats}
-use Rattle.model.specs.Store.{kept_of}
+use Rattle.row_values.specs.Store.{kept_of}
 use Rattle.model.specs.Running.{may_follow, made_by, line_of, run_of}
 
 unfoldable pub the_book : Type 0

@@ -1,3 +1,10 @@
 pub mod Rows
 pub mod Codes
 pub mod Stamps
+pub mod Ids
+pub mod Elements
+pub mod Slots
+pub mod Schema
+pub mod Ranges
+pub mod Batches
+pub mod Store

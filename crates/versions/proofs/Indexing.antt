@@ -13,7 +13,7 @@ use Rattle.std.proofs.lemmas.Map.Text.{is_eq-slice_cmp}
 use Rattle.std.proofs.lemmas.Slice.Eq.{bytes_eq-Decides}
 use Rattle.row_values.specs.Rows.{applied, absent_row}
 use Rattle.row_values.specs.declared.rows.Row.{Row}
-use Rattle.model.specs.Store.{Version, read_step, read_of}
+use Rattle.row_values.specs.Store.{Version, read_step, read_of}
 use Rattle.versions.specs.Indexed.{of_key, with_found, chosen, are_below, IsEntry, EntryOf, Indexes, places_of, row_of, newest_of}
 use Rattle.versions.specs.declared.index.KeyEntry.{KeyEntry}
 

@@ -6,7 +6,7 @@ use Rattle.std.specs.Cmp.Lexicographic.{slice_cmp}
 use Rattle.std.specs.BTreeMap.{BTreeMap, get}
 use Rattle.row_values.specs.Rows.{absent_row}
 use Rattle.row_values.specs.declared.rows.Row.{Row}
-use Rattle.model.specs.Store.{Version, read_of, put_version}
+use Rattle.row_values.specs.Store.{Version, read_of, put_version}
 use Rattle.versions.specs.declared.index.KeyEntry.{KeyEntry}
 
 -- the canonical list of versions that were written in this order

@@ -4,7 +4,7 @@ ghost use Rattle.std.specs.BTreeMap.{get};
 ghost use Rattle.std.specs.Ordering.{nat_cmp};
 ghost use Rattle.std.specs.Cmp.Lexicographic.{slice_cmp};
 ghost use Rattle.row_values.specs.Rows.{applied, absent_row};
-ghost use Rattle.model.specs.Store.{Version, read_step, read_of};
+ghost use Rattle.row_values.specs.Store.{Version, read_step, read_of};
 ghost use Rattle.versions.specs.Indexed.{IsEntry, Indexes, chosen, with_found};
 
 use crate::version::Version;

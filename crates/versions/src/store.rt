@@ -1,5 +1,5 @@
 ghost use Rattle.std.specs.Prelude.{ℕ, List, [], length, ◌≡◌, ◌≤◌, ◌<◌, IfOk, OnOk, MatchResult};
-ghost use Rattle.model.specs.Store.{Version, read_of, written, Below};
+ghost use Rattle.row_values.specs.Store.{Version, read_of, written, Below};
 ghost use Rattle.versions.specs.Batches.{FitsBatch};
 ghost use Rattle.versions.specs.Causes.{RefusedFor};
 

@@ -4,16 +4,16 @@ use Rattle.std.specs.Prelude.{Option, Some, None, Result, Ok, Err}
 use Rattle.std.proofs.lemmas.List.{reverse-reverse, reverse-append}
 use Rattle.std.proofs.Math.Path.{fun_ext}
 use Rattle.model.specs.Acts.{CreateNamespace, CreateTable}
-use Rattle.model.specs.Entries.{Entry, AllOf}
+use Rattle.model.specs.Entries.{Entry}
+use Rattle.row_values.specs.Elements.{AllOf}
 use Rattle.model.specs.History.{Legal, Right}
 use Rattle.model.specs.Scripts.{Numbered, ScriptAsked, ToMaster}
 use Rattle.model.specs.Scripts as scripts
 use Rattle.model.specs.Running.{run_of}
 use Rattle.law.specs.Scripts.{ScriptCovered}
-use Rattle.yb_script.specs.Script.{read_script}
+use Rattle.yb_script.specs.Script.{read_script, no_names}
 use Rattle.yb_script.specs.Seen.{slot_count, numbered_of}
 use Rattle.yb_script.specs.Shown.{IsMaking}
-use Rattle.yb_script.specs.Script.{no_names}
 use Rattle.yb_script.specs.Endings.{IsWhole, IsCut, IsBroken, IsRun, IsWriteFault, IsMemoryFault, IsRight, OfTold, entries_of_run, text_of_run, made_by, told_by}
 use Rattle.yb_script.specs.declared.script.ScriptCommand.{ScriptCommand}
 use Rattle.yb_script.proofs.Ordering.{IsScript}

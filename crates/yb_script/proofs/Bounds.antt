@@ -5,7 +5,7 @@ use Rattle.row_values.specs.Stamps.{stamp_of}
 use Rattle.row_values.specs.declared.value.Item.{Item}
 use Rattle.yb_script.specs.Sound.{IsSound}
 use Rattle.yb_script.specs.declared.event.Entry.{Entry}
-use Rattle.model.specs.Store.{Version, precedes, put_version, written, Below}
+use Rattle.row_values.specs.Store.{Version, precedes, put_version, written, Below}
 
 pub below_later : (m n : ℕ) (vs : List Version) → m ≤ n → Below m vs → Below n vs
 below_later m n [] le below = tt

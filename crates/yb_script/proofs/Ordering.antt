@@ -7,7 +7,8 @@ use Rattle.std.proofs.lemmas.Slice.Eq.{bytes_eq-Decides}
 use Rattle.yb_script.specs.Words.{onto, split_at, without_feed, lines_of, words_of, word, is_digit, begins_name, is_name_byte, is_name, is_key_byte, is_key, number_from, number_of, signed_of, before, behind}
 use Rattle.yb_script.specs.Script.{is_call, is_of_row, is_of_namespace, is_number_column, tick_form, namespace_form, table_form, put_of, put_form, get_form, get_at_of, get_at_form, or_else, row_form, form, before_all, with_form, heard, read_lines, read_script, no_names}
 use Rattle.std.proofs.lemmas.List.Elements.{All-nil, All-cons}
-use Rattle.model.specs.Entries.{IsName, IsKey}
+use Rattle.model.specs.Entries.{IsName}
+use Rattle.row_values.specs.Batches.{IsKey}
 use Rattle.yb_script.specs.Ordered.{is_tick, is_namespace, is_table, is_later, IsAt, InOrder, IsAsked}
 use Rattle.yb_script.proofs.Splitting.{length_without}
 use Rattle.yb_script.specs.declared.script.Names.{Names}

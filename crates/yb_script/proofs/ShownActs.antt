@@ -9,10 +9,11 @@ use Rattle.row_values.specs.Rows.{cut_to}
 use Rattle.row_values.specs.declared.value.Cell.{Cell}
 use Rattle.row_values.specs.declared.value.Item.{Item}
 use Rattle.row_values.specs.declared.value.RowOp.{RowOp}
-use Rattle.model.specs.Store.{Version, in_range, present, precedes, read_of}
-use Rattle.model.specs.Schema.{NewColumn}
+use Rattle.row_values.specs.Store.{Version, present, precedes, read_of}
+use Rattle.row_values.specs.Ranges.{in_range}
+use Rattle.row_values.specs.Schema.{NewColumn}
 use Rattle.model.specs.Acts.{NamedCell, NamedItem, NamedUpsert, CreateNamespace, CreateTable, Reply, Planned, Ok, Rows, At}
-use Rattle.model.specs.Lists.{in_order}
+use Rattle.row_values.specs.Elements.{in_order}
 use Rattle.model.specs.Looks.{cells_fault, look_plan, plan_of, look_keys}
 use Rattle.model.specs.Changes.{create_namespace, create_table, change, accepts}
 use Rattle.model.specs.Changed.{changed}

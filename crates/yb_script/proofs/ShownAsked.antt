@@ -1,7 +1,8 @@
 -- Each command of a script meets what the book asks of it.
 use Rattle.std.proofs.Common.{◌≡◌, ℕ, ◌+◌, ◌^◌, ◌<◌, ◌≤◌, true, List, [], ◌∷◌, All, arith}
 use Rattle.std.proofs.lemmas.List.Elements.{All-head, All-tail}
-use Rattle.model.specs.Entries.{AllOf, IsName}
+use Rattle.row_values.specs.Elements.{AllOf}
+use Rattle.model.specs.Entries.{IsName}
 use Rattle.model.specs.Scripts as scripts
 use Rattle.model.specs.Scripts.{ScriptAsked}
 use Rattle.yb_script.specs.Seen.{spoken, numbered_from, numbered_of}

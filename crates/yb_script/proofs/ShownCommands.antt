@@ -7,7 +7,7 @@ use Rattle.model.specs.Acts as acts
 use Rattle.model.specs.Looks.{cells_fault}
 use Rattle.model.specs.Parts.{Master}
 use Rattle.model.specs.Running as running
-use Rattle.model.specs.Store.{written}
+use Rattle.row_values.specs.Store.{written}
 use Rattle.row_values.specs.Stamps as rule
 use Rattle.model.specs.Running.{Run, made_by, ran, with_text, line_of, performed, performed_all, last_text, columns_before, columns_placed}
 use Rattle.model.specs.Scripts as scripts

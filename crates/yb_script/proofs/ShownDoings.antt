@@ -2,7 +2,7 @@
 use Rattle.std.proofs.Common.{◌≡◌, ℕ, ◌≤◌, List, [], ◌∷◌, Option, Some, refl, sym, ap, ◌∙◌, arith}
 use Rattle.row_values.specs.Stamps as rule
 use Rattle.row_values.specs.declared.value.RowOp.{RowOp}
-use Rattle.model.specs.Store.{Version, written}
+use Rattle.row_values.specs.Store.{Version, written}
 use Rattle.model.specs.Acts as acts
 use Rattle.model.specs.Acts.{CreateNamespace, CreateTable, Look, Change, Write, Read, Ok}
 use Rattle.model.specs.History.{look, master_effect}

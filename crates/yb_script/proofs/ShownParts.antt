@@ -1,11 +1,11 @@
 -- The master and the part of slot 1 of the book, by the clocks, the names and the versions that the program keeps.
 use Rattle.std.specs.Prelude.{ℕ, List, [], ◌∷◌, None}
-use Rattle.model.specs.Store.{Version}
-use Rattle.model.specs.Schema.{first_schema}
+use Rattle.row_values.specs.Store.{Version}
+use Rattle.row_values.specs.Schema.{first_schema}
 use Rattle.model.specs.Catalog.{NamespaceRecord, TableRecord, KeptFrom, Owner}
 use Rattle.model.specs.Activity.{Interval}
 use Rattle.model.specs.Tablets.{Tablet, InService}
-use Rattle.model.specs.Ids.{Id}
+use Rattle.row_values.specs.Ids.{Id}
 use Rattle.model.specs.Parts.{Master, empty_master, none_drawn}
 use Rattle.yb_script.specs.Runs.{Catalog}
 use Rattle.yb_script.specs.Seen.{slot_count, id_of, new_column}

@@ -6,7 +6,7 @@ use Rattle.row_values.specs.declared.rows.Row.{Row}
 use Rattle.row_values.specs.declared.value.Cell.{Cell}
 use Rattle.row_values.specs.declared.value.Value.{Value}
 use Rattle.row_values.specs.declared.value.Value.TheVariants.{Int, Text, Null}
-use Rattle.model.specs.Store.{present, read_of}
+use Rattle.row_values.specs.Store.{present, read_of}
 use Rattle.model.specs.Scripts.{Time, ReadRow}
 use Rattle.model.specs.Texts as texts
 use Rattle.model.specs.Running as running

@@ -1,7 +1,8 @@
 -- Which command may stand at which place of a script, and what each meets.
 use Rattle.std.specs.Prelude.{ℕ, ◌+◌, ◌^◌, ◌<◌, ◌≡◌, Bool, true, false, ◌==◌, if◌then◌else◌, List, [], ◌∷◌}
 use Rattle.model.specs.Times.{end_of_time}
-use Rattle.model.specs.Entries.{IsName, IsKey}
+use Rattle.model.specs.Entries.{IsName}
+use Rattle.row_values.specs.Batches.{IsKey}
 use Rattle.yb_script.specs.declared.script.ScriptCommand.{ScriptCommand}
 use Rattle.yb_script.specs.declared.script.ScriptCommand.TheVariants.{Tick, CreateNamespace, CreateTable, Put, Get, GetAt}
 

@@ -5,7 +5,7 @@ use Rattle.row_values.specs.Rows.{cut_to}
 use Rattle.row_values.specs.declared.value.Value.TheVariants.{Int}
 use Rattle.row_values.specs.declared.value.Item.{Item}
 use Rattle.row_values.specs.declared.value.RowOp.TheVariants.{Upsert}
-use Rattle.model.specs.Store.{Version, written, read_of, present}
+use Rattle.row_values.specs.Store.{Version, written, read_of, present}
 use Rattle.yb_script.specs.declared.event.Ident.TheVariants as idents
 use Rattle.yb_script.specs.declared.event.Command.{Command}
 use Rattle.yb_script.specs.declared.event.Command.TheVariants as commands

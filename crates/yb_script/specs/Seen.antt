@@ -1,8 +1,8 @@
 -- The program's commands and entries as the book has them.
 use Rattle.std.specs.Prelude.{ℕ, ◌+◌, List, [], ◌∷◌, map, Some, None}
 use Rattle.std.specs.Option.{option_to_list}
-use Rattle.model.specs.Ids.{Id, Namespace as NamespaceKind, Table as TableKind, Tablet as TabletKind}
-use Rattle.model.specs.Schema.{Column, IntColumn, NewColumn}
+use Rattle.row_values.specs.Ids.{Id, Namespace as NamespaceKind, Table as TableKind, Tablet as TabletKind}
+use Rattle.row_values.specs.Schema.{Column, IntColumn, NewColumn}
 use Rattle.model.specs.Acts as acts
 use Rattle.model.specs.Entries as entries
 use Rattle.model.specs.Scripts as scripts

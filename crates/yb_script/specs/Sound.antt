@@ -1,6 +1,6 @@
 -- What holds of the parts at every moment.
 use Rattle.std.specs.Prelude.{ℕ, ◌+◌, ◌^◌, ◌<◌, ◌≤◌, ◌≡◌, List, length}
-use Rattle.model.specs.Store.{Version, Below}
+use Rattle.row_values.specs.Store.{Version, Below}
 use Rattle.yb_script.specs.declared.event.Entry.{Entry}
 
 -- no clock is near its end, no version is above the tablet's clock, and the store is right from the tablet's making on

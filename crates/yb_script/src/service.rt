@@ -2,7 +2,7 @@
 
 ghost use Rattle.std.specs.Prelude.{ℕ, ℤ, ◌≡◌, ◌<◌, ◌≤◌, ◌^◌, ◌+◌, ◌-◌, ◌⊎◌, [], ◌∷◌, length, IfOk, OnOk, OnErr, Ok, None};
 ghost use Rattle.row_values.specs.Stamps.{stamp_of};
-ghost use Rattle.model.specs.Store.{present, read_of};
+ghost use Rattle.row_values.specs.Store.{present, read_of};
 ghost use Rattle.row_values.specs.Rows.{cut_to};
 ghost use Rattle.yb_script.specs.declared.event.Ask.TheVariants.{Plan};
 ghost use Rattle.yb_script.specs.declared.event.Reply.TheVariants as replies;

@@ -1,5 +1,5 @@
 -- By the lemmas on the keys of a store.
-use Rattle.model.specs.Store.{rows_at}
+use Rattle.row_values.specs.Store.{rows_at}
 use Rattle.law_store.proofs.Members.{keys_written, keys_kept, keys_frozen, keys_part, keys_rows_at, keys_of_rows}
 use Rattle.law_store.proofs.keys_stay.Goals as goal
 

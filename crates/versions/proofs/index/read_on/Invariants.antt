@@ -1,5 +1,5 @@
 use Rattle.std.proofs.Common.{◌≡◌, drop, fold}
-use Rattle.model.specs.Store.{read_step}
+use Rattle.row_values.specs.Store.{read_step}
 use Rattle.versions.proofs.index.read_on.Given as goal
 
 abbrev pub invariant-loop-version : goal.invariant-loop-version

@@ -1,5 +1,5 @@
 use Rattle.std.proofs.Common.{◌≡◌, drop, fold}
-use Rattle.model.specs.Store.{read_step, read_of}
+use Rattle.row_values.specs.Store.{read_step, read_of}
 use Rattle.versions.specs.Indexed.{chosen}
 use Rattle.versions.proofs.index.read_places.Given as goal
 

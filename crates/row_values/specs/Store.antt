@@ -1,12 +1,14 @@
 -- The versions that a tablet keeps, and what is read of them. A list of versions is in order of key, the versions of
 -- one key in the order in which they were written.
-use Rattle.std.specs.Prelude.{ℕ, ◌<◌, Bool, false, List, [], ◌∷◌, ◌++◌, nat_le, nat_lt, ◌&&◌, ◌||◌, fold, map, if◌then◌else◌}
+use Rattle.std.specs.Prelude.{◌≡◌, ℕ, ◌<◌, Bool, true, false, List, [], ◌∷◌, ◌++◌, nat_le, nat_lt, ◌&&◌, ◌||◌, fold, map, if◌then◌else◌}
 use Rattle.std.specs.List.{filter}
 use Rattle.std.specs.Ordering.{nat_cmp, is_lt}
 use Rattle.std.specs.Cmp.Lexicographic.{slice_cmp}
 use Rattle.std.specs.Str.{bytes_eq}
 use Rattle.row_values.specs.Rows.{applied, absent_row}
 use Rattle.row_values.specs.Codes.{code_of}
+use Rattle.row_values.specs.Elements.{In}
+use Rattle.row_values.specs.Ranges.{in_range}
 use Rattle.row_values.specs.declared.rows.Row.{Row}
 use Rattle.row_values.specs.declared.rows.KeyedRow.{KeyedRow}
 use Rattle.row_values.specs.declared.value.Item.{Item}
@@ -70,10 +72,6 @@ kept_from all (v ∷ vs) c = kept_of all v vs c ++ kept_from all vs c
 abbrev pub kept : List Version → ℕ → List Version
 kept versions c = kept_from versions versions c
 
--- whether a code is in a range of codes, its high end left out
-abbrev pub in_range : ℕ → ℕ → ℕ → Bool
-in_range low high code = nat_le low code && nat_lt code high
-
 -- the versions whose partition code is in the range
 abbrev pub part_of : ℕ → ℕ → List Version → List Version
 part_of low high versions = filter (λ v. in_range low high (code_of v.key)) versions
@@ -97,6 +95,27 @@ rows_at versions x = rows_from versions versions x
 -- one upsert for each row, at one stamp
 abbrev pub of_rows : List KeyedRow → ℕ → List Version
 of_rows rows stamp = map (λ r. record { key = r.key; stamp = stamp; op = Upsert r.row.cells }) rows
+
+-- the versions are the rows of the keys in a range of codes, one upsert each at the stamp
+pub record AreRows (versions : List Version) (low high stamp : ℕ) (row : List ℕ → Row) : Type 0 where
+  pub stamps : (v : Version) → In v versions → v.stamp ≡ stamp
+  pub upserts : versions ≡ of_rows (rows_at versions stamp) stamp
+  pub rows : (key : List ℕ) → in_range low high (code_of key) ≡ true → read_of versions key stamp ≡ row key
+  pub inside : (v : Version) → In v versions → in_range low high (code_of v.key) ≡ true
+
+-- Rows with their keys
+
+abbrev pub InOrderFrom : List ℕ → List KeyedRow → Type 0
+InOrderFrom low [] = Unit {0}
+InOrderFrom low (r ∷ rs) = (precedes r.key low ≡ false) × InOrderFrom r.key rs
+
+-- the keys don't fall
+abbrev pub InOrder : List KeyedRow → Type 0
+InOrder [] = Unit {0}
+InOrder (r ∷ rs) = InOrderFrom r.key rs
+
+abbrev pub of_key : List ℕ → List KeyedRow → List KeyedRow
+of_key key rows = filter (λ r. bytes_eq r.key key) rows
 
 -- each stamp is below n
 abbrev pub Below : ℕ → List Version → Type 0

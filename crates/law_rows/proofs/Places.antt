@@ -5,17 +5,23 @@ use Rattle.std.specs.Str.{bytes_eq}
 use Rattle.row_values.specs.Rows.{cut_to}
 use Rattle.row_values.specs.Codes.{code_of}
 use Rattle.row_values.specs.declared.rows.KeyedRow.{KeyedRow}
-use Rattle.model.specs.Store.{Version, read_of, in_range, present}
+use Rattle.row_values.specs.Store.{Version, read_of, present, of_key}
+use Rattle.row_values.specs.Ranges.{in_range}
+use Rattle.row_values.specs.Elements.{In, in_order}
 use Rattle.model.specs.Acts.{At}
 use Rattle.model.specs.Journal.{Change, row_at}
-use Rattle.model.specs.Lists.{in_order}
 use Rattle.model.specs.Tablets.{Tablet}
 use Rattle.model.specs.RowActs.{rows_asked, rows_in, rows_of_places as rows_of_tablets, cut_rows}
-use Rattle.model.specs.Right.{RowsRight, of_key, is_asked, row_of_place, rows_of_places}
-use Rattle.law_store.specs.Sorted.{ReadsView}
+use Rattle.model.specs.Right.{RowsRight, is_asked, row_of_place, rows_of_places}
 use Rattle.law_store.proofs.Keys.{either_way, equal_keys}
 use Rattle.law_store.proofs.Merging.{by_key, ordered, of_key_ordered, of_key_append, of_key_chosen, in_order_mapped, of_key_mapped, of_key_present, cut_present}
 use Rattle.law_store.proofs.Listing.{of_key_rows_at}
+
+-- the places' tablets read at x as the view does, of the keys in their ranges
+abbrev pub ReadsView : List Change → ℕ → (ℕ → Tablet) → List At → Type 0
+ReadsView changes x tablets places = (place : At) (key : List ℕ) → In place places
+    → in_range (tablets place.slot).low (tablets place.slot).high (code_of key) ≡ true
+    → read_of (tablets place.slot).versions key x ≡ row_at changes x (tablets place.slot).table key
 
 -- what is read of the rows that are asked of a store
 of_key_asked : (asked : Option (List ℕ)) (vs : List Version) (x : ℕ) (key : List ℕ) → of_key key (rows_asked asked vs x) ≡ cond (is_asked asked key) (present key (read_of vs key x)) []

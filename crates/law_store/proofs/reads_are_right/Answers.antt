@@ -1,7 +1,0 @@
--- By the lemmas on rows in order.
-use Rattle.law_store.proofs.Merging.{ordered, of_key_ordered}
-use Rattle.law_store.proofs.Reading.{read_right}
-use Rattle.law_store.proofs.reads_are_right.Goals as goal
-
-pub returns : goal.returns
-returns c = record { ordered = ordered; stable = of_key_ordered; right = read_right }

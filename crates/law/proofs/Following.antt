@@ -16,7 +16,8 @@ use Rattle.model.specs.Parts.{Master, Parts}
 use Rattle.model.specs.Looks.{look_plan, plan_of, least_slots, free_slots, family, slots_of_table, family_of, table_of, holding, active_in, place_of}
 use Rattle.model.specs.Entries.{IsSlot, IsName, IsNamedOp, IsNamedBatch, IsTime, ActAsked}
 use Rattle.row_values.specs.Batches.{IsKey, IsValue, IsOp, IsBatch}
-use Rattle.model.specs.History.{look, ReplyRight}
+use Rattle.model.specs.History.{look}
+use Rattle.model.specs.Replies.{ReplyRight}
 use Rattle.model.specs.Right.{IsActivePlace, PlacesRight, holds_keys}
 use Rattle.model.specs.Scripts.{Time, Micros, MinusMinutes, MinusSeconds, Exact, ToMaster, WriteRows, ReadRow, ReadTable, asked_at, key_alone, at_place, cell_by_id, op_by_id, item_by_id, write_at, acts_after, TimeAsked, ScriptAsked}
 use Rattle.law_invariants.specs.Invariant.{Inv}

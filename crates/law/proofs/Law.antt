@@ -6,7 +6,8 @@ use Rattle.model.specs.Journal as made
 use Rattle.model.specs.Acts.{Act, Split, CreateSchedule, DeleteSchedule, TakeSnapshot, Restore, Look, Change, Write, Read, Cutoff, Compact, Send, Process, Ack, Advance, Remove, Prune, Restart, Stats}
 use Rattle.model.specs.Parts.{Parts}
 use Rattle.model.specs.Entries.{Entry, slots_of, clock_at, stamp_of, ActAsked}
-use Rattle.model.specs.History.{outcome, told, replay, journal_of, activity_of, Legal, Right}
+use Rattle.model.specs.History.{outcome, told, replay, journal_of, activity_of, Legal}
+use Rattle.model.specs.Replies.{Right}
 use Rattle.law_store.proofs.Keys.{either_way}
 use Rattle.law_invariants.specs.Remembered.{activity_after}
 use Rattle.law_invariants.specs.Invariant.{Inv, Keeps, Later}

@@ -4,7 +4,8 @@ use Rattle.std.proofs.lemmas.Bool.{cond_both}
 use Rattle.std.proofs.lemmas.List.{append_assoc}
 use Rattle.model.specs.Acts.{Act, Look, Ask}
 use Rattle.model.specs.Entries.{Entry}
-use Rattle.model.specs.History.{Legal, Right, entry_of}
+use Rattle.model.specs.History.{Legal, entry_of}
+use Rattle.model.specs.Replies.{Right}
 use Rattle.model.specs.Scripts.{ScriptCommand, Tick, ToMaster, Numbered, look_of, acts_of}
 use Rattle.model.specs.Running.{Run, event_of, may_follow, performed, performed_all, after_look, looked, with_look, made_by, with_text, text_of, ran, run_from, run_of, begun}
 

@@ -7,7 +7,7 @@ use Rattle.model.specs.Times.{is_open}
 use Rattle.row_values.specs.Ranges.{in_range}
 use Rattle.model.specs.Activity.{Interval}
 use Rattle.model.specs.Journal.{Change, table_at, row_at}
-use Rattle.model.specs.Tablets.{FrozenSet, is_vacant}
+use Rattle.model.specs.Tablets.{FrozenSet, is_empty}
 use Rattle.model.specs.Parts.{Parts}
 use Rattle.model.specs.Stands.{Stands, LiveStands, FrozenStands, awaited, counted}
 use Rattle.law_invariants.specs.Invariant.{Inv, TurnsAt, is_awaited}
@@ -32,7 +32,7 @@ counted_came (Some point) is i isin turns = ended_then point i.from i.to (filter
 range_same : (low high from to code : ℕ) → low ≡ from → high ≡ to → in_range low high code ≡ true → in_range from to code ≡ true
 range_same low high from to code e f h = rw (← e, ← f) h
 
-live_stands : (ps : Parts) (activity : List Interval) (changes : List Change) (slot : ℕ) → is_vacant (ps.tablet slot).presence ≡ false → Inv ps activity changes → LiveStands ps changes slot
+live_stands : (ps : Parts) (activity : List Interval) (changes : List Change) (slot : ℕ) → is_empty (ps.tablet slot).presence ≡ false → Inv ps activity changes → LiveStands ps changes slot
 live_stands ps activity changes slot present inv = record {
   reads = λ i key x last ranged cut by before point there. (
       let t = ps.tablet slot in
@@ -44,7 +44,7 @@ live_stands ps activity changes slot present inv = record {
       ∙ ap (λ k. row_at changes x k key) (sym g.table_is));
 }
 
-frozen_stands : (ps : Parts) (activity : List Interval) (changes : List Change) (slot : ℕ) (f : FrozenSet) → is_vacant (ps.tablet slot).presence ≡ false → In f (ps.tablet slot).frozen → Inv ps activity changes
+frozen_stands : (ps : Parts) (activity : List Interval) (changes : List Change) (slot : ℕ) (f : FrozenSet) → is_empty (ps.tablet slot).presence ≡ false → In f (ps.tablet slot).frozen → Inv ps activity changes
     → FrozenStands ps changes slot f
 frozen_stands ps activity changes slot f present held inv = record {
   reads = λ i key x listed is active ranged cut by there. (

@@ -10,7 +10,8 @@ use Rattle.model.specs.Parts.{Master, Parts, Outcome, If, judged, answered, refu
 use Rattle.model.specs.Looks.{plan_of, known}
 use Rattle.model.specs.Lines.{schedule_lines, snapshot_lines, restoration_lines, clone_lines, tablet_lines}
 use Rattle.model.specs.Changes.{change, planned, list_tablets}
-use Rattle.model.specs.History.{outcome, ReplyRight, WindowRightOf, WindowRight, CloneWindowRight}
+use Rattle.model.specs.History.{outcome}
+use Rattle.model.specs.Replies.{ReplyRight, WindowRightOf, WindowRight, CloneWindowRight}
 use Rattle.std.specs.Prelude.{is_none}
 use Rattle.law_changes.specs.Commands.{IsOfCatalog}
 use Rattle.law_invariants.specs.Invariant.{Inv, Later}

@@ -11,7 +11,7 @@ use Rattle.model.specs.Times.{before_end, ended, ended_by, is_open}
 use Rattle.model.specs.Activity.{Interval, active_at, end_table_tablets}
 use Rattle.model.specs.Catalog.{TableRecord, namespace_named, owner_of, end_table}
 use Rattle.model.specs.Journal.{Change as Made, ChangeAct, TableDropped, table_at, row_at}
-use Rattle.model.specs.Tablets.{Tablet, Presence, OutOfService, PutOut, effect, is_vacant, is_serving}
+use Rattle.model.specs.Tablets.{Tablet, Presence, HiddenPart, HideSince, effect, is_empty, is_serving}
 use Rattle.model.specs.Stands.{awaited_in}
 use Rattle.model.specs.Acts.{DropTable, Change, UnknownNamespace, UnknownTable, Busy}
 use Rattle.model.specs.Parts.{Master, Parts, Check, If}
@@ -131,9 +131,9 @@ home_cut m id n slot tablet h = in_mapped (cut_off id n) (λ i. i.tablet ≡ tab
 dropped_fixed : (n : ℕ) (id : Id) (changes : List Made) → SameFixed changes (with n (TableDropped id) changes)
 dropped_fixed n id changes = record { fixed = λ ns to. refl; switched = λ ns point is. is; before = λ ns point is. before_any changes ns point _ changes is }
 
-good_cut : (m : Master) (n : ℕ) (changes : List Made) (id : Id) (t : Tablet) (c : ℕ) (p : Presence) (i : Interval) → m.clock < n → is_vacant p ≡ false → (same i.table id ≡ true → awaited_in m.restorations t.tablet t.done ≡ None)
+good_cut : (m : Master) (n : ℕ) (changes : List Made) (id : Id) (t : Tablet) (c : ℕ) (p : Presence) (i : Interval) → m.clock < n → is_empty p ≡ false → (same i.table id ≡ true → awaited_in m.restorations t.tablet t.done ≡ None)
     → OverBy c i.from (end_of id n i) → (end_of id n i ≡ None → awaited_in m.restorations t.tablet t.done ≡ None → is_serving p ≡ true)
-    → ((at : ℕ) → p ≡ OutOfService at → is_awaited (awaited_in m.restorations t.tablet t.done) (end_of id n i) ≡ false → ended_by at (end_of id n i) ≡ true)
+    → ((at : ℕ) → p ≡ HiddenPart at → is_awaited (awaited_in m.restorations t.tablet t.done) (end_of id n i) ≡ false → ended_by at (end_of id n i) ≡ true)
     → IsGood m changes t i → IsGood (table_dropped id n m) (with n (TableDropped id) changes) (record t { clock = c; presence = p }) (cut_off id n i)
 good_cut m n changes id t c p i before present calm over serves hidden g =
     let new = with n (TableDropped id) changes in record {
@@ -186,21 +186,21 @@ pub over_then : (n : ℕ) (to : Option ℕ) (from time : ℕ) → time ≤ n →
 over_then n None from time le h = grind (arith, nat_tests)
 over_then n (Some e) from time le h = let l : e ≤ time = h.1 in grind (arith, nat_tests)
 
-pub stamp_is : (n at : ℕ) → OutOfService n ≡ OutOfService at → n ≡ at
+pub stamp_is : (n at : ℕ) → HiddenPart n ≡ HiddenPart at → n ≡ at
 stamp_is n at e = cc
 
 -- a slot whose tablet is hidden
-slot_hidden : (m : Master) (n : ℕ) (changes : List Made) (id : Id) (slot : ℕ) (t : Tablet) → m.clock < n → t.clock < n → is_vacant t.presence ≡ false → AwaitNone m id
+slot_hidden : (m : Master) (n : ℕ) (changes : List Made) (id : Id) (slot : ℕ) (t : Tablet) → m.clock < n → t.clock < n → is_empty t.presence ≡ false → AwaitNone m id
     → ((i : Interval) → In i m.activity → i.slot ≡ slot → same i.table id ≡ true) → SlotGood m changes slot t
-    → SlotGood (table_dropped id n m) (with n (TableDropped id) changes) slot (effect (PutOut n) n t)
+    → SlotGood (table_dropped id n m) (with n (TableDropped id) changes) slot (effect (HideSince n) n t)
 slot_hidden m n changes id slot t before early present calm of_table h =
     let g = tablet_ticked m n changes slot t (le_of_lt early) h in record {
       good = record { sorted = g.good.sorted; below = g.good.below; cutoff = g.good.cutoff; keys = g.good.keys; set_past = g.good.set_past; set_sorted = g.good.set_sorted; set_keys = g.good.set_keys };
       home = λ hidden. home_cut m id n slot t.tablet (h.home present);
       numbered = h.numbered;
-      each = in_mapped (cut_off id n) (λ i. i.slot ≡ slot → IsGood (table_dropped id n m) (with n (TableDropped id) changes) (effect (PutOut n) n t) i) m.activity
+      each = in_mapped (cut_off id n) (λ i. i.slot ≡ slot → IsGood (table_dropped id n m) (with n (TableDropped id) changes) (effect (HideSince n) n t) i) m.activity
           (λ i isin is. let q = h.each i isin is in
-          good_cut m n changes id t n (OutOfService n) i before refl (calm_here m id t i q.tablet_is isin calm)
+          good_cut m n changes id t n (HiddenPart n) i before refl (calm_here m id t i q.tablet_is isin calm)
           (cond_both (same i.table id) (ended n i.to) i.to (OverBy n i.from)
           (λ e. ended_over i.to i.from t.clock n (let b : i.from ≤ m.clock = q.past.begun in omega arith) (le_of_lt early) q.over)
           (λ e. over_later i.to i.from t.clock n (le_of_lt early) q.over))
@@ -347,7 +347,7 @@ drop_table_keeps ps activity changes n namespace table slots later plan inv =
     let id = (the_table found).id in
     let new = with n (TableDropped id) changes in
     let before : m.clock < n = master_early slots ps n later in
-    by_checks (Change command slots) n ps activity changes (drop_table_checks namespace table m) (accepts command slots (tell slots (PutOut n)) [])
+    by_checks (Change command slots) n ps activity changes (drop_table_checks namespace table m) (accepts command slots (tell slots (HideSince n)) [])
     (λ why. refused_keeps (Change command slots) why n ps activity changes later inv tt refl)
     (λ passes.
     let with_ = with_found found table_dropped_act n changes passes.1.0 in
@@ -368,29 +368,29 @@ drop_table_keeps ps activity changes n namespace table slots later plan inv =
     let all : slots ≡ rising (map (λ j. j.slot) (active_in m id)) = slots_equal slots (plan_of command m) plan ∙ planned_slots m namespace table passes.1.0 in
     record {
       right = tt;
-      inv = subst (Inv (told (Change command slots) (accepts command slots (tell slots (PutOut n)) []) n ps) (end_table_tablets id n activity)) (sym with_) (record {
+      inv = subst (Inv (told (Change command slots) (accepts command slots (tell slots (HideSince n)) []) n ps) (end_table_tablets id n activity)) (sym with_) (record {
         remembered = remembered_dropped m n id activity before inv.remembered;
         cover = dropped_covers activity changes id n inv.cover;
         master = master_dropped m n changes id before (subst (CatalogStands (changed command slots n m)) with_ (catalog_table_dropped m n namespace table slots [] changes (le_of_lt before) passes.1.0 (catalog_of m changes inv.master))) inv.master;
         operations = operations_on m n catalog gone m.drawn m.sent changes new o (λ k. marks_stay m n catalog gone m.drawn changes k (le_of_lt before) inv.operations) inv.operations.owners (λ mark isin. isin) (all_listed m changes inv.master) inv.operations;
-        rows_past = rows_on m n catalog gone m.drawn m.sent changes new ps.tablet _ (le_of_lt before) (clocks_rise (Change command slots) (accepts command slots (tell slots (PutOut n)) []) n ps (λ slot e. tablet_before (0 ∷ slots) ps n slot later e))
+        rows_past = rows_on m n catalog gone m.drawn m.sent changes new ps.tablet _ (le_of_lt before) (clocks_rise (Change command slots) (accepts command slots (tell slots (HideSince n)) []) n ps (λ slot e. tablet_before (0 ∷ slots) ps n slot later e))
             (λ i isin. heard m n id ps slots later (sym all) i isin ((inv.slots i.slot).each i isin refl).slot_from) (λ c table key op isin is. elim isin as (λ _. In c changes) [ inl e ↦ absurd (let q = ap (λ k. k.act) e ∙ is in grind arith) | inr old ↦ old ]) inv.rows_past;
         journal = journal_on m n catalog gone m.drawn m.sent changes new (one_more changes (record { stamp = n; act = TableDropped id }) (λ table_ key op e. let q = e in grind arith) (λ other point. refl)) o.fixed (le_refl _) (le_refl _) o.owners inv.journal;
-        works = slots_told (SlotWorks (table_dropped id n m) new) command slots (tell slots (PutOut n)) [] n ps
+        works = slots_told (SlotWorks (table_dropped id n m) new) command slots (tell slots (HideSince n)) [] n ps
             (λ i is from. (
             let j = planned_active m id i (sym (ap (λ ss. has ss i) all) ∙ is) in
             let g = (inv.slots i).each j.0 j.1.0 j.1.1.0 in
             let one : (v : Interval) → In v m.activity → v.slot ≡ i → owner_of m.catalog.owners v.table ≡ Some ns =
             λ v isin at. ap (owner_of m.catalog.owners) (sym ((inv.slots i).each v isin at).table_is ∙ g.table_is ∙ j.1.1.1) ∙ owner in
-            subst (λ a. SlotWorks (table_dropped id n m) new i (effect a n (ps.tablet i))) (sym (told_same slots (PutOut n) i is))
-            (works_on i (effect (PutOut n) n (ps.tablet i))
+            subst (λ a. SlotWorks (table_dropped id n m) new i (effect a n (ps.tablet i))) (sym (told_same slots (HideSince n) i is))
+            (works_on i (effect (HideSince n) n (ps.tablet i))
             (hidden_works m changes i (ps.tablet i) n ns j.0 (le_of_lt (tablet_early slots ps n i later is from)) g.present inv.operations (all_listed m changes inv.master) free j.1.0 j.1.1.0 one (inv.works i)))))
             (λ i others. works_on i (ps.tablet i) (inv.works i));
-        slots = slots_told (SlotGood (table_dropped id n m) new) command slots (tell slots (PutOut n)) [] n ps
+        slots = slots_told (SlotGood (table_dropped id n m) new) command slots (tell slots (HideSince n)) [] n ps
             (λ i is from. (
             let j = planned_active m id i (sym (ap (λ ss. has ss i) all) ∙ is) in
-            let present : is_vacant (ps.tablet i).presence ≡ false = ((inv.slots i).each j.0 j.1.0 j.1.1.0).present in
-            subst (λ a. SlotGood (table_dropped id n m) new i (effect a n (ps.tablet i))) (sym (told_same slots (PutOut n) i is))
+            let present : is_empty (ps.tablet i).presence ≡ false = ((inv.slots i).each j.0 j.1.0 j.1.1.0).present in
+            subst (λ a. SlotGood (table_dropped id n m) new i (effect a n (ps.tablet i))) (sym (told_same slots (HideSince n) i is))
             (slot_hidden m n changes id i (ps.tablet i) before (tablet_early slots ps n i later is from) present calm
             (λ v isin at. ap (λ table. same table id) (sym ((inv.slots i).each v isin at).table_is ∙ ((inv.slots i).each j.0 j.1.0 j.1.1.0).table_is ∙ j.1.1.1) ∙ same_self id) (inv.slots i))))
             (λ i others. slot_beside m n changes id i (ps.tablet i) before (λ j isin is. stays_ended id n j (λ opened of_table.

@@ -10,7 +10,7 @@ use Rattle.model.specs.Times.{ended_by}
 use Rattle.model.specs.Activity.{Interval, last_of, forget}
 use Rattle.model.specs.Journal.{Change as Made}
 use Rattle.model.specs.Stands.{awaited_in}
-use Rattle.model.specs.Tablets.{Tablet, Presence, Vacant, InService, OutOfService, Empty, Clear, act_for, effect, emptied, standing, is_hidden}
+use Rattle.model.specs.Tablets.{Tablet, Presence, EmptyPart, ServingPart, HiddenPart, Empty, Clear, act_for, effect, emptied, standing, is_hidden}
 use Rattle.model.specs.Acts.{Remove, Refusal, Moved, StalePlan, InWindow, IsListed, Removed}
 use Rattle.model.specs.Parts.{Master, Parts, Outcome, Check, If, Removes, refused}
 use Rattle.model.specs.Cleanup.{floor_of_table, hidden_at, is_hidden_as, lister_of_tablet, removing_unknown, removing_tablet, removed_of}
@@ -34,10 +34,10 @@ use Rattle.law_cleanup.proofs.Emptying.{IsGone, slot_emptied, slot_beside, works
 
 -- What is forgotten
 
-hidden_is : (p : Presence) → is_hidden p ≡ true → p ≡ OutOfService (hidden_at p)
-hidden_is Vacant e = absurd (true≢false (sym e))
-hidden_is InService e = absurd (true≢false (sym e))
-hidden_is (OutOfService at) e = refl
+hidden_is : (p : Presence) → is_hidden p ≡ true → p ≡ HiddenPart (hidden_at p)
+hidden_is EmptyPart e = absurd (true≢false (sym e))
+hidden_is ServingPart e = absurd (true≢false (sym e))
+hidden_is (HiddenPart at) e = refl
 
 -- a tablet that no unfinished restoration lists awaits no rows
 calm : (m : Master) (t : Tablet) (tablet : Id) → Unlisted m tablet → t.tablet ≡ tablet → awaited_in m.restorations t.tablet t.done ≡ None

@@ -8,7 +8,7 @@ use Rattle.row_values.specs.Elements.{In}
 use Rattle.row_values.specs.Slots.{has, rising}
 use Rattle.model.specs.Activity.{Interval, last_from}
 use Rattle.model.specs.Journal.{Change}
-use Rattle.model.specs.Tablets.{Tablet, Mark, BodyKind, FrozenSet, set_of, is_vacant}
+use Rattle.model.specs.Tablets.{Tablet, Mark, BodyKind, FrozenSet, set_of, is_empty}
 use Rattle.model.specs.Records.{SnapshotRecord, RestorationRecord, RestorationState, Fencing, Snapshotting, Switching, Restoring, Releasing, Restored, CloneRecord, CloneState, Accepted, CloneSnapshot, Copying, CloneReleasing, CloneComplete, is_visible, unacked_at}
 use Rattle.model.specs.Coordination.{unfinished_snapshot, pending_of}
 use Rattle.model.specs.Cleanup.{is_present, snapshot_plan}
@@ -251,7 +251,7 @@ in_plan m n target changes r slot t f d ops from h held of =
     let k = h.orders.sets f held in
     let is : k.snapshot ≡ r = d.alone k.snapshot k.kept (k.id_is ∙ of) in
     let lists : In k.line r.listed = subst (λ q. In k.line q.listed) is k.listed in
-    let present : is_vacant t.presence ≡ false = not_passing (is_vacant t.presence) (λ e. subst (In f) (h.orders.bare e).frozen held) in
+    let present : is_empty t.presence ≡ false = not_passing (is_empty t.presence) (λ e. subst (In f) (h.orders.bare e).frozen held) in
     elim (h.obeyed.home present) [
       | inl home ↦ (
           let at = ((ops.snapshots r d.listed).listed_of k.line home.interval lists home.kept (home.tablet_is ∙ sym k.tablet_is)).1 in

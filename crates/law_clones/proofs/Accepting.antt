@@ -11,7 +11,7 @@ use Rattle.model.specs.Catalog.{TableRecord, Owner, tables_at, owner_of, owns, i
 use Rattle.model.specs.Activity.{Interval, active_at}
 use Rattle.model.specs.Restored.{record_at}
 use Rattle.model.specs.Journal.{Change, table_at}
-use Rattle.model.specs.Tablets.{is_vacant}
+use Rattle.model.specs.Tablets.{is_empty}
 use Rattle.model.specs.Records.{Schedule, RestorationRecord, IdPair, TabletPair, CloneRecord, is_cloned, schedule_of}
 use Rattle.model.specs.Schedules.{floor, low}
 use Rattle.model.specs.Stands.{holders}
@@ -380,7 +380,7 @@ new_adds ps activity changes ns s source target to n le may counted inv =
         empty = λ p paired at. (
             let t = ps.tablet slot in
             let isin = (taken p paired).of.isin in
-            either_way (is_vacant t.presence) (λ b. b)
+            either_way (is_empty t.presence) (λ b. b)
             (λ b. absurd (elim ((inv.works slot).obeyed.home b) as (λ _. ⊥) [
               | inl h ↦ free.vacant p.slot isin h.interval h.kept (h.slot_is ∙ sym at)
               | inr h ↦ unreserved h.clone h.pair p h.kept (ap is_cloned h.state_is) h.paired paired (h.slot_is ∙ sym at)

@@ -17,7 +17,7 @@ use Rattle.model.specs.Looks.{free_slots, known, names}
 use Rattle.model.specs.Changed.{changed, next_clone, the_schedule, no_schedule, sources, clone_time, clone_begun}
 use Rattle.model.specs.Changes.{accepts, clone_namespace, named, count_namespaces, most_namespaces}
 use Rattle.model.specs.Parts.{Master, Parts, Check, If}
-use Rattle.model.specs.History.{CloneWindowRight, WindowRightOf}
+use Rattle.model.specs.Replies.{CloneWindowRight, WindowRightOf}
 use Rattle.law_invariants.specs.Invariant.{Inv, Later}
 use Rattle.law_invariants.proofs.Finding.{some_is}
 use Rattle.law_invariants.proofs.Names.{named_is}

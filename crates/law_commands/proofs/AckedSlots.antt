@@ -366,7 +366,7 @@ obeyed_acked m id acked slot changes t ops did h = record {
     | inl k ↦ inl (record { interval = k.interval; kept = k.kept; slot_is = k.slot_is; tablet_is = k.tablet_is })
     | inr k ↦ inr (record { clone = ack_clone id acked k.clone; kept = clone_stays m id acked k.clone k.kept; serving = k.serving; at = k.at; state_is = k.state_is; pair = k.pair; paired = k.paired; slot_is = k.slot_is; tablet_is = k.tablet_is })
   ];
-  snapshots = λ r l isin. each_snapshot m id acked (λ q. In l q.listed → l.slot ≡ slot → (q.complete || l.acked) ≡ true → t.tablet ≡ l.tablet → tell.is_vacant t.presence ≡ false → is_done t.done q.id FreezeKind ≡ true)
+  snapshots = λ r l isin. each_snapshot m id acked (λ q. In l q.listed → l.slot ≡ slot → (q.complete || l.acked) ≡ true → t.tablet ≡ l.tablet → tell.is_empty t.presence ≡ false → is_done t.done q.id FreezeKind ≡ true)
       (λ q inq lists at either is present.
       let w = was (same q.id id) q.listed acked l lists in
       let old : (q.complete || w.line.acked) ≡ true → is_done t.done q.id FreezeKind ≡ true = λ e. h.snapshots q w.line inq w.listed (sym w.slot_is ∙ at) e (is ∙ w.tablet_is) present in

@@ -8,7 +8,7 @@ use Rattle.row_values.specs.Store.{Version, read_of, rows_at, of_rows}
 use Rattle.row_values.specs.Ranges.{in_range}
 use Rattle.model.specs.Activity.{Interval}
 use Rattle.model.specs.Journal.{Change, row_at}
-use Rattle.model.specs.Tablets.{Tablet, InService, Command, Mark, Body, Fence, Freeze, Release, Copy, FenceKind, FreezeKind, CopyKind, FrozenSet, set_of, rows_of_set, cutoff_of_set, processed, is_done}
+use Rattle.model.specs.Tablets.{Tablet, ServingPart, Command, Mark, Body, Fence, Freeze, Release, Copy, FenceKind, FreezeKind, CopyKind, FrozenSet, set_of, rows_of_set, cutoff_of_set, processed, is_done}
 use Rattle.model.specs.Records.{Listed, RestorationRecord, RestorationState, Fencing, Snapshotting, Switching, Restoring, Releasing, Restored, TabletPair, CloneRecord, CloneState, Accepted, CloneSnapshot, Copying, CloneReleasing, CloneComplete, is_cloned, is_visible}
 use Rattle.model.specs.Stands.{AreRowsAt, copied_at}
 use Rattle.model.specs.Parts.{Master}
@@ -58,7 +58,7 @@ visible_interval (CloneComplete serving at) m c l h seen unfinished isin = absur
 abbrev pub copied_with : Tablet → ℕ → Id → TabletPair → List Version → ℕ → Id → List Command → List Mark → Tablet
 copied_with t n tablet p vs at operation inbox done = record t {
   clock = n;
-  presence = InService;
+  presence = ServingPart;
   tablet = tablet;
   table = p.table;
   low = p.low;

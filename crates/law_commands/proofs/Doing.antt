@@ -13,7 +13,7 @@ use Rattle.model.specs.Drawn.{drawn_of}
 use Rattle.model.specs.Activity.{Interval}
 use Rattle.model.specs.Journal.{Change, table_at}
 use Rattle.model.specs.Right.{is_fixed}
-use Rattle.model.specs.Tablets.{Tablet, Command, Mark, Body, RestoreFrom, Hide, FenceKind, FreezeKind, RestoreFromKind, FrozenSet, kind_of, is_done, holds_command, is_vacant, is_serving}
+use Rattle.model.specs.Tablets.{Tablet, Command, Mark, Body, RestoreFrom, Hide, FenceKind, FreezeKind, RestoreFromKind, FrozenSet, kind_of, is_done, holds_command, is_empty, is_serving}
 use Rattle.model.specs.Records.{Listed, SnapshotRecord, RestorationRecord, RestorationState, Fencing, Snapshotting, Switching, Restoring, Releasing, Restored, TabletPair, CloneRecord, CloneState, Accepted, CloneSnapshot, Copying, CloneReleasing, CloneComplete, is_restored, is_cloned, is_visible}
 use Rattle.model.specs.Stands.{NoneTwice, HoldsFrozen, awaited_in, awaited_of, first_of_two, is_restore}
 use Rattle.model.specs.Parts.{Master}
@@ -97,7 +97,7 @@ pub orders_done : (m : Master) (slot : ℕ) (t v : Tablet) (n : ℕ) (c : Comman
     → ((operation : Id) → v.fence ≡ Some operation → IsFence m slot v.table (t.done ++ mark_of c ∷ []) operation)
     → ((r : SnapshotRecord) → In r m.snapshots → is_done (t.done ++ mark_of c ∷ []) r.id FreezeKind ≡ true → HoldsFrozen r.id r.at (done_with v n cs (t.done ++ mark_of c ∷ [])))
     → ((f : FrozenSet) → In f v.frozen → is_done (t.done ++ mark_of c ∷ []) f.snapshot FreezeKind ≡ true) → ((f : FrozenSet) → In f v.frozen → IsSetOf m.snapshots v.tablet f)
-    → is_vacant v.presence ≡ false → OrdersGood m slot t → OrdersGood m slot (done_with v n cs (t.done ++ mark_of c ∷ []))
+    → is_empty v.presence ≡ false → OrdersGood m slot t → OrdersGood m slot (done_with v n cs (t.done ++ mark_of c ∷ []))
 orders_done m slot t v n c cs le is marked fences holds frozen sets present h =
     let once : NoneTwice (c ∷ cs) = subst NoneTwice is h.once in record {
       fences = fences;

@@ -4,7 +4,7 @@ use Rattle.row_values.specs.declared.rows.KeyedRow.{KeyedRow}
 use Rattle.row_values.specs.Ids.{Id}
 use Rattle.row_values.specs.Elements.{In}
 use Rattle.model.specs.Journal.{Change}
-use Rattle.model.specs.Tablets.{Tablet, Command, Fence, Freeze, Release, Copy, FenceKind, FreezeKind, RestoreFromKind, processed, is_vacant}
+use Rattle.model.specs.Tablets.{Tablet, Command, Fence, Freeze, Release, Copy, FenceKind, FreezeKind, RestoreFromKind, processed, is_empty}
 use Rattle.model.specs.Records.{Listed, RestorationRecord, RestorationState, Fencing, Snapshotting, Switching, Restoring, Releasing, Restored, CloneRecord, CloneState, Accepted, CloneSnapshot, Copying, CloneReleasing, CloneComplete}
 use Rattle.model.specs.Parts.{Master}
 use Rattle.law_invariants.specs.Operations.{IsAfterSwitch, FencingGood, RestorationStateGood, CloneStateGood}
@@ -45,7 +45,7 @@ fenced_by m changes slot n t operation tablet cs rows d k =
     let here : IsHere m slot r.namespace = record { interval = open_.0; kept = open_.1.0.kept; slot_is = open_.1.1.1; owned = open_.1.0.owned } in
     let of_table = table_here m changes slot t r.namespace d.good here in
     let old : FencingSlot r slot t = subst (λ s. RestorationSlot s m changes r slot t) is (d.works.obeyed.restorations r k.kept) in
-    let present : is_vacant t.presence ≡ false = (d.good.each here.interval here.kept here.slot_is).present in
+    let present : is_empty t.presence ≡ false = (d.good.each here.interval here.kept here.slot_is).present in
     let o = d.works.orders in
     let mine : FencingSlot r slot u = record {
       acked = λ j lists at a. done_still t.done (mark_of c) r.id FenceKind (old.acked j lists at a);

@@ -5,7 +5,7 @@ use Rattle.row_values.specs.Ids.{Id, same}
 use Rattle.row_values.specs.Elements.{In}
 use Rattle.model.specs.Catalog.{owner_of}
 use Rattle.model.specs.Journal.{Change}
-use Rattle.model.specs.Tablets.{Tablet, Command, Mark, Body, FenceKind, FreezeKind, kind_of, is_done, is_vacant}
+use Rattle.model.specs.Tablets.{Tablet, Command, Mark, Body, FenceKind, FreezeKind, kind_of, is_done, is_empty}
 use Rattle.model.specs.Records.{RestorationRecord, CloneRecord, is_restored, is_cloned}
 use Rattle.model.specs.Parts.{Master}
 use Rattle.law_store.proofs.Keys.{either_way}
@@ -80,7 +80,7 @@ each_clone m changes slot t u c ops good here isin unfinished table_is mine q kn
 -- The tablet stays
 
 -- what it did of what lists it stays, with one more mark
-pub obeyed_done : (m : Master) (changes : List Change) (slot : ℕ) (t u : Tablet) (k : Mark) → is_vacant t.presence ≡ false → is_vacant u.presence ≡ false → u.tablet ≡ t.tablet → u.table ≡ t.table → u.done ≡ t.done ++ k ∷ []
+pub obeyed_done : (m : Master) (changes : List Change) (slot : ℕ) (t u : Tablet) (k : Mark) → is_empty t.presence ≡ false → is_empty u.presence ≡ false → u.tablet ≡ t.tablet → u.table ≡ t.table → u.done ≡ t.done ++ k ∷ []
     → ((r : RestorationRecord) → In r m.restorations → RestorationSlot r.state m changes r slot u) → ((c : CloneRecord) → In c m.clones → CloneSlot c.state m changes c slot u) → ObeyedGood m changes slot t → ObeyedGood m changes slot u
 obeyed_done m changes slot t u k present stays tablet_is table_is done_is restorations clones h = record {
   drawn_table = subst (λ id. id.number ≤ m.drawn.tables) (sym table_is) h.drawn_table;

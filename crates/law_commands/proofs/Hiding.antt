@@ -8,7 +8,7 @@ use Rattle.model.specs.Times.{ended_by}
 use Rattle.model.specs.Catalog.{owner_of}
 use Rattle.model.specs.Activity.{Interval}
 use Rattle.model.specs.Journal.{Change}
-use Rattle.model.specs.Tablets.{Tablet, OutOfService, Command, Mark, Fence, Freeze, Hide, Release, Copy, FenceKind, FreezeKind, RestoreFromKind, HideKind, processed, kind_of, is_vacant}
+use Rattle.model.specs.Tablets.{Tablet, HiddenPart, Command, Mark, Fence, Freeze, Hide, Release, Copy, FenceKind, FreezeKind, RestoreFromKind, HideKind, processed, kind_of, is_empty}
 use Rattle.model.specs.Records.{Listed, RestorationRecord, RestorationState, Fencing, Snapshotting, Switching, Restoring, Releasing, Restored, CloneRecord, CloneState, Accepted, CloneSnapshot, Copying, CloneReleasing, CloneComplete}
 use Rattle.model.specs.Stands.{awaited_in}
 use Rattle.model.specs.Parts.{Master}
@@ -27,10 +27,10 @@ no_end (Some y) x e h = let q = e in grind arith
 
 -- the tablet out of service, without a fence
 abbrev pub hid : Tablet → ℕ → ℕ → List Command → List Mark → Tablet
-hid t n ended inbox done = record t { clock = n; presence = OutOfService ended; fence = None; inbox = inbox; done = done }
+hid t n ended inbox done = record t { clock = n; presence = HiddenPart ended; fence = None; inbox = inbox; done = done }
 
 -- a tablet whose intervals have ended by a time may be hidden from it on
-slot_hidden : (m : Master) (changes : List Change) (slot : ℕ) (t : Tablet) (n at : ℕ) (inbox : List Command) (done : List Mark) → t.clock ≤ n → is_vacant t.presence ≡ false → SameRestores m.restorations t.done done
+slot_hidden : (m : Master) (changes : List Change) (slot : ℕ) (t : Tablet) (n at : ℕ) (inbox : List Command) (done : List Mark) → t.clock ≤ n → is_empty t.presence ≡ false → SameRestores m.restorations t.done done
     → ((i : Interval) → In i m.activity → i.slot ≡ slot → ended_by at i.to ≡ true) → SlotGood m changes slot t → SlotGood m changes slot (hid t n at inbox done)
 slot_hidden m changes slot t n at inbox done le present marks over h =
     let awaits : awaited_in m.restorations t.tablet done ≡ awaited_in m.restorations t.tablet t.done = awaited_kept m.restorations t.tablet t.done done marks in
@@ -62,7 +62,7 @@ slot_hidden m changes slot t n at inbox done le present marks over h =
         waits = λ point e. g.waits point (sym awaits ∙ e);
         comes = λ r point known e opened. g.comes r point known (sym (awaited_of_kept r.state r t.tablet t.done done (marks r known)) ∙ e) opened;
         serves = λ opened none. absurd (no_end i.to at opened (over i isin is));
-        hidden = λ x out counted. (let q : OutOfService at ≡ OutOfService x = out in let e : at ≡ x = cc in ap (λ y. ended_by y i.to) (sym e) ∙ over i isin is);
+        hidden = λ x out counted. (let q : HiddenPart at ≡ HiddenPart x = out in let e : at ≡ x = cc in ap (λ y. ended_by y i.to) (sym e) ∙ over i isin is);
         stands = λ counted key x ranged cut before there. g.stands (ap (λ p. is_awaited p i.to) (sym awaits) ∙ counted) key x ranged cut before there;
         sets = g.sets;
       };
@@ -116,7 +116,7 @@ hidden_by m changes slot n t operation tablet at cs rows d k =
     record {
       good = slot_hidden m changes slot t n at cs (t.done ++ mark_of c ∷ []) le first.present (same_restores m.restorations t.done (mark_of c) (λ e. let q : HideKind ≡ RestoreFromKind = e in grind arith)) over d.good;
       works = record {
-        orders = orders_done m slot t (record t { presence = OutOfService at; fence = None }) n c cs le d.inbox (mark_pending m changes operation slot n l d.operations d.pends (marked_after m changes slot n t operation tablet (Hide at) cs d))
+        orders = orders_done m slot t (record t { presence = HiddenPart at; fence = None }) n c cs le d.inbox (mark_pending m changes operation slot n l d.operations d.pends (marked_after m changes slot n t operation tablet (Hide at) cs d))
             (λ by e. absurd (let q : None ≡ Some by = e in grind arith))
             (λ s known did. let f = o.holds s known (sym (done_beside t.done (mark_of c) s.id FreezeKind (λ e kind. let q : HideKind ≡ FreezeKind = kind in grind arith)) ∙ did) in
             record { set = f.set; held = f.held; time = f.time; inside = f.inside })

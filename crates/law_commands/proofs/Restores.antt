@@ -12,7 +12,7 @@ use Rattle.row_values.specs.Ranges.{in_range}
 use Rattle.model.specs.Catalog.{owner_of}
 use Rattle.model.specs.Activity.{Interval, active_at, active_within}
 use Rattle.model.specs.Journal.{Change, row_at}
-use Rattle.model.specs.Tablets.{Tablet, InService, OutOfService, Command, Mark, Fence, Freeze, RestoreFrom, Release, Copy, FenceKind, FreezeKind, RestoreFromKind, FrozenSet, set_of, rows_of_set, cutoff_of_set, processed, kind_of, is_done, is_vacant}
+use Rattle.model.specs.Tablets.{Tablet, ServingPart, HiddenPart, Command, Mark, Fence, Freeze, RestoreFrom, Release, Copy, FenceKind, FreezeKind, RestoreFromKind, FrozenSet, set_of, rows_of_set, cutoff_of_set, processed, kind_of, is_done, is_empty}
 use Rattle.model.specs.Records.{Listed, RestorationRecord, RestorationState, Fencing, Snapshotting, Switching, Restoring, Releasing, Restored, CloneRecord, CloneState, Accepted, CloneSnapshot, Copying, CloneReleasing, CloneComplete, is_restored, point_of}
 use Rattle.model.specs.Stands.{awaited_in, awaited_of, before_restore, AreRowsAt}
 use Rattle.model.specs.Parts.{Master}
@@ -83,9 +83,9 @@ awaits_of m changes slot t ns done point master good here k =
 
 -- the tablet with rows taken back
 abbrev pub back_with : Tablet → ℕ → ℕ → List Version → ℕ → Id → List Command → List Mark → Tablet
-back_with t n version vs point operation inbox done = record t { clock = n; presence = InService; version = version; versions = vs; cutoff = point; fence = Some operation; inbox = inbox; done = done }
+back_with t n version vs point operation inbox done = record t { clock = n; presence = ServingPart; version = version; versions = vs; cutoff = point; fence = Some operation; inbox = inbox; done = done }
 
-slot_restored : (m : Master) (changes : List Change) (slot : ℕ) (t : Tablet) (n version : ℕ) (vs : List Version) (point to : ℕ) (operation : Id) (inbox : List Command) (done : List Mark) → t.clock ≤ n → point ≤ n → is_vacant t.presence ≡ false
+slot_restored : (m : Master) (changes : List Change) (slot : ℕ) (t : Tablet) (n version : ℕ) (vs : List Version) (point to : ℕ) (operation : Id) (inbox : List Command) (done : List Mark) → t.clock ≤ n → point ≤ n → is_empty t.presence ≡ false
     → Sorted vs → Below (n + 1) vs → EachKey (λ key. in_range t.low t.high (code_of key)) vs
     → ((key : List ℕ) (x : ℕ) → in_range t.low t.high (code_of key) ≡ true → point ≤ x → read_of vs key x ≡ row_at changes to t.table key)
     → awaited_in m.restorations t.tablet t.done ≡ Some point → ((i : Interval) → In i m.activity → i.slot ≡ slot → i.to ≡ None → (ns : Id) × ComesFrom changes ns i point to)
@@ -118,7 +118,7 @@ slot_restored m changes slot t n version vs point to operation inbox done le beg
     waits = λ p e. absurd (let q : None ≡ Some p = sym none ∙ e in grind arith);
     comes = λ r p known e opened. absurd (let q : None ≡ Some p = sym (settled_none m.restorations t.tablet done none r known) ∙ e in grind arith);
     serves = λ opened settled. refl;
-    hidden = λ at out. absurd (let q : InService ≡ OutOfService at = out in grind arith);
+    hidden = λ at out. absurd (let q : ServingPart ≡ HiddenPart at = out in grind arith);
     stands = λ counted key x ranged cut before there. (
         let within_ : in_range t.low t.high (code_of key) ≡ true = ap (λ a. in_range a t.high (code_of key)) g.low_is ∙ ap (λ b. in_range i.low b (code_of key)) g.high_is ∙ ranged in
         reads key x within_ cut ∙ ap (λ id. row_at changes to id key) g.table_is
@@ -234,7 +234,7 @@ restored_by m changes slot n t operation tablet snapshot at version cs rows r kn
           (λ key x ranged from. restored_reads f.versions r.to at key x from ∙ then_reads key ranged) awaited
           (λ i isin there opened. (r.namespace, (d.good.each i isin there).comes r at known waits_of opened)) none d.good;
       works = record {
-        orders = orders_done m slot t (record t { presence = InService; version = version; versions = vs; cutoff = at; fence = Some operation }) n c cs le d.inbox
+        orders = orders_done m slot t (record t { presence = ServingPart; version = version; versions = vs; cutoff = at; fence = Some operation }) n c cs le d.inbox
             (mark_pending m changes operation slot n l d.operations d.pends (marked_after m changes slot n t operation tablet (RestoreFrom snapshot r.to at version) cs d))
             (λ by e. let q : operation ≡ by = cc in inl (record {
               restoration = r;

@@ -10,7 +10,7 @@ use Rattle.model.specs.Catalog.{Catalog, owner_of}
 use Rattle.model.specs.Activity.{Interval}
 use Rattle.model.specs.Journal.{Change, row_at}
 use Rattle.model.specs.Looks.{reserved}
-use Rattle.model.specs.Tablets.{Tablet, Presence, OutOfService, BodyKind, Command, Mark, is_vacant, is_serving, placed}
+use Rattle.model.specs.Tablets.{Tablet, Presence, HiddenPart, BodyKind, Command, Mark, is_empty, is_serving, placed}
 use Rattle.model.specs.Records.{Listed, RestorationRecord, RestorationState, Fencing, Snapshotting, Switching, Restoring, Releasing, Restored, TabletPair, IdPair, CloneRecord, CloneState, Accepted, CloneSnapshot, Copying, CloneReleasing, CloneComplete, Sent, is_restored, is_cloned, is_visible}
 use Rattle.model.specs.Coordination.{pending_of}
 use Rattle.model.specs.Stands.{AreRowsAt, before_restore}
@@ -395,9 +395,9 @@ visible_active (CloneReleasing serving at) m c l slot ns seen unfinished h isin 
 visible_active (CloneComplete serving at) m c l slot ns seen unfinished h isin is one = absurd (true≢false unfinished)
 
 -- where no operation holds the namespace of a slot's tablet, the tablet may be hidden
-pub hidden_works : (m : Master) (changes : List Change) (slot : ℕ) (t : Tablet) (n : ℕ) (ns : Id) (j : Interval) → t.clock ≤ n → is_vacant t.presence ≡ false → OperationsGood m changes
+pub hidden_works : (m : Master) (changes : List Change) (slot : ℕ) (t : Tablet) (n : ℕ) (ns : Id) (j : Interval) → t.clock ≤ n → is_empty t.presence ≡ false → OperationsGood m changes
     → ((r : RestorationRecord) → In r m.restorations → ListedOf m r) → NotHeld m ns → In j m.activity → j.slot ≡ slot
-    → ((i : Interval) → In i m.activity → i.slot ≡ slot → owner_of m.catalog.owners i.table ≡ Some ns) → SlotWorks m changes slot t → SlotWorks m changes slot (record t { clock = n; presence = OutOfService n })
+    → ((i : Interval) → In i m.activity → i.slot ≡ slot → owner_of m.catalog.owners i.table ≡ Some ns) → SlotWorks m changes slot t → SlotWorks m changes slot (record t { clock = n; presence = HiddenPart n })
 hidden_works m changes slot t n ns j le present ops of free isin is one h = let o = h.orders in let b = h.obeyed in record {
   orders = record {
     fences = o.fences;
@@ -414,14 +414,14 @@ hidden_works m changes slot t n ns j le present ops of free isin is one h = let 
     drawn_table = b.drawn_table;
     home = λ hidden. b.home present;
     snapshots = λ r l known lists at acked same_ hidden. b.snapshots r l known lists at acked same_ present;
-    restorations = λ r known. hidden_restorations r.state m changes r slot t n (OutOfService n) le
+    restorations = λ r known. hidden_restorations r.state m changes r slot t n (HiddenPart n) le
         (λ l lists at unfinished.
         let k = (ops.restorations r known).known unfinished l lists in
         let q : Some r.namespace ≡ Some ns = sym ((of r known).owner l lists k.interval k.kept k.tablet_is) ∙ one k.interval k.kept (k.slot_is ∙ at) in
         let e : r.namespace ≡ ns = cc in
         free.restoration r known unfinished e)
         (b.restorations r known);
-    clones = λ c known. (let g = ops.clones c known in hidden_clones c.state m changes c slot t n (OutOfService n) refl
+    clones = λ c known. (let g = ops.clones c known in hidden_clones c.state m changes c slot t n (HiddenPart n) refl
         (λ p paired at unseen. (g.reserved unseen p paired).free j isin (is ∙ sym at))
         (λ l lists at seen unfinished. free.clone c known unfinished (visible_active c.state m c l slot ns seen unfinished g.in_state lists at one))
         (b.clones c known));

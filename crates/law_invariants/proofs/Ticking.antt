@@ -10,7 +10,8 @@ use Rattle.model.specs.Tablets.{Tablet}
 use Rattle.model.specs.Acts.{Act, Reply, Refused, Refusal}
 use Rattle.model.specs.Parts.{Master, Parts, Check, If, Outcome, judged, refused, answered}
 use Rattle.model.specs.Entries.{slots_of, clock_at}
-use Rattle.model.specs.History.{told, with_changes, ReplyRight}
+use Rattle.model.specs.History.{told, with_changes}
+use Rattle.model.specs.Replies.{ReplyRight}
 use Rattle.law_invariants.specs.Remembered.{activity_after, Remembered}
 use Rattle.law_invariants.specs.Invariant.{EndsBy, OverBy, IsPast, NamespacesStand, TablesStand, IsGood, SlotGood, Covered, MasterGood, Inv, Keeps, Later, Passes}
 use Rattle.law_invariants.proofs.Remembering.{activity_stays, remembered_ticked_if}

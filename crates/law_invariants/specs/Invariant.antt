@@ -15,14 +15,15 @@ use Rattle.model.specs.Catalog.{Catalog, NamespaceRecord, TableRecord, KeptFrom,
 use Rattle.model.specs.Activity.{Interval, active_at}
 use Rattle.model.specs.Restored.{record_at}
 use Rattle.model.specs.Journal.{Change, TableView, namespace_at, table_at, row_at}
-use Rattle.model.specs.Tablets.{Tablet, OutOfService, FrozenSet, is_vacant, is_serving}
+use Rattle.model.specs.Tablets.{Tablet, HiddenPart, FrozenSet, is_empty, is_serving}
 use Rattle.model.specs.Stands.{awaited_in, awaited_of, holders, before_restore}
 use Rattle.model.specs.Records.{Schedule, Listed, RestorationRecord}
 use Rattle.model.specs.Schedules.{complete_to}
 use Rattle.model.specs.Entries.{clock_at}
 use Rattle.model.specs.Acts.{Act, Reply}
 use Rattle.model.specs.Right.{is_fixed, NothingLate}
-use Rattle.model.specs.History.{ReplyRight, with_changes}
+use Rattle.model.specs.Replies.{ReplyRight}
+use Rattle.model.specs.History.{with_changes}
 use Rattle.model.specs.Parts.{Master, Parts, Check, If}
 use Rattle.law_store.specs.Sorted.{Sorted, EachKey}
 use Rattle.law_invariants.specs.Remembered.{Remembered}
@@ -148,7 +149,7 @@ pub record IsGood (m : Master) (changes : List Change) (t : Tablet) (i : Interva
   pub drawn_table : i.table.number ≤ m.drawn.tables
   pub slot_from : 1 ≤ i.slot
   pub slot_to : i.slot ≤ m.slots
-  pub present : is_vacant t.presence ≡ false
+  pub present : is_empty t.presence ≡ false
   pub tablet_is : t.tablet ≡ i.tablet
   pub table_is : t.table ≡ i.table
   pub low_is : t.low ≡ i.low
@@ -160,7 +161,7 @@ pub record IsGood (m : Master) (changes : List Change) (t : Tablet) (i : Interva
   pub comes : (r : RestorationRecord) (point : ℕ) → In r m.restorations → awaited_of r.state r t.tablet t.done ≡ Some point → i.to ≡ None → ComesFrom changes r.namespace i point r.to
   -- a tablet whose rows came is in service while it is active, and is hidden only from the end of its activity on
   pub serves : i.to ≡ None → awaited_in m.restorations t.tablet t.done ≡ None → is_serving t.presence ≡ true
-  pub hidden : (at : ℕ) → t.presence ≡ OutOfService at → is_awaited (awaited_in m.restorations t.tablet t.done) i.to ≡ false → ended_by at i.to ≡ true
+  pub hidden : (at : ℕ) → t.presence ≡ HiddenPart at → is_awaited (awaited_in m.restorations t.tablet t.done) i.to ≡ false → ended_by at i.to ≡ true
   pub stands : is_awaited (awaited_in m.restorations t.tablet t.done) i.to ≡ false → StandsIn t changes i
   pub sets : (f : FrozenSet) → In f t.frozen → SetStands f changes i
 
@@ -177,7 +178,7 @@ pub record IsOpen (m : Master) (slot : ℕ) (t : Tablet) : Type 0 where
 pub record SlotGood (m : Master) (changes : List Change) (slot : ℕ) (t : Tablet) : Type 0 where
   pub good : TabletGood t
   -- a tablet has all its intervals in one slot
-  pub home : is_vacant t.presence ≡ false → (i : Interval) → In i m.activity → i.tablet ≡ t.tablet → i.slot ≡ slot
+  pub home : is_empty t.presence ≡ false → (i : Interval) → In i m.activity → i.tablet ≡ t.tablet → i.slot ≡ slot
   pub numbered : t.tablet.number ≤ m.drawn.tablets
   pub each : (i : Interval) → In i m.activity → i.slot ≡ slot → IsGood m changes t i
   pub opens : is_serving t.presence ≡ true → t.fence ≡ None → IsOpen m slot t

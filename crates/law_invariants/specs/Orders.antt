@@ -7,7 +7,7 @@ use Rattle.row_values.specs.Elements.{In}
 use Rattle.model.specs.Catalog.{owner_of}
 use Rattle.model.specs.Activity.{Interval}
 use Rattle.model.specs.Journal.{Change, RowChanged}
-use Rattle.model.specs.Tablets.{Tablet, OutOfService, Release, BodyKind, FenceKind, FreezeKind, RestoreFromKind, HideKind, CopyKind, ReleaseKind, kind_of, Command, Mark, FrozenSet, is_vacant, is_serving, is_done}
+use Rattle.model.specs.Tablets.{Tablet, HiddenPart, Release, BodyKind, FenceKind, FreezeKind, RestoreFromKind, HideKind, CopyKind, ReleaseKind, kind_of, Command, Mark, FrozenSet, is_empty, is_serving, is_done}
 use Rattle.model.specs.Records.{Listed, SnapshotRecord, RestorationRecord, RestorationState, Fencing, Snapshotting, Switching, Restoring, Releasing, Restored, TabletPair, IdPair, CloneRecord, CloneState, Accepted, CloneSnapshot, Copying, CloneReleasing, CloneComplete, point_of}
 use Rattle.model.specs.Coordination.{pending}
 use Rattle.model.specs.Stands.{is_restore, is_after_switch, copied_at, NoneTwice, HoldsFrozen, AreRowsAt, before_restore}
@@ -136,7 +136,7 @@ pub record OrdersGood (m : Master) (slot : ℕ) (t : Tablet) : Type 0 where
   pub holds : (r : SnapshotRecord) → In r m.snapshots → is_done t.done r.id FreezeKind ≡ true → HoldsFrozen r.id r.at t
   pub frozen : (f : FrozenSet) → In f t.frozen → is_done t.done f.snapshot FreezeKind ≡ true
   pub sets : (f : FrozenSet) → In f t.frozen → IsSetOf m.snapshots t.tablet f
-  pub bare : is_vacant t.presence ≡ true → IsBare t
+  pub bare : is_empty t.presence ≡ true → IsBare t
 
 -- What a slot's tablet did
 
@@ -164,7 +164,7 @@ pub record RestoringSlot (changes : List Change) (r : RestorationRecord) (point 
   pub acked : l.acked ≡ true → is_done t.done r.id (kind_of l.body) ≡ true
   pub fenced : is_serving t.presence ≡ true → t.fence ≡ Some r.id
   pub restored : is_restore l.body ≡ true → is_done t.done r.id RestoreFromKind ≡ true → IsRestored changes r point t
-  pub hidden : is_restore l.body ≡ false → is_done t.done r.id HideKind ≡ true → (t.presence ≡ OutOfService point) × (t.fence ≡ None)
+  pub hidden : is_restore l.body ≡ false → is_done t.done r.id HideKind ≡ true → (t.presence ≡ HiddenPart point) × (t.fence ≡ None)
 
 -- a listed tablet serves, and is fenced until it is released
 pub record ReleasingSlot (operation : Id) (l : Listed) (t : Tablet) : Type 0 where
@@ -194,14 +194,14 @@ pub record IsCopy (changes : List Change) (c : CloneRecord) (at : ℕ) (p : Tabl
 
 pub record CopyingSlot (m : Master) (changes : List Change) (c : CloneRecord) (at slot : ℕ) (t : Tablet) : Type 0 where
   pub acked : (l : Listed) → In l c.listed → l.slot ≡ slot → l.acked ≡ true → is_done t.done c.id CopyKind ≡ true
-  pub empty : (p : TabletPair) → In p c.tablets → p.slot ≡ slot → is_done t.done c.id CopyKind ≡ false → is_vacant t.presence ≡ true
+  pub empty : (p : TabletPair) → In p c.tablets → p.slot ≡ slot → is_done t.done c.id CopyKind ≡ false → is_empty t.presence ≡ true
   pub copied : (p : TabletPair) → In p c.tablets → p.slot ≡ slot → is_done t.done c.id CopyKind ≡ true → IsCopy changes c at p t
   -- a tablet of the source that takes writes stamps only later ones than those that are copied
   pub later : is_serving t.presence ≡ true → t.fence ≡ None → owner_of m.catalog.owners t.table ≡ Some c.source → c.to ≤ t.clock
 
 -- the slots of the targets are empty
 pub record ReservedSlot (c : CloneRecord) (slot : ℕ) (t : Tablet) : Type 0 where
-  pub empty : (p : TabletPair) → In p c.tablets → p.slot ≡ slot → is_vacant t.presence ≡ true
+  pub empty : (p : TabletPair) → In p c.tablets → p.slot ≡ slot → is_empty t.presence ≡ true
 
 abbrev pub CloneSlot : CloneState → Master → List Change → CloneRecord → ℕ → Tablet → Type 0
 CloneSlot Accepted m changes c slot t = ReservedSlot c slot t
@@ -230,9 +230,9 @@ pub record IsTarget (m : Master) (slot : ℕ) (tablet : Id) : Type 0 where
 
 pub record ObeyedGood (m : Master) (changes : List Change) (slot : ℕ) (t : Tablet) : Type 0 where
   pub drawn_table : t.table.number ≤ m.drawn.tables
-  pub home : is_vacant t.presence ≡ false → IsHome m slot t.tablet ⊎ IsTarget m slot t.tablet
+  pub home : is_empty t.presence ≡ false → IsHome m slot t.tablet ⊎ IsTarget m slot t.tablet
   pub snapshots : (r : SnapshotRecord) (l : Listed) → In r m.snapshots → In l r.listed → l.slot ≡ slot → (r.complete || l.acked) ≡ true
-      → t.tablet ≡ l.tablet → is_vacant t.presence ≡ false → is_done t.done r.id FreezeKind ≡ true
+      → t.tablet ≡ l.tablet → is_empty t.presence ≡ false → is_done t.done r.id FreezeKind ≡ true
   pub restorations : (r : RestorationRecord) → In r m.restorations → RestorationSlot r.state m changes r slot t
   pub clones : (c : CloneRecord) → In c m.clones → CloneSlot c.state m changes c slot t
 

@@ -5,7 +5,7 @@ use Rattle.std.proofs.lemmas.Bool.Decides.{nat_tests}
 use Rattle.row_values.specs.Slots.{same_slots, has}
 use Rattle.model.specs.Catalog.{TableRecord, namespace_named}
 use Rattle.model.specs.Activity.{Interval}
-use Rattle.model.specs.Tablets.{Tablet, PutOut}
+use Rattle.model.specs.Tablets.{Tablet, HideSince}
 use Rattle.model.specs.Acts.{Command, CreateNamespace, DropNamespace, CreateTable, AddColumn, DropColumn, RenameTable, DropTable, Split, CreateSchedule, DeleteSchedule, TakeSnapshot, Restore, CloneNamespace, ListSchedules, ListSnapshots, ListRestorations, ListClones, ListTablets, Change, UnknownNamespace, UnknownTable, Busy, TooNarrow, SlotsFull, StalePlan}
 use Rattle.model.specs.Parts.{Master, Parts, Outcome, If, Check}
 use Rattle.model.specs.Operations.{holder}
@@ -49,7 +49,7 @@ unfolding split
 split_same namespace table code slots n m f g alike =
     let parent = parent_of m namespace table code in
     let made : Tablet → Outcome = λ t. accepts (Split namespace table code) slots
-    (record { slot = parent.slot; act = PutOut n } ∷ tell_children (children parent code slots n m) (the_table (table_of m namespace table)).schema.version t)
+    (record { slot = parent.slot; act = HideSince n } ∷ tell_children (children parent code slots n m) (the_table (table_of m namespace table)).schema.version t)
     (next_tablet m 1 ∷ next_tablet m 2 ∷ []) in
     judged_same (split_checks namespace table code m) (made (f parent.slot)) (made (g parent.slot)) (λ passes. ap made (alike passes.1.0 passes.1.1.1.1.0))
 

@@ -12,7 +12,7 @@ use Rattle.model.specs.Parts.{Parts, Outcome, If, judged, answered}
 use Rattle.row_values.specs.Elements.{AllOf, in_order}
 use Rattle.model.specs.Entries.{IsSlot}
 use Rattle.model.specs.Looks.{names}
-use Rattle.model.specs.RowActs.{read, moved, covers, is_empty, goes_on, moved_from_key, moved_from_scan, first_moved, first_fence, other_version, stale, first_cutoff, rows_in, rows_of_places, cut_rows}
+use Rattle.model.specs.RowActs.{read, has_moved, covers, none_left, goes_on, moved_from_key, moved_from_scan, first_moved, first_fence, other_version, stale, first_cutoff, rows_in, rows_of_places, cut_rows}
 use Rattle.law_local.specs.Agreeing.{Agree}
 use Rattle.law_local.proofs.Agreement.{has_first, agree_rest}
 
@@ -29,14 +29,14 @@ places_same (place ∷ places) slots p q asked a =
 key_same : (places : List At) (key : List ℕ) (f g : ℕ → Tablet) → AtPlaces places f g → moved_from_key places key f ≡ moved_from_key places key g
 key_same [] key f g same = refl
 key_same (place ∷ places) key f g same =
-    ap (λ t. cond (serves t place.tablet && covers t key) (moved_from_key places key f) (Some (moved place.slot t))) same.0
-    ∙ ap (λ r. cond (serves (g place.slot) place.tablet && covers (g place.slot) key) r (Some (moved place.slot (g place.slot)))) (key_same places key f g same.1)
+    ap (λ t. cond (serves t place.tablet && covers t key) (moved_from_key places key f) (Some (has_moved place.slot t))) same.0
+    ∙ ap (λ r. cond (serves (g place.slot) place.tablet && covers (g place.slot) key) r (Some (has_moved place.slot (g place.slot)))) (key_same places key f g same.1)
 
 scan_same : (places : List At) (from : ℕ) (f g : ℕ → Tablet) → AtPlaces places f g → moved_from_scan places from f ≡ moved_from_scan places from g
 scan_same [] from f g same = refl
 scan_same (place ∷ places) from f g same =
-    ap (λ t. cond (goes_on from (is_empty places) place.tablet t) (moved_from_scan places t.high f) (Some (moved place.slot t))) same.0
-    ∙ ap (λ r. cond (goes_on from (is_empty places) place.tablet (g place.slot)) r (Some (moved place.slot (g place.slot)))) (scan_same places (g place.slot).high f g same.1)
+    ap (λ t. cond (goes_on from (none_left places) place.tablet t) (moved_from_scan places t.high f) (Some (has_moved place.slot t))) same.0
+    ∙ ap (λ r. cond (goes_on from (none_left places) place.tablet (g place.slot)) r (Some (has_moved place.slot (g place.slot)))) (scan_same places (g place.slot).high f g same.1)
 
 moved_same : (key : Option (List ℕ)) (places : List At) (f g : ℕ → Tablet) → AtPlaces places f g → first_moved key places f ≡ first_moved key places g
 moved_same None places f g same = scan_same places 0 f g same

@@ -9,7 +9,8 @@ use Rattle.model.specs.Tablets.{Tablet, act_for, effect}
 use Rattle.model.specs.Acts.{Act}
 use Rattle.model.specs.Parts.{Master, Parts, Outcome}
 use Rattle.model.specs.Entries.{slots_of}
-use Rattle.model.specs.History.{told, master_effect, with_changes, ReplyRight, is_removal}
+use Rattle.model.specs.History.{told, master_effect, with_changes, is_removal}
+use Rattle.model.specs.Replies.{ReplyRight}
 use Rattle.law_store.proofs.Keys.{either_way}
 use Rattle.law_invariants.specs.Remembered.{activity_after}
 use Rattle.law_invariants.specs.Invariant.{Inv}

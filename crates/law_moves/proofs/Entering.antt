@@ -7,7 +7,7 @@ use Rattle.row_values.specs.Elements.{In}
 use Rattle.model.specs.Activity.{Interval}
 use Rattle.model.specs.Catalog.{owner_of}
 use Rattle.model.specs.Journal.{Change}
-use Rattle.model.specs.Tablets.{Mark, is_vacant}
+use Rattle.model.specs.Tablets.{Mark, is_empty}
 use Rattle.model.specs.Records.{Listed, RestorationRecord, RestorationState, Fencing, CloneRecord, is_restored, point_of, unsent, schedule_of}
 use Rattle.model.specs.Schedules.{floor}
 use Rattle.model.specs.Stands.{awaited_in, awaited_of, first_of_two}
@@ -69,7 +69,7 @@ pub record Enters (ps : Parts) (changes : List Change) (n : ℕ) (r : Restoratio
   pub point : (at : ℕ) → point_of state ≡ Some at → (point_of r.state ≡ Some at) ⊎ (stage_of_restoration r.state ≡ 1)
   pub undone : (at : ℕ) → point_of state ≡ Some at → AfterRowsOf ps.master.catalog.owners r.namespace at changes
   pub unawaited : (tablet : Id) (done : List Mark) → awaited_of state (entered r state listed) tablet done ≡ None
-  pub settled : (slot : ℕ) → is_vacant (ps.tablet slot).presence ≡ false → awaited_of r.state r (ps.tablet slot).tablet (ps.tablet slot).done ≡ None
+  pub settled : (slot : ℕ) → is_empty (ps.tablet slot).presence ≡ false → awaited_of r.state r (ps.tablet slot).tablet (ps.tablet slot).done ≡ None
   pub known : (l : Listed) → In l listed → IsKnown ps.master l
   pub listed_of : (l : Listed) (i : Interval) → In l listed → In i ps.master.activity → i.tablet ≡ l.tablet → owner_of ps.master.catalog.owners i.table ≡ Some r.namespace
   pub state_good : RestorationStateGood state (recorded ps.master (enters r state listed n ps.master)) changes (entered r state listed)

@@ -6,7 +6,7 @@ use Rattle.row_values.specs.Elements.{In}
 use Rattle.model.specs.Activity.{Interval}
 use Rattle.model.specs.Catalog.{owner_of}
 use Rattle.model.specs.Journal.{Change}
-use Rattle.model.specs.Tablets.{Mark, is_vacant}
+use Rattle.model.specs.Tablets.{Mark, is_empty}
 use Rattle.model.specs.Records.{Listed, Schedule, SnapshotRecord, RestorationRecord, Fencing, CloneRecord, Sent, is_restored, is_cloned, is_visible, point_of}
 use Rattle.model.specs.Schedules.{complete_to}
 use Rattle.model.specs.Stands.{awaited_in, awaited_of}
@@ -139,7 +139,7 @@ pub record Onto (ps : Parts) (changes : List Change) (w : Records) : Type 0 wher
   -- a restore of the journal is that of a restoration that has switched, and points of a namespace differ
   pub restored : (ns : Id) (point : ℕ) → is_switched changes ns point ≡ true → IsSwitchedBy w.restorations ns point
   pub one_point : (q r : RestorationRecord) (point : ℕ) → In q w.restorations → In r w.restorations → q.namespace ≡ r.namespace → point_of q.state ≡ Some point → point_of r.state ≡ Some point → q ≡ r
-  pub awaits : (slot : ℕ) → is_vacant (ps.tablet slot).presence ≡ false
+  pub awaits : (slot : ℕ) → is_empty (ps.tablet slot).presence ≡ false
       → awaited_in w.restorations (ps.tablet slot).tablet (ps.tablet slot).done ≡ awaited_in ps.master.restorations (ps.tablet slot).tablet (ps.tablet slot).done
   pub fences : (slot : ℕ) (operation : Id) → IsFence ps.master slot (ps.tablet slot).table (ps.tablet slot).done operation → IsFence (recorded ps.master w) slot (ps.tablet slot).table (ps.tablet slot).done operation
   pub pendings : (operation : Id) (slot : ℕ) (l : Listed) → pending ps.master operation slot ≡ Some l → pending (recorded ps.master w) operation slot ≡ Some l

@@ -23,7 +23,7 @@ use Rattle.model.specs.Looks.{known, names}
 use Rattle.model.specs.Parts.{Master, Parts, Drawn, Check, If, Outcome, judged, refused}
 use Rattle.model.specs.Changes.{accepts, restore}
 use Rattle.model.specs.Changed.{changed, next_restoration, the_schedule, no_schedule}
-use Rattle.model.specs.History.{WindowRight, WindowRightOf}
+use Rattle.model.specs.Replies.{WindowRight, WindowRightOf}
 use Rattle.law_store.proofs.Keys.{either_way}
 use Rattle.law_invariants.specs.Operations.{IsKnown, IsOpenOf, Uses}
 use Rattle.law_invariants.specs.Invariant.{Inv, Later}

@@ -5,7 +5,7 @@ use Rattle.row_values.specs.Ids.{Table, Tablet as TabletKind, Id, same}
 use Rattle.row_values.specs.Elements.{In}
 use Rattle.model.specs.Activity.{Interval}
 use Rattle.model.specs.Journal.{Change}
-use Rattle.model.specs.Tablets.{Tablet, Presence, Vacant, InService, OutOfService, BodyKind, FenceKind, FreezeKind, RestoreFromKind, HideKind, CopyKind, ReleaseKind, Mark, is_vacant, is_serving, is_mark, is_done, kind_of, set_of}
+use Rattle.model.specs.Tablets.{Tablet, Presence, EmptyPart, ServingPart, HiddenPart, BodyKind, FenceKind, FreezeKind, RestoreFromKind, HideKind, CopyKind, ReleaseKind, Mark, is_empty, is_serving, is_mark, is_done, kind_of, set_of}
 use Rattle.model.specs.Records.{SnapshotRecord, RestorationRecord, RestorationState, Fencing, Snapshotting, Switching, Restoring, Releasing, Restored, CloneRecord, CloneState, Accepted, CloneSnapshot, Copying, CloneReleasing, CloneComplete}
 use Rattle.model.specs.Stands.{is_after_switch}
 use Rattle.model.specs.Drawn.{drawn_of}
@@ -47,10 +47,10 @@ good_on ps changes w slot i o g =
       sets = g.sets;
     }
 
-serving_present : (p : Presence) → is_serving p ≡ true → is_vacant p ≡ false
-serving_present Vacant e = absurd (true≢false (sym e))
-serving_present InService e = refl
-serving_present (OutOfService at) e = refl
+serving_present : (p : Presence) → is_serving p ≡ true → is_empty p ≡ false
+serving_present EmptyPart e = absurd (true≢false (sym e))
+serving_present ServingPart e = refl
+serving_present (HiddenPart at) e = refl
 
 pub slot_on : (ps : Parts) (changes : List Change) (w : Records) (slot : ℕ) → Onto ps changes w → SlotGood ps.master changes slot (ps.tablet slot) → SlotGood (recorded ps.master w) changes slot (ps.tablet slot)
 slot_on ps changes w slot o h = let t = ps.tablet slot in record {

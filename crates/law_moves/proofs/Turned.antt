@@ -11,7 +11,7 @@ use Rattle.model.specs.Activity.{Interval, active_at}
 use Rattle.model.specs.Catalog.{owner_of, owns}
 use Rattle.model.specs.Restored.{begun_at}
 use Rattle.model.specs.Journal.{Change, NamespaceRestored, RowChanged, table_at, row_at}
-use Rattle.model.specs.Tablets.{Presence, OutOfService, is_serving}
+use Rattle.model.specs.Tablets.{Presence, HiddenPart, is_serving}
 use Rattle.model.specs.Records.{RestorationRecord, RestorationState, Fencing, Snapshotting, Switching, Restoring, Releasing, Restored, is_restored, point_of}
 use Rattle.model.specs.Stands.{awaited_in, awaited_of, before_restore}
 use Rattle.model.specs.Right.{is_fixed}
@@ -103,7 +103,7 @@ hidden_now (Some t) point at never h = h t refl
 some_closed : (to : Option ℕ) (e : ℕ) (a : Option ℕ) → to ≡ Some e → is_awaited a to ≡ false
 some_closed to e a is = ap (is_awaited a) is
 
-not_serving : (p : Presence) (at : ℕ) → p ≡ OutOfService at → is_serving p ≡ true → ⊥
+not_serving : (p : Presence) (at : ℕ) → p ≡ HiddenPart at → is_serving p ≡ true → ⊥
 not_serving p at e s = true≢false (sym s ∙ ap is_serving e)
 
 -- What an interval and its tablet stand for

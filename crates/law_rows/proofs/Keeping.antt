@@ -9,14 +9,14 @@ use Rattle.row_values.specs.Store.{kept}
 use Rattle.row_values.specs.Codes.{code_of}
 use Rattle.law_store.proofs.Members.{keys_kept}
 use Rattle.model.specs.Journal.{Change}
-use Rattle.model.specs.Tablets.{is_vacant, RaiseCutoff, Compact as CompactTablet, Restart as RestartTablet}
+use Rattle.model.specs.Tablets.{is_empty, RaiseCutoff, Compact as CompactTablet, Restart as RestartTablet}
 use Rattle.model.specs.Records.{Schedule, Listed, RestorationRecord, Restoring, is_restored, schedule_of}
 use Rattle.model.specs.Schedules.{allowed_cutoff, complete_to}
 use Rattle.model.specs.Acts.{Cutoff, Compact, Restart, Stats, Ok, CutoffAt, Compacted}
 use Rattle.model.specs.Parts.{Master, Parts, If, Restarts}
 use Rattle.model.specs.Coordination.{restarted_master}
 use Rattle.model.specs.Entries.{slots_of, clock_at}
-use Rattle.model.specs.RowActs.{stats, restart, compact, cutoff, table_in, schedule_at, moved}
+use Rattle.model.specs.RowActs.{stats, restart, compact, cutoff, table_in, schedule_at, has_moved}
 use Rattle.law_store.proofs.Compaction.{compaction, sorted_kept, below_kept}
 use Rattle.law_store.proofs.Keys.{either_way}
 use Rattle.law_invariants.specs.Invariant.{Inv, Later}
@@ -64,7 +64,7 @@ compact_keeps ps activity changes n slot later from inv =
     let h = inv.slots slot in
     let w = inv.works slot in
     let le : t.clock ≤ n = le_of_lt (clock_before (slot ∷ []) ps n slot later from (has_it slot [])) in
-    by_checks (Compact slot) n ps activity changes (If (is_vacant t.presence) (moved slot t) ∷ []) (tells slot CompactTablet (Compacted (length t.versions) (length (kept t.versions t.cutoff))))
+    by_checks (Compact slot) n ps activity changes (If (is_empty t.presence) (has_moved slot t) ∷ []) (tells slot CompactTablet (Compacted (length t.versions) (length (kept t.versions t.cutoff))))
     (λ why. refused_keeps (Compact slot) why n ps activity changes later inv tt refl)
     (λ passes. record {
       right = tt;
@@ -148,7 +148,7 @@ cutoff_keeps ps activity changes n slot later from inv =
     let to = allowed_cutoff (schedule_at ps.master slot) n in
     let le : t.clock ≤ n = le_of_lt (clock_before (0 ∷ slot ∷ []) ps n slot later from (has_second slot)) in
     let within : to ≤ n = allowed_by (schedule_at ps.master slot) ps.master n (master_before (0 ∷ slot ∷ []) ps n later refl) (λ s e. inv.master.complete s (in_schedules ps.master.schedules _ s e)) in
-    by_checks (Cutoff slot) n ps activity changes (If (is_vacant t.presence) (moved slot t) ∷ []) (tells slot (RaiseCutoff to) (CutoffAt (max t.cutoff to)))
+    by_checks (Cutoff slot) n ps activity changes (If (is_empty t.presence) (has_moved slot t) ∷ []) (tells slot (RaiseCutoff to) (CutoffAt (max t.cutoff to)))
     (λ why. refused_keeps (Cutoff slot) why n ps activity changes later inv tt refl)
     (λ passes. record {
       right = tt;

@@ -11,8 +11,8 @@ use Rattle.row_values.specs.Elements.{In, in_order}
 use Rattle.model.specs.Acts.{At}
 use Rattle.model.specs.Journal.{Change, row_at}
 use Rattle.model.specs.Tablets.{Tablet}
-use Rattle.model.specs.RowActs.{rows_asked, rows_in, rows_of_places as rows_of_tablets, cut_rows}
-use Rattle.model.specs.Right.{RowsRight, is_asked, row_of_place, rows_of_places}
+use Rattle.model.specs.RowActs.{rows_asked, rows_in, rows_of_places, cut_rows}
+use Rattle.model.specs.Right.{RowsRight, is_asked, row_wanted, rows_wanted}
 use Rattle.law_store.proofs.Keys.{either_way, equal_keys}
 use Rattle.law_store.proofs.Merging.{by_key, ordered, of_key_ordered, of_key_append, of_key_chosen, in_order_mapped, of_key_mapped, of_key_present, cut_present}
 use Rattle.law_store.proofs.Listing.{of_key_rows_at}
@@ -32,7 +32,7 @@ of_key_asked (Some one) vs x key = of_key_present (read_of vs one x) one key ∙
 
 of_key_place : (t : Tablet) (changes : List Change) (asked : Option (List ℕ)) (x : ℕ) (columns key : List ℕ) →
     (in_range t.low t.high (code_of key) ≡ true → read_of t.versions key x ≡ row_at changes x t.table key) →
-    cut_rows columns (of_key key (rows_in t asked x)) ≡ row_of_place changes x asked columns t key
+    cut_rows columns (of_key key (rows_in t asked x)) ≡ row_wanted changes x asked columns t key
 of_key_place t changes asked x columns key reads =
     let inside : List ℕ → Bool = λ k. in_range t.low t.high (code_of k) in
     let rows : of_key key (rows_in t asked x) ≡ cond (inside key) (cond (is_asked asked key) (present key (read_of t.versions key x)) []) []
@@ -44,21 +44,21 @@ of_key_place t changes asked x columns key reads =
     (λ no_. either_way (inside key) (λ here. rw (no_, here) refl) (λ away. rw (no_, away) refl))
 
 of_key_places : (places : List At) (tablets : ℕ → Tablet) (changes : List Change) (asked : Option (List ℕ)) (x : ℕ) (columns key : List ℕ) → ReadsView changes x tablets places →
-    cut_rows columns (of_key key (rows_of_tablets places asked x tablets)) ≡ rows_of_places changes x asked columns tablets places key
+    cut_rows columns (of_key key (rows_of_places places asked x tablets)) ≡ rows_wanted changes x asked columns tablets places key
 of_key_places [] tablets changes asked x columns key reads = refl
 of_key_places (p ∷ places) tablets changes asked x columns key reads =
     let first = of_key_place (tablets p.slot) changes asked x columns key (reads p key (inl refl)) in
     let rest = of_key_places places tablets changes asked x columns key (λ q k isin. reads q k (inr isin)) in
-    ap (cut_rows columns) (of_key_append (rows_in (tablets p.slot) asked x) (rows_of_tablets places asked x tablets) key)
-    ∙ map-append {A = KeyedRow} (λ r. record r { row = cut_to r.row columns }) (of_key key (rows_in (tablets p.slot) asked x)) (of_key key (rows_of_tablets places asked x tablets))
-    ∙ ap (λ rs. rs ++ cut_rows columns (of_key key (rows_of_tablets places asked x tablets))) first
-    ∙ ap (λ rs. row_of_place changes x asked columns (tablets p.slot) key ++ rs) rest
+    ap (cut_rows columns) (of_key_append (rows_in (tablets p.slot) asked x) (rows_of_places places asked x tablets) key)
+    ∙ map-append {A = KeyedRow} (λ r. record r { row = cut_to r.row columns }) (of_key key (rows_in (tablets p.slot) asked x)) (of_key key (rows_of_places places asked x tablets))
+    ∙ ap (λ rs. rs ++ cut_rows columns (of_key key (rows_of_places places asked x tablets))) first
+    ∙ ap (λ rs. row_wanted changes x asked columns (tablets p.slot) key ++ rs) rest
 
 -- a read of places that read as the view does is right
 pub read_right : (places : List At) (tablets : ℕ → Tablet) (changes : List Change) (asked : Option (List ℕ)) (x : ℕ) (columns : List ℕ) → ReadsView changes x tablets places →
-    RowsRight changes x asked columns tablets places (cut_rows columns (in_order by_key (rows_of_tablets places asked x tablets)))
+    RowsRight changes x asked columns tablets places (cut_rows columns (in_order by_key (rows_of_places places asked x tablets)))
 read_right places tablets changes asked x columns reads = record {
-  in_order = in_order_mapped _ (λ r. record r { row = cut_to r.row columns }) (λ r. refl) (ordered (rows_of_tablets places asked x tablets));
-  each = λ key. of_key_mapped _ (λ r. record r { row = cut_to r.row columns }) key (λ r. refl) ∙ ap (cut_rows columns) (of_key_ordered (rows_of_tablets places asked x tablets) key)
+  in_order = in_order_mapped _ (λ r. record r { row = cut_to r.row columns }) (λ r. refl) (ordered (rows_of_places places asked x tablets));
+  each = λ key. of_key_mapped _ (λ r. record r { row = cut_to r.row columns }) key (λ r. refl) ∙ ap (cut_rows columns) (of_key_ordered (rows_of_places places asked x tablets) key)
       ∙ of_key_places places tablets changes asked x columns key reads;
 }

@@ -13,7 +13,7 @@ use Rattle.model.specs.Acts.{At, Read, Rows, Idle, Fenced, StaleSchema, Future, 
 use Rattle.model.specs.Parts.{Parts, If, answered}
 use Rattle.model.specs.Looks.{names}
 use Rattle.model.specs.Entries.{slots_of, IsSlot}
-use Rattle.model.specs.RowActs.{read, first_moved, moved_from_key, moved_from_scan, moved, goes_on, is_empty, covers, first_fence, stale, first_cutoff, rows_of_places, cut_rows}
+use Rattle.model.specs.RowActs.{read, first_moved, moved_from_key, moved_from_scan, has_moved, goes_on, none_left, covers, first_fence, stale, first_cutoff, rows_of_places, cut_rows}
 use Rattle.law_store.proofs.Keys.{either_way}
 use Rattle.law_rows.proofs.Places.{read_right}
 use Rattle.law_invariants.specs.Invariant.{Inv, Later}
@@ -31,16 +31,16 @@ served_key (q ∷ qs) key tablet e p isin = either_way (serves (tablet q.slot) q
       | inl same_ ↦ subst (λ r. serves (tablet r.slot) r.tablet ≡ true) same_ (both_pass (serves (tablet q.slot) q.tablet) (covers (tablet q.slot) key) b).0
       | inr rest ↦ served_key qs key tablet (rw b at e) p rest
     ])
-    (λ b. absurd (let k : Some (moved q.slot (tablet q.slot)) ≡ None = rw b at e in grind arith))
+    (λ b. absurd (let k : Some (has_moved q.slot (tablet q.slot)) ≡ None = rw b at e in grind arith))
 
 served_scan : (places : List At) (from : ℕ) (tablet : ℕ → Tablet) → moved_from_scan places from tablet ≡ None → (p : At) → In p places → serves (tablet p.slot) p.tablet ≡ true
 served_scan [] from tablet e p isin = absurd isin
-served_scan (q ∷ qs) from tablet e p isin = either_way (goes_on from (is_empty qs) q.tablet (tablet q.slot))
+served_scan (q ∷ qs) from tablet e p isin = either_way (goes_on from (none_left qs) q.tablet (tablet q.slot))
     (λ b. elim isin as (λ _. serves (tablet p.slot) p.tablet ≡ true) [
       | inl same_ ↦ subst (λ r. serves (tablet r.slot) r.tablet ≡ true) same_ (both_pass (serves (tablet q.slot) q.tablet) _ b).0
       | inr rest ↦ served_scan qs (tablet q.slot).high tablet (rw b at e) p rest
     ])
-    (λ b. absurd (let k : Some (moved q.slot (tablet q.slot)) ≡ None = rw b at e in grind arith))
+    (λ b. absurd (let k : Some (has_moved q.slot (tablet q.slot)) ≡ None = rw b at e in grind arith))
 
 served : (key : Option (List ℕ)) (places : List At) (tablet : ℕ → Tablet) → first_moved key places tablet ≡ None → (p : At) → In p places → serves (tablet p.slot) p.tablet ≡ true
 served None places tablet e p isin = served_scan places 0 tablet e p isin

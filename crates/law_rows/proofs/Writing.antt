@@ -21,7 +21,7 @@ use Rattle.model.specs.Parts.{Master, Parts, If}
 use Rattle.model.specs.Looks.{names}
 use Rattle.model.specs.Entries.{slots_of}
 use Rattle.model.specs.History.{rows_made, told}
-use Rattle.model.specs.RowActs.{write, takes, covers, moved}
+use Rattle.model.specs.RowActs.{write, serves_all, covers, has_moved}
 use Rattle.law_store.specs.Sorted.{item_step, EachItemKey}
 use Rattle.law_store.proofs.Members.{keys_written}
 use Rattle.law_store.proofs.Keys.{either_way}
@@ -288,7 +288,7 @@ rows_heard ps activity changes n place version batch later from inv serving unfe
 
 -- the parts after a write that isn't refused
 written_inv : (ps : Parts) (activity : List Interval) (changes : List Change) (n : ℕ) (place : At) (version : ℕ) (batch : List Item) → Later (slots_of (Write place version batch)) ps n → 1 ≤ place.slot → Inv ps activity changes
-    → takes (ps.tablet place.slot) place.tablet batch ≡ true → (ps.tablet place.slot).fence ≡ None
+    → serves_all (ps.tablet place.slot) place.tablet batch ≡ true → (ps.tablet place.slot).fence ≡ None
     → KeepsAll (Write place version batch) n ps activity changes (tells place.slot (WriteRows batch) (Ok []))
 written_inv ps activity changes n place version batch later from inv takes_ unfenced =
     let slot = place.slot in
@@ -343,7 +343,7 @@ unfolding write
 write_keeps ps activity changes n place version batch later from inv =
     let t = ps.tablet place.slot in
     by_checks (Write place version batch) n ps activity changes
-    (If (not (takes t place.tablet batch)) (moved place.slot t) ∷ names t.fence Fenced ∷ If (not (eqb t.version version)) (StaleSchema t.version) ∷ [])
+    (If (not (serves_all t place.tablet batch)) (has_moved place.slot t) ∷ names t.fence Fenced ∷ If (not (eqb t.version version)) (StaleSchema t.version) ∷ [])
     (tells place.slot (WriteRows batch) (Ok []))
     (λ why. refused_keeps (Write place version batch) why n ps activity changes later inv tt refl)
     (λ passes. written_inv ps activity changes n place version batch later from inv (passed _ passes.0) (none_is t.fence passes.1.0))

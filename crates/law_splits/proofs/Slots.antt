@@ -11,7 +11,7 @@ use Rattle.model.specs.Activity.{Interval, end_tablet}
 use Rattle.model.specs.Catalog.{owner_of}
 use Rattle.model.specs.Journal.{Change, table_at}
 use Rattle.model.specs.Stands.{awaited_in}
-use Rattle.model.specs.Tablets.{Tablet, OutOfService, PutOut, Child, effect, is_serving}
+use Rattle.model.specs.Tablets.{Tablet, HiddenPart, HideSince, Child, effect, is_serving}
 use Rattle.model.specs.Changed.{begins, next_tablet}
 use Rattle.model.specs.Parts.{Master}
 use Rattle.law_store.proofs.Choosing.{part_reads, sorted_part, below_part}
@@ -74,7 +74,7 @@ home_split m n p code a b slot tablet drawn h = each_split (λ j. j.tablet ≡ t
 
 -- an interval in the parent's slot, under a hidden part
 good_hidden : (m : Master) (n : ℕ) (changes : List Change) (p : Interval) (code a b : ℕ) (t : Tablet) (i : Interval) → IsSplit m n p code a b → t.clock < n → i.tablet ≡ p.tablet → awaited_in m.restorations t.tablet t.done ≡ None
-    → IsGood m changes t i → IsGood (split_master p code a b n m) changes (record t { clock = n; presence = OutOfService n }) (cut p.tablet n i)
+    → IsGood m changes t i → IsGood (split_master p code a b n m) changes (record t { clock = n; presence = HiddenPart n }) (cut p.tablet n i)
 good_hidden m n changes p code a b t i s early mine calm g =
     let end_ = cut_mine p.tablet n i mine in
     let closes : cut_end p.tablet n i ≡ None → ⊥ = λ opened. not_open n i.to (sym end_ ∙ opened) in
@@ -108,7 +108,7 @@ pub calm_parent : (m : Master) (n : ℕ) (changes : List Change) (p : Interval) 
 calm_parent m n changes p code a b t s h = calm_here m p.table t p (h.each p s.listed refl).tablet_is s.listed s.calm (same_self p.table)
 
 pub slot_parent : (m : Master) (n : ℕ) (changes : List Change) (p : Interval) (code a b : ℕ) (t : Tablet) → IsSplit m n p code a b → t.clock < n → SlotGood m changes p.slot t
-    → SlotGood (split_master p code a b n m) changes p.slot (effect (PutOut n) n t)
+    → SlotGood (split_master p code a b n m) changes p.slot (effect (HideSince n) n t)
 slot_parent m n changes p code a b t s early h =
     let g = tablet_ticked m n changes p.slot t (le_of_lt early) h in
     let present = (h.each p s.listed refl).present in
@@ -116,7 +116,7 @@ slot_parent m n changes p code a b t s early h =
       good = record { sorted = g.good.sorted; below = g.good.below; cutoff = g.good.cutoff; keys = g.good.keys; set_past = g.good.set_past; set_sorted = g.good.set_sorted; set_keys = g.good.set_keys };
       home = λ hidden. home_split m n p code a b p.slot t.tablet h.numbered (h.home present);
       numbered = le_trans h.numbered (omega arith);
-      each = each_split (λ j. j.slot ≡ p.slot → IsGood (split_master p code a b n m) changes (effect (PutOut n) n t) j) p code a b n m m.activity
+      each = each_split (λ j. j.slot ≡ p.slot → IsGood (split_master p code a b n m) changes (effect (HideSince n) n t) j) p code a b n m m.activity
           (λ i isin at. good_hidden m n changes p code a b t i s early (mine_here m changes p t i h s.listed isin at).0 (calm_parent m n changes p code a b t s h) (h.each i isin at))
           (λ at. absurd (s.free.vacant a (inl refl) p s.listed (sym at)))
           (λ at. absurd (s.free.vacant b (inr (inl refl)) p s.listed (sym at)));

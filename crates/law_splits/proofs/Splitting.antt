@@ -10,7 +10,7 @@ use Rattle.row_values.specs.Store.{part_of}
 use Rattle.model.specs.Activity.{Interval, end_tablet}
 use Rattle.model.specs.Catalog.{TableRecord, namespace_named, owner_of}
 use Rattle.model.specs.Journal.{Change as Made}
-use Rattle.model.specs.Tablets.{Tablet, TabletAct, Told, PutOut, Child, act_for, effect}
+use Rattle.model.specs.Tablets.{Tablet, TabletAct, Told, HideSince, Child, act_for, effect}
 use Rattle.model.specs.Entries.{CommandAsked, slots_of}
 use Rattle.model.specs.Acts.{Split, Change, UnknownNamespace, UnknownTable, Busy, TooNarrow, SlotsFull}
 use Rattle.model.specs.Parts.{Master, Parts, Check, If}
@@ -45,14 +45,14 @@ use Rattle.law_splits.proofs.Masters.{low_in, high_in, master_split_good, rememb
 
 -- the parts of a split are told this
 abbrev pub split_told : Interval → ℕ → ℕ → ℕ → ℕ → ℕ → Master → Tablet → List Told
-split_told p code a b version n m t = record { slot = p.slot; act = PutOut n } ∷ tell_children (both_children p code a b n m) version t
+split_told p code a b version n m t = record { slot = p.slot; act = HideSince n } ∷ tell_children (both_children p code a b n m) version t
 
 abbrev pub told_child : Id → Id → ℕ → ℕ → ℕ → Tablet → TabletAct
 told_child tablet table low high version t = Child tablet table low high version (part_of low high t.versions) t.cutoff
 
 -- what holds of the parent's slot, of the two children's, and of the others
 slots_split : (P : ℕ → Tablet → Type 0) (namespace table : List ℕ) (code a b version n : ℕ) (ps : Parts) (p : Interval) (made : List Id) → 1 ≤ p.slot → 1 ≤ a → 1 ≤ b → p.slot ≢ a → p.slot ≢ b → a ≢ b
-    → P p.slot (effect (PutOut n) n (ps.tablet p.slot))
+    → P p.slot (effect (HideSince n) n (ps.tablet p.slot))
     → P a (effect (told_child (next_tablet ps.master 1) p.table p.low code version (ps.tablet p.slot)) n (ps.tablet a))
     → P b (effect (told_child (next_tablet ps.master 2) p.table code p.high version (ps.tablet p.slot)) n (ps.tablet b))
     → ((i : ℕ) → i ≢ p.slot → i ≢ a → i ≢ b → P i (ps.tablet i))
@@ -71,9 +71,9 @@ slots_split P namespace table code a b version n ps p made from_p from_a from_b 
     let child_b = told_child (next_tablet ps.master 2) p.table code p.high version (ps.tablet p.slot) in
     let rest_a = act_for (record { slot = a; act = child_a } ∷ record { slot = b; act = child_b } ∷ []) in
     let rest_b = act_for (record { slot = b; act = child_b } ∷ []) in
-    let told_p : act_for tablets p.slot ≡ PutOut n = ap (λ q. cond q (PutOut n) (rest_a p.slot)) self_p in
-    let told_a : act_for tablets a ≡ child_a = ap (λ q. cond q (PutOut n) (rest_a a)) not_pa ∙ ap (λ q. cond q child_a (rest_b a)) self_a in
-    let told_b : act_for tablets b ≡ child_b = ap (λ q. cond q (PutOut n) (rest_a b)) not_pb ∙ ap (λ q. cond q child_a (rest_b b)) not_ab ∙ ap (λ q. cond q child_b (act_for [] b)) self_b in
+    let told_p : act_for tablets p.slot ≡ HideSince n = ap (λ q. cond q (HideSince n) (rest_a p.slot)) self_p in
+    let told_a : act_for tablets a ≡ child_a = ap (λ q. cond q (HideSince n) (rest_a a)) not_pa ∙ ap (λ q. cond q child_a (rest_b a)) self_a in
+    let told_b : act_for tablets b ≡ child_b = ap (λ q. cond q (HideSince n) (rest_a b)) not_pb ∙ ap (λ q. cond q child_a (rest_b b)) not_ab ∙ ap (λ q. cond q child_b (act_for [] b)) self_b in
     let at_p : at p.slot = subst (λ x. P p.slot (effect x n (ps.tablet p.slot))) (sym told_p) parent in
     let at_a : at a = subst (λ x. P a (effect x n (ps.tablet a))) (sym told_a) low in
     let at_b : at b = subst (λ x. P b (effect x n (ps.tablet b))) (sym told_b) high in
@@ -238,7 +238,7 @@ split_inv ps activity changes n namespace table code a b version p made asked la
       rows_past = rows_on m n m.catalog more drawn m.sent changes changes ps.tablet after (le_of_lt s.before) (clocks_rise (Change command slots) o n ps (λ slot e. tablet_before (0 ∷ slots) ps n slot later e))
           (λ i isin. hears m n p code a b (ps.tablet i.slot).clock i (λ e. subst (λ j. (ps.tablet j).clock ≤ n) (sym (mine i isin e).0) (le_of_lt early)) isin) (λ c table_ key op isin is. isin) inv.rows_past;
       works = slots_split (SlotWorks (split_master p code a b n m) changes) namespace table code a b version n ps p made from_p rise_a (le_trans rise_a (le_of_lt a_b)) p_a p_b apart
-          (works_on p.slot (effect (PutOut n) n t)
+          (works_on p.slot (effect (HideSince n) n t)
           (hidden_works m changes p.slot t n s.ns p (le_of_lt early) g.present inv.operations (all_listed m changes inv.master) s.unheld s.listed refl
           (λ i isin at. ap (owner_of m.catalog.owners) (mine_here m changes p t i h s.listed isin at).1 ∙ s.owner) (inv.works p.slot)))
           (placed_works m n m.catalog more drawn m.sent changes changes a new_a (low_child p code a n m) w inv.operations
@@ -267,7 +267,7 @@ split_keeps ps activity changes n namespace table code slots later asked plan in
     let parent = parent_of m namespace table code in
     let before : m.clock < n = master_early slots ps n later in
     by_checks (Change command slots) n ps activity changes (split_checks namespace table code m)
-    (accepts command slots (record { slot = parent.slot; act = PutOut n } ∷ tell_children (children parent code slots n m) version (ps.tablet parent.slot)) made)
+    (accepts command slots (record { slot = parent.slot; act = HideSince n } ∷ tell_children (children parent code slots n m) version (ps.tablet parent.slot)) made)
     (λ why. refused_keeps (Change command slots) why n ps activity changes later inv tt refl)
     (λ passes.
     let id = (the_table found).id in
@@ -300,10 +300,10 @@ split_keeps ps activity changes n namespace table code slots later asked plan in
     } in
     record {
       right = tt;
-      inv = subst (λ ss. Later (0 ∷ ss) ps n → Inv (told (Change command ss) (accepts command ss (record { slot = parent.slot; act = PutOut n } ∷ tell_children (children parent code ss n m) version (ps.tablet parent.slot)) made) n ps)
-          (activity_after (Change command ss) (accepts command ss (record { slot = parent.slot; act = PutOut n } ∷ tell_children (children parent code ss n m) version (ps.tablet parent.slot)) made) n ps activity) changes) (sym is_slots)
-          (λ early. subst (λ q. Inv (told (Change command (p.slot ∷ a ∷ b ∷ [])) (accepts command (p.slot ∷ a ∷ b ∷ []) (record { slot = q.slot; act = PutOut n } ∷ tell_children (children q code (p.slot ∷ a ∷ b ∷ []) n m) version (ps.tablet q.slot)) made) n ps)
-          (activity_after (Change command (p.slot ∷ a ∷ b ∷ [])) (accepts command (p.slot ∷ a ∷ b ∷ []) (record { slot = q.slot; act = PutOut n } ∷ tell_children (children q code (p.slot ∷ a ∷ b ∷ []) n m) version (ps.tablet q.slot)) made) n ps activity) changes) (sym is_p)
+      inv = subst (λ ss. Later (0 ∷ ss) ps n → Inv (told (Change command ss) (accepts command ss (record { slot = parent.slot; act = HideSince n } ∷ tell_children (children parent code ss n m) version (ps.tablet parent.slot)) made) n ps)
+          (activity_after (Change command ss) (accepts command ss (record { slot = parent.slot; act = HideSince n } ∷ tell_children (children parent code ss n m) version (ps.tablet parent.slot)) made) n ps activity) changes) (sym is_slots)
+          (λ early. subst (λ q. Inv (told (Change command (p.slot ∷ a ∷ b ∷ [])) (accepts command (p.slot ∷ a ∷ b ∷ []) (record { slot = q.slot; act = HideSince n } ∷ tell_children (children q code (p.slot ∷ a ∷ b ∷ []) n m) version (ps.tablet q.slot)) made) n ps)
+          (activity_after (Change command (p.slot ∷ a ∷ b ∷ [])) (accepts command (p.slot ∷ a ∷ b ∷ []) (record { slot = q.slot; act = HideSince n } ∷ tell_children (children q code (p.slot ∷ a ∷ b ∷ []) n m) version (ps.tablet q.slot)) made) n ps activity) changes) (sym is_p)
           (split_inv ps activity changes n namespace table code a b version p made asked early is_p is_all s inv)) later;
     })
 

@@ -6,7 +6,7 @@ use Rattle.row_values.specs.Codes.{code_of}
 use Rattle.row_values.specs.declared.rows.KeyedRow.{KeyedRow}
 use Rattle.row_values.specs.declared.value.Item.{Item}
 use Rattle.row_values.specs.Elements.{In}
-use Rattle.row_values.specs.Store.{Version, precedes, put_version, written, read_of, has_key, kept_from, kept, part_of, frozen, rows_from, rows_at, of_rows}
+use Rattle.row_values.specs.Store.{Version, precedes, put_version, written, read_of, has_key, compacted_from, kept, part_of, frozen, rows_from, rows_at, of_rows}
 use Rattle.row_values.specs.Ranges.{in_range}
 use Rattle.law_store.specs.Sorted.{EachKey, EachRowKey, EachItemKey}
 use Rattle.law_store.proofs.Compaction.{by_kept}
@@ -35,10 +35,10 @@ keys_part (v ∷ vs) low high = cond_both (in_range low high (code_of v.key)) _ 
     (λ e. (e, keys_part vs low high))
     (λ e. keys_part vs low high)
 
-keys_kept_from : (vs all : List Version) (c : ℕ) (test : List ℕ → Bool) → EachKey test vs → EachKey test (kept_from all vs c)
+keys_kept_from : (vs all : List Version) (c : ℕ) (test : List ℕ → Bool) → EachKey test vs → EachKey test (compacted_from all vs c)
 keys_kept_from [] all c test h = tt
 keys_kept_from (v ∷ vs) all c test h = let rest = keys_kept_from vs all c test h.1 in
-    by_kept (λ ws. EachKey test (ws ++ kept_from all vs c)) all v vs c
+    by_kept (λ ws. EachKey test (ws ++ compacted_from all vs c)) all v vs c
     (λ new. (h.0, rest)) (λ old more. rest) (λ old last none. rest) (λ old last here. (h.0, rest))
 
 pub keys_kept : (vs : List Version) (c : ℕ) (test : List ℕ → Bool) → EachKey test vs → EachKey test (kept vs c)

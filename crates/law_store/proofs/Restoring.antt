@@ -8,7 +8,7 @@ use Rattle.row_values.specs.declared.value.RowOp.TheVariants.{Upsert}
 use Rattle.row_values.specs.Codes.{code_of}
 use Rattle.row_values.specs.Elements.{In}
 use Rattle.row_values.specs.Ranges.{in_range}
-use Rattle.row_values.specs.Store.{AreRows, Version, precedes, read_of, has_key, has_old, present, rows_from, rows_at, of_rows, kept_from, kept, of_key}
+use Rattle.row_values.specs.Store.{AreRows, Version, precedes, read_of, has_key, has_old, present, rows_from, rows_at, of_rows, compacted_from, kept, of_key}
 use Rattle.law_store.specs.Sorted.{EachKey, Sorted, IsRow, RowsBehind, Rising, ArePresent}
 use Rattle.law_store.proofs.Keys.{either_way, key_self, key_sym, precedes_apart}
 use Rattle.law_store.proofs.Cells.{row_read, upsert_row}
@@ -77,7 +77,7 @@ present_rows_at vs x = present_from vs vs x
 pub restored_rows_at : (vs : List Version) (x n y : ℕ) → Sorted vs → n ≤ y → rows_at (of_rows (rows_at vs x) n) y ≡ rows_at vs x
 restored_rows_at vs x n y h l = rows_at_of_rows (rows_at vs x) n y (rising_rows_at vs x h) (present_rows_at vs x) l
 
-kept_back : (rs : List KeyedRow) (all : List Version) (n c : ℕ) → Rising rs → (n ≤ c → ReadsRows all c rs) → kept_from all (of_rows rs n) c ≡ of_rows rs n
+kept_back : (rs : List KeyedRow) (all : List Version) (n c : ℕ) → Rising rs → (n ≤ c → ReadsRows all c rs) → compacted_from all (of_rows rs n) c ≡ of_rows rs n
 kept_back [] all n c rising reads = refl
 kept_back (r ∷ rs) all n c rising reads =
     let v : Version = record { key = r.key; stamp = n; op = Upsert r.row.cells } in
@@ -86,7 +86,7 @@ kept_back (r ∷ rs) all n c rising reads =
     (λ new. rw (kept_new all v (of_rows rs n) c (ltb-true _ _ new)) (ap (λ ws. v ∷ ws) rest))
     (λ old. let l : n ≤ c = ltb-false _ _ old in let p = reads l r (inl refl) in
     rw (kept_row all v (of_rows rs n) c l (no_old rs n r.key c rising.0) (ap (λ q. q.present) p.0 ∙ p.1))
-    (ap (λ (q : Row). record { key = r.key; stamp = n; op = Upsert q.cells } ∷ kept_from all (of_rows rs n) c) p.0 ∙ ap (λ ws. v ∷ ws) rest))
+    (ap (λ (q : Row). record { key = r.key; stamp = n; op = Upsert q.cells } ∷ compacted_from all (of_rows rs n) c) p.0 ∙ ap (λ ws. v ∷ ws) rest))
 
 -- compaction changes no versions that are made of rows
 pub kept_of_rows : (rs : List KeyedRow) (n c : ℕ) → Rising rs → ArePresent rs → kept (of_rows rs n) c ≡ of_rows rs n

@@ -10,7 +10,7 @@ use Rattle.row_values.specs.Store.{part_of}
 use Rattle.row_values.specs.Schema.{ColumnKind, NewColumn, column_named}
 use Rattle.model.specs.Catalog.{TableRecord, namespace_named, current_named, current_tables, by_id}
 use Rattle.model.specs.Activity.{Interval}
-use Rattle.model.specs.Tablets.{Tablet, TabletAct, Make, Child, SetVersion, PutOut, Told}
+use Rattle.model.specs.Tablets.{Tablet, TabletAct, Make, Child, SetVersion, HideSince, Told}
 use Rattle.model.specs.Records.{Schedule, CloneRecord, is_visible, schedule_with, schedule_of, unfinished_of}
 use Rattle.model.specs.Acts.{Command, CreateNamespace, DropNamespace, CreateTable, AddColumn, DropColumn, RenameTable, DropTable, Split, CreateSchedule, DeleteSchedule, TakeSnapshot, Restore, CloneNamespace, ListSchedules, ListSnapshots, ListRestorations, ListClones, ListTablets, UnknownNamespace, UnknownTable, UnknownColumn, UnknownSchedule, BadPeriod, NameTaken, ScheduleExists, NotEmpty, UnderSchedule, NoSchedule, TooMany, SlotsFull, TooEarly, Future, Busy, StalePlan, TooNarrow, NotDue, Ok, Schedules, Snapshots, Restorations, Clones, Tablets}
 use Rattle.model.specs.Parts.{Master, Parts, Changes, Outcome, If, judged, answered}
@@ -156,7 +156,7 @@ drop_table namespace table slots n ps =
     ∷ If (is_none (table_of m namespace table)) UnknownTable
     ∷ names (holder m (known ns)) Busy
     ∷ [])
-    (accepts (DropTable namespace table) slots (tell slots (PutOut n)) [])
+    (accepts (DropTable namespace table) slots (tell slots (HideSince n)) [])
 
 unfoldable pub split : List ℕ → List ℕ → ℕ → List ℕ → ℕ → Parts → Outcome
 split namespace table code slots n ps =
@@ -175,7 +175,7 @@ split namespace table code slots n ps =
     (accepts
     (Split namespace table code)
     slots
-    (record { slot = parent.slot; act = PutOut n } ∷ tell_children (children parent code slots n m) (the_table found).schema.version (ps.tablet parent.slot))
+    (record { slot = parent.slot; act = HideSince n } ∷ tell_children (children parent code slots n m) (the_table found).schema.version (ps.tablet parent.slot))
     (next_tablet m 1 ∷ next_tablet m 2 ∷ []))
 
 unfoldable pub create_schedule : ℕ → ℕ → List ℕ → List ℕ → ℕ → Parts → Outcome

@@ -8,7 +8,7 @@ use Rattle.row_values.specs.Slots.{same_slots, rising}
 use Rattle.model.specs.Times.{ended_by}
 use Rattle.model.specs.Catalog.{NamespaceRecord, TableRecord, KeptFrom, Catalog, owner_of}
 use Rattle.model.specs.Activity.{Interval, last_of, forget}
-use Rattle.model.specs.Tablets.{Tablet as TabletPart, Presence, Vacant, InService, OutOfService, Empty, Clear, DropFrozen, standing, is_hidden}
+use Rattle.model.specs.Tablets.{Tablet as TabletPart, Presence, EmptyPart, ServingPart, HiddenPart, Empty, Clear, DropFrozen, standing, is_hidden}
 use Rattle.model.specs.Records.{Listed, SnapshotRecord, RestorationRecord, CloneRecord, named_by_restoration, named_by_clone, is_restored, is_cloned, lists_tablet, schedule_of, snapshot_with}
 use Rattle.model.specs.Acts.{Refusal, UnknownSnapshot, Moved, StalePlan, InWindow, IsListed, Removal, Removed, Pruned}
 use Rattle.model.specs.Parts.{Master, Parts, Outcome, If, Removes, Prunes, judged, refused}
@@ -75,9 +75,9 @@ snapshot_plan m r = slots_where (λ tablet. true) m r.listed
 
 -- the stamp at which a tablet was hidden
 abbrev pub hidden_at : Presence → ℕ
-hidden_at (OutOfService ended) = ended
-hidden_at Vacant = 0
-hidden_at InService = 0
+hidden_at (HiddenPart ended) = ended
+hidden_at EmptyPart = 0
+hidden_at ServingPart = 0
 
 abbrev pub is_hidden_as : Id → TabletPart → Bool
 is_hidden_as tablet t = is_hidden t.presence && same t.tablet tablet

@@ -1,19 +1,17 @@
 -- Histories, the newest entry first: what they leave, which are legal, the journal of their changes, and which are right.
-use Rattle.std.specs.Prelude.{◌≡◌, ℕ, ◌≤◌, ◌<◌, Bool, true, false, List, [], ◌∷◌, ◌++◌, Option, Some, None, ◌==◌, ◌&&◌, ◌+◌, ◌-◌, nat_lt, not, length, unwrap_or, if◌then◌else◌}
+use Rattle.std.specs.Prelude.{◌≡◌, ℕ, ◌<◌, Bool, true, false, List, [], ◌∷◌, ◌++◌, Option, Some, None, ◌==◌, ◌&&◌, ◌+◌, nat_lt, not, length, if◌then◌else◌}
 use Rattle.std.specs.List.{filter}
 use Rattle.row_values.specs.declared.value.Item.{Item}
 use Rattle.row_values.specs.Ids.{Id}
 use Rattle.row_values.specs.Slots.{has}
-use Rattle.model.specs.Times.{end_of_time, time_of}
+use Rattle.model.specs.Times.{end_of_time}
 use Rattle.row_values.specs.Schema.{Column, column_named, numbered}
 use Rattle.model.specs.Catalog.{TableRecord, namespace_named}
 use Rattle.model.specs.Activity.{Interval}
 use Rattle.model.specs.Tablets.{act_for, effect}
-use Rattle.model.specs.Records.{Schedule, SnapshotRecord, RestorationRecord, RestorationState, Switching, CloneRecord, CloneState, Copying, schedule_with, schedule_of}
-use Rattle.model.specs.Acts.{Command, CreateNamespace, DropNamespace, CreateTable, AddColumn, DropColumn, RenameTable, DropTable, Restore, CloneNamespace, Ask, AskPlan, AskKeys, AskTable, AskWork, AskRemovable, AskPresent, Act, Look, Change, Write, Read, Cutoff, Compact, Send, Process, Ack, Advance, Remove, Prune, Restart, Stats, Event, NameTaken, TooMany, TooEarly, Future, SlotsFull, StalePlan, Reply, Ok, Work, Removable, Rows, Advanced, Refused}
+use Rattle.model.specs.Records.{SnapshotRecord, RestorationRecord, RestorationState, Switching, CloneRecord, CloneState, Copying}
+use Rattle.model.specs.Acts.{Command, CreateNamespace, DropNamespace, CreateTable, AddColumn, DropColumn, RenameTable, DropTable, Ask, AskPlan, AskKeys, AskTable, AskWork, AskRemovable, AskPresent, Act, Look, Change, Write, Read, Cutoff, Compact, Send, Process, Ack, Advance, Remove, Prune, Restart, Stats, Event, Reply, Ok, Work, Removable, Advanced}
 use Rattle.model.specs.Parts.{Master, Parts, start, MasterAct, Ticks, Changes, Sends, Acks, Unsends, Moves, Removes, Prunes, Restarts, Outcome, answered}
-use Rattle.model.specs.Schedules.{low, InWindow}
-use Rattle.model.specs.Operations.{user}
 use Rattle.model.specs.Looks.{look_plan, look_keys, look_table, look_present, table_of, known}
 use Rattle.model.specs.Changes.{change}
 use Rattle.model.specs.Changed.{changed}
@@ -25,7 +23,6 @@ use Rattle.model.specs.Cleanup.{remove, prune, removable, removed, pruned}
 use Rattle.model.specs.Journal as made
 use Rattle.model.specs.Journal.{TableMade}
 use Rattle.model.specs.Entries.{Entry, slots_of, log_of, stamp_of, Asked}
-use Rattle.model.specs.Right.{RowsRight, LookReplyRight, LookPlacesRight, NothingLate}
 
 -- What a history leaves
 
@@ -209,43 +206,3 @@ unfoldable pub snapshots_taken : ℕ → List Entry → List SnapshotRecord
 snapshots_taken slots [] = []
 snapshots_taken slots (e ∷ earlier) =
     let ps = replay slots earlier in snapshots_taken slots earlier ++ snapshots_since ps.master (next e ps).master
-
--- Right histories
-
--- a restore by a schedule whose namespace no operation uses is refused exactly outside the window, once its plan is right
-abbrev pub WindowRight : Reply → Schedule → ℕ → ℕ → Type 0
-WindowRight (Refused (StalePlan kept)) s n to = Unit {0}
-WindowRight (Refused (TooEarly from)) s n to = (from ≡ low s n) × (to < from)
-WindowRight (Refused (Future now)) s n to = (now ≡ n) × ((low s n ≤ to) × (n ≤ to))
-WindowRight (Ok ids) s n to = InWindow s n to
-WindowRight _ s n to = ⊥
-
--- so is a clone, once its target's name is free and there may be one more namespace; in the window it may lack slots
-abbrev pub CloneWindowRight : Reply → Schedule → ℕ → ℕ → Type 0
-CloneWindowRight (Refused (NameTaken by)) s n to = Unit {0}
-CloneWindowRight (Refused (TooMany limit)) s n to = Unit {0}
-CloneWindowRight (Refused (SlotsFull free needed)) s n to = InWindow s n to
-CloneWindowRight reply s n to = WindowRight reply s n to
-
--- where the schedule is known and no operation uses its namespace, the reply is right by the window
-abbrev pub WindowRightOf : (Reply → Schedule → ℕ → ℕ → Type 0) → Option Schedule → Reply → Master → ℕ → ℕ → Type 0
-WindowRightOf Judged None reply m n to = Unit {0}
-WindowRightOf Judged (Some s) reply m n to = user m s.namespace ≡ None → Judged reply s n to
-
--- the reply of an entry is right, against the journal of the entries before it
-abbrev pub ReplyRight : Act → Reply → ℕ → Parts → List made.Change → Type 0
-ReplyRight (Look (AskKeys namespace table batch at)) reply n ps changes =
-    LookReplyRight reply changes (time_of at n) n namespace table batch × LookPlacesRight reply changes (time_of at n) n namespace table batch ps.master.activity
-ReplyRight (Look (AskTable namespace table at)) reply n ps changes =
-    LookReplyRight reply changes (time_of at n) n namespace table [] × LookPlacesRight reply changes (time_of at n) n namespace table [] ps.master.activity
-ReplyRight (Read places version key at columns) (Rows rows) n ps changes = RowsRight changes (time_of at n) key columns ps.tablet places rows
-ReplyRight (Change (Restore schedule to) slots) reply n ps changes = WindowRightOf WindowRight (schedule_with ps.master.schedules schedule) reply ps.master n to
-ReplyRight (Change (CloneNamespace source target to) slots) reply n ps changes =
-    WindowRightOf CloneWindowRight (schedule_of ps.master.schedules (known (namespace_named ps.master.catalog.namespaces source))) reply ps.master n (unwrap_or to (n - 1))
-ReplyRight _ reply n ps changes = Unit {0}
-
--- each reply is that of one list of stamped changes, and no change comes too late for a restore or a clone
-abbrev pub Right : ℕ → List Entry → Type 0
-Right slots [] = Unit {0}
-Right slots (e ∷ earlier) = Right slots earlier
-    × (ReplyRight e.event.act e.reply e.stamp (replay slots earlier) (journal_of slots earlier) × NothingLate (journal_of slots (e ∷ earlier)))

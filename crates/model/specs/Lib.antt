@@ -19,10 +19,11 @@ pub mod Moves
 pub mod Work
 pub mod Cleanup
 pub mod Journal
+pub mod Right
 pub mod Entries
 pub mod History
 pub mod Drawn
-pub mod Right
+pub mod Replies
 pub mod Stands
 pub mod Retained
 pub mod Left

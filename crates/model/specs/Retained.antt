@@ -5,7 +5,7 @@ use Rattle.row_values.specs.Ids.{Id, same}
 use Rattle.row_values.specs.Elements.{In}
 use Rattle.model.specs.Catalog.{owns, kept_from}
 use Rattle.model.specs.Activity.{Interval, active_at, last_of}
-use Rattle.model.specs.Tablets.{Tablet, FrozenSet, set_of, is_vacant}
+use Rattle.model.specs.Tablets.{Tablet, FrozenSet, set_of, is_empty}
 use Rattle.model.specs.Records.{Schedule, Listed, SnapshotRecord, RestorationRecord, CloneRecord, TabletPair, is_restored, is_cloned, lists_tablet}
 use Rattle.model.specs.Schedules.{floor, complete_to, serving}
 use Rattle.model.specs.Operations.{time_of_user}
@@ -13,7 +13,7 @@ use Rattle.model.specs.Parts.{Parts}
 
 -- a tablet is present: its slot's part holds it
 pub record IsPresent (ps : Parts) (slot : ℕ) (tablet : Id) : Type 0 where
-  pub held : is_vacant (ps.tablet slot).presence ≡ false
+  pub held : is_empty (ps.tablet slot).presence ≡ false
   pub tablet_is : (ps.tablet slot).tablet ≡ tablet
 
 -- the schedule's unfinished snapshot
@@ -66,7 +66,7 @@ pub record RetainedFor (ps : Parts) (activity : List Interval) (taken : List Sna
       → floor (Some s) (time_of_user ps.master s.namespace) ps.master.clock ≤ to → to ≤ ps.master.clock → active_at to i ≡ true
       → Reaches (serving ps.master.snapshots s.id to) (unfinished ps.master.snapshots s.id) (ps.tablet i.slot) i.tablet to
   -- a cutoff passes neither what is complete, or the start of its tablet's last activity, nor the master's clock
-  pub cutoffs : (slot : ℕ) (i : Interval) → is_vacant (ps.tablet slot).presence ≡ false → last_of ps.master.activity (ps.tablet slot).tablet ≡ Some i
+  pub cutoffs : (slot : ℕ) (i : Interval) → is_empty (ps.tablet slot).presence ≡ false → last_of ps.master.activity (ps.tablet slot).tablet ≡ Some i
       → owns ps.master.catalog.owners s.namespace i.table ≡ true
       → ((ps.tablet slot).cutoff ≤ max (complete_to s.complete s + 1) i.from) × ((ps.tablet slot).cutoff ≤ ps.master.clock)
   pub times : TimesRise taken s.id (s.kept_low - 1)
@@ -85,5 +85,5 @@ pub record Retained (ps : Parts) (activity : List Interval) (taken : List Snapsh
   pub scheduled : (s : Schedule) → In s ps.master.schedules → RetainedFor ps activity taken s
   pub listed : ListedPresent ps
   -- also without a schedule no cutoff, and no mark of the catalog, passes the master's clock
-  pub cutoffs : (slot : ℕ) → is_vacant (ps.tablet slot).presence ≡ false → (ps.tablet slot).cutoff ≤ ps.master.clock
+  pub cutoffs : (slot : ℕ) → is_empty (ps.tablet slot).presence ≡ false → (ps.tablet slot).cutoff ≤ ps.master.clock
   pub catalog : (ns : Id) → kept_from ps.master.catalog.kept_from ns ≤ ps.master.clock

@@ -25,19 +25,19 @@ is_asked None key = true
 is_asked (Some asked) key = bytes_eq asked key
 
 -- the row of a key that a place is to give: that of the view at x, where it is present, asked, and its code is in the place's range
-abbrev pub row_of_place : List Change → ℕ → Option (List ℕ) → List ℕ → Tablet → List ℕ → List KeyedRow
-row_of_place changes x asked columns t key =
+abbrev pub row_wanted : List Change → ℕ → Option (List ℕ) → List ℕ → Tablet → List ℕ → List KeyedRow
+row_wanted changes x asked columns t key =
     if is_asked asked key && in_range t.low t.high (code_of key) then present key (cut_to (row_at changes x t.table key) columns) else []
 
-abbrev pub rows_of_places : List Change → ℕ → Option (List ℕ) → List ℕ → (ℕ → Tablet) → List At → List ℕ → List KeyedRow
-rows_of_places changes x asked columns tablets [] key = []
-rows_of_places changes x asked columns tablets (place ∷ places) key =
-    row_of_place changes x asked columns (tablets place.slot) key ++ rows_of_places changes x asked columns tablets places key
+abbrev pub rows_wanted : List Change → ℕ → Option (List ℕ) → List ℕ → (ℕ → Tablet) → List At → List ℕ → List KeyedRow
+rows_wanted changes x asked columns tablets [] key = []
+rows_wanted changes x asked columns tablets (place ∷ places) key =
+    row_wanted changes x asked columns (tablets place.slot) key ++ rows_wanted changes x asked columns tablets places key
 
 -- a read gives the rows of the view at x: in order of key, those of one key in the order of the places
 pub record RowsRight (changes : List Change) (x : ℕ) (asked : Option (List ℕ)) (columns : List ℕ) (tablets : ℕ → Tablet) (places : List At) (rows : List KeyedRow) : Type 0 where
   pub in_order : InOrder rows
-  pub each : (key : List ℕ) → of_key key rows ≡ rows_of_places changes x asked columns tablets places key
+  pub each : (key : List ℕ) → of_key key rows ≡ rows_wanted changes x asked columns tablets places key
 
 -- the rows of a table at x as its columns show them: each present one, in order of key
 pub record IsShown (changes : List Change) (x : ℕ) (table : Id) (rows : List KeyedRow) : Type 0 where

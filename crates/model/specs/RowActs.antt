@@ -12,7 +12,7 @@ use Rattle.row_values.specs.Store.{Version, precedes, read_of, kept, present, ro
 use Rattle.row_values.specs.Ranges.{in_range}
 use Rattle.model.specs.Catalog.{owner_of}
 use Rattle.model.specs.Activity.{Interval}
-use Rattle.model.specs.Tablets.{Tablet, FrozenSet, standing, is_vacant, serves, RaiseCutoff, Write as WriteRows, Compact as CompactRows, Restart as RestartTablet}
+use Rattle.model.specs.Tablets.{Tablet, FrozenSet, standing, is_empty, serves, RaiseCutoff, Write as WriteRows, Compact as CompactRows, Restart as RestartTablet}
 use Rattle.model.specs.Records.{Schedule, schedule_of}
 use Rattle.model.specs.Acts.{At, Refusal, Future, Fenced, Moved, StaleSchema, TooOld, Idle, Ok, Rows, CutoffAt, Compacted, Counts, NoTablet}
 use Rattle.model.specs.Parts.{Master, Parts, Ticks, Restarts, Outcome, If, judged, answered}
@@ -21,21 +21,21 @@ use Rattle.row_values.specs.Elements.{in_order}
 use Rattle.model.specs.Looks.{known, names}
 
 -- the slot's part doesn't have what is wanted of it
-abbrev pub moved : ℕ → Tablet → Refusal
-moved slot t = Moved slot (standing t)
+abbrev pub has_moved : ℕ → Tablet → Refusal
+has_moved slot t = Moved slot (standing t)
 
 abbrev pub covers : Tablet → List ℕ → Bool
 covers t key = in_range t.low t.high (code_of key)
 
 -- whether the part serves the tablet, and its range has all keys of the batch
-abbrev pub takes : Tablet → Id → List Item → Bool
-takes t tablet batch = serves t tablet && list_all (λ item. covers t item.key) batch
+abbrev pub serves_all : Tablet → Id → List Item → Bool
+serves_all t tablet batch = serves t tablet && list_all (λ item. covers t item.key) batch
 
 unfoldable pub write : At → ℕ → List Item → ℕ → Parts → Outcome
 write place version batch n ps =
     let t = ps.tablet place.slot in
     judged
-    (If (not (takes t place.tablet batch)) (moved place.slot t) ∷ names t.fence Fenced ∷ If (not (t.version == version)) (StaleSchema t.version) ∷ [])
+    (If (not (serves_all t place.tablet batch)) (has_moved place.slot t) ∷ names t.fence Fenced ∷ If (not (t.version == version)) (StaleSchema t.version) ∷ [])
     (record { master = Ticks; tablets = record { slot = place.slot; act = WriteRows batch } ∷ []; reply = Ok [] })
 
 -- the refusal of the first place whose part doesn't serve its tablet, or hasn't the key in its range
@@ -43,11 +43,11 @@ abbrev pub moved_from_key : List At → List ℕ → (ℕ → Tablet) → Option
 moved_from_key [] key tablet = None
 moved_from_key (p ∷ places) key tablet =
     let t = tablet p.slot in
-    if serves t p.tablet && covers t key then moved_from_key places key tablet else Some (moved p.slot t)
+    if serves t p.tablet && covers t key then moved_from_key places key tablet else Some (has_moved p.slot t)
 
-abbrev pub is_empty : List At → Bool
-is_empty [] = true
-is_empty (p ∷ places) = false
+abbrev pub none_left : List At → Bool
+none_left [] = true
+none_left (p ∷ places) = false
 
 -- whether a place of a scan serves its tablet, begins at the code, and ends with the codes if it is the last
 abbrev pub goes_on : ℕ → Bool → Id → Tablet → Bool
@@ -58,7 +58,7 @@ abbrev pub moved_from_scan : List At → ℕ → (ℕ → Tablet) → Option Ref
 moved_from_scan [] from tablet = None
 moved_from_scan (p ∷ places) from tablet =
     let t = tablet p.slot in
-    if goes_on from (is_empty places) p.tablet t then moved_from_scan places t.high tablet else Some (moved p.slot t)
+    if goes_on from (none_left places) p.tablet t then moved_from_scan places t.high tablet else Some (has_moved p.slot t)
 
 abbrev pub first_moved : Option (List ℕ) → List At → (ℕ → Tablet) → Option Refusal
 first_moved None places tablet = moved_from_scan places 0 tablet
@@ -130,14 +130,14 @@ cutoff slot n ps =
     let t = ps.tablet slot in
     let to = allowed_cutoff (schedule_at ps.master slot) n in
     judged
-    (If (is_vacant t.presence) (moved slot t) ∷ [])
+    (If (is_empty t.presence) (has_moved slot t) ∷ [])
     (record { master = Ticks; tablets = record { slot = slot; act = RaiseCutoff to } ∷ []; reply = CutoffAt (max t.cutoff to) })
 
 unfoldable pub compact : ℕ → ℕ → Parts → Outcome
 compact slot n ps =
     let t = ps.tablet slot in
     judged
-    (If (is_vacant t.presence) (moved slot t) ∷ [])
+    (If (is_empty t.presence) (has_moved slot t) ∷ [])
     (record { master = Ticks; tablets = record { slot = slot; act = CompactRows } ∷ []; reply = Compacted (length t.versions) (length (kept t.versions t.cutoff)) })
 
 -- a restart of the master, which is number 0, or of a tablet
@@ -155,4 +155,4 @@ count_frozen (f ∷ fs) = length f.versions + count_frozen fs
 unfoldable pub stats : ℕ → ℕ → Parts → Outcome
 stats slot n ps =
     let t = ps.tablet slot in
-    answered (if is_vacant t.presence then NoTablet else Counts t.cutoff (length t.versions) (count_frozen t.frozen) (length t.inbox))
+    answered (if is_empty t.presence then NoTablet else Counts t.cutoff (length t.versions) (count_frozen t.frozen) (length t.inbox))

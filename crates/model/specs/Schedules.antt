@@ -18,8 +18,8 @@ abbrev pub low : Schedule → ℕ → ℕ
 low s now = max s.kept_low (now - s.retention * minute)
 
 -- the window at a stamp: the times to which a restore may go
-abbrev pub InWindow : Schedule → ℕ → ℕ → Type 0
-InWindow s now t = (low s now ≤ t) × (t < now)
+abbrev pub IsInWindow : Schedule → ℕ → ℕ → Type 0
+IsInWindow s now t = (low s now ≤ t) × (t < now)
 
 -- the stamp from which the next snapshot is due
 abbrev pub next_after : Option ℕ → Schedule → ℕ

@@ -13,7 +13,7 @@ use Rattle.model.specs.Catalog.{owns}
 use Rattle.model.specs.Activity.{Interval, active_at, last_of}
 use Rattle.row_values.specs.declared.value.RowOp.{RowOp}
 use Rattle.model.specs.Journal.{Change, NamespaceMade, NamespaceDropped, TableMade, TableRenamed, TableDropped, ColumnAdded, ColumnDropped, RowChanged, NamespaceRestored, NamespaceCloned, source_of, table_at, row_at}
-use Rattle.model.specs.Tablets.{Tablet, Body, RestoreFrom, Release, BodyKind, FenceKind, FreezeKind, RestoreFromKind, HideKind, CopyKind, ReleaseKind, kind_of, Command, Mark, FrozenSet, is_vacant, is_serving, is_done, holds_command, set_of}
+use Rattle.model.specs.Tablets.{Tablet, Body, RestoreFrom, Release, BodyKind, FenceKind, FreezeKind, RestoreFromKind, HideKind, CopyKind, ReleaseKind, kind_of, Command, Mark, FrozenSet, is_empty, is_serving, is_done, holds_command, set_of}
 use Rattle.model.specs.Records.{Listed, SnapshotRecord, RestorationRecord, RestorationState, Fencing, Snapshotting, Switching, Restoring, Releasing, Restored, CloneRecord, CloneState, Accepted, CloneSnapshot, Copying, CloneReleasing, CloneComplete, is_restored, is_cloned, point_of, TabletPair}
 use Rattle.model.specs.Parts.{Parts}
 
@@ -70,8 +70,8 @@ pub record FrozenStands (ps : Parts) (changes : List Change) (slot : ℕ) (f : F
 
 -- a serving or hidden tablet stands for the journal
 pub record Stands (ps : Parts) (changes : List Change) : Type 0 where
-  pub live : (slot : ℕ) → is_vacant (ps.tablet slot).presence ≡ false → LiveStands ps changes slot
-  pub frozen : (slot : ℕ) (f : FrozenSet) → is_vacant (ps.tablet slot).presence ≡ false → In f (ps.tablet slot).frozen → FrozenStands ps changes slot f
+  pub live : (slot : ℕ) → is_empty (ps.tablet slot).presence ≡ false → LiveStands ps changes slot
+  pub frozen : (slot : ℕ) (f : FrozenSet) → is_empty (ps.tablet slot).presence ≡ false → In f (ps.tablet slot).frozen → FrozenStands ps changes slot f
 
 -- Ranges cover the codes
 
@@ -101,7 +101,7 @@ pub record HoldsFrozen (snapshot : Id) (at : ℕ) (t : Tablet) : Type 0 where
 -- a listed tablet that is acked, or of a complete snapshot, holds its frozen set as long as it is present
 pub record SnapshotFacts (r : SnapshotRecord) (ps : Parts) : Type 0 where
   pub frozen : (l : Listed) → In l r.listed → (r.complete || l.acked) ≡ true → (ps.tablet l.slot).tablet ≡ l.tablet
-      → is_vacant (ps.tablet l.slot).presence ≡ false → HoldsFrozen r.id r.at (ps.tablet l.slot)
+      → is_empty (ps.tablet l.slot).presence ≡ false → HoldsFrozen r.id r.at (ps.tablet l.slot)
 
 -- every active tablet of the namespace is fenced by the operation
 abbrev pub AllFenced : Id → Id → Parts → Type 0

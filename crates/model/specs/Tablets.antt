@@ -80,11 +80,11 @@ abbrev pub cutoff_of_set : Option FrozenSet → ℕ
 cutoff_of_set None = 0
 cutoff_of_set (Some f) = f.cutoff
 
--- a part without a tablet, one whose tablet is in service, and one whose tablet was put out of it at a stamp
+-- a part without a tablet, one that serves its tablet, and one whose tablet was hidden at a stamp
 pub data Presence : Type 0 where
-  Vacant : Presence
-  InService : Presence
-  OutOfService : (ended : ℕ) → Presence
+  EmptyPart : Presence
+  ServingPart : Presence
+  HiddenPart : (ended : ℕ) → Presence
 
 pub record Tablet : Type 0 where
   pub clock : ℕ
@@ -108,27 +108,27 @@ pub data Standing : Type 0 where
   Hidden : (tablet : Id) (ended : ℕ) → Standing
 
 abbrev pub standing_of : Presence → Tablet → Standing
-standing_of Vacant t = Empty
-standing_of InService t = Serving t.tablet t.low t.high
-standing_of (OutOfService ended) t = Hidden t.tablet ended
+standing_of EmptyPart t = Empty
+standing_of ServingPart t = Serving t.tablet t.low t.high
+standing_of (HiddenPart ended) t = Hidden t.tablet ended
 
 abbrev pub standing : Tablet → Standing
 standing t = standing_of t.presence t
 
-abbrev pub is_vacant : Presence → Bool
-is_vacant Vacant = true
-is_vacant InService = false
-is_vacant (OutOfService ended) = false
+abbrev pub is_empty : Presence → Bool
+is_empty EmptyPart = true
+is_empty ServingPart = false
+is_empty (HiddenPart ended) = false
 
 abbrev pub is_serving : Presence → Bool
-is_serving Vacant = false
-is_serving InService = true
-is_serving (OutOfService ended) = false
+is_serving EmptyPart = false
+is_serving ServingPart = true
+is_serving (HiddenPart ended) = false
 
 abbrev pub is_hidden : Presence → Bool
-is_hidden Vacant = false
-is_hidden InService = false
-is_hidden (OutOfService ended) = true
+is_hidden EmptyPart = false
+is_hidden ServingPart = false
+is_hidden (HiddenPart ended) = true
 
 -- whether the part serves this tablet
 abbrev pub serves : Tablet → Id → Bool
@@ -138,7 +138,7 @@ serves t tablet = is_serving t.presence && same t.tablet tablet
 abbrev pub emptied : ℕ → Tablet
 emptied clock = record {
   clock = clock;
-  presence = Vacant;
+  presence = EmptyPart;
   tablet = record { kind = TabletKind; number = 0 };
   table = record { kind = TableKind; number = 0 };
   low = 0;
@@ -158,7 +158,7 @@ pub data TabletAct : Type 0 where
   Make : (tablet table : Id) (low high version : ℕ) → TabletAct
   Child : (tablet table : Id) (low high version : ℕ) (versions : List Version) (cutoff : ℕ) → TabletAct
   SetVersion : (version : ℕ) → TabletAct
-  PutOut : (ended : ℕ) → TabletAct
+  HideSince : (ended : ℕ) → TabletAct
   Write : (batch : List Item) → TabletAct
   RaiseCutoff : (to : ℕ) → TabletAct
   Compact : TabletAct
@@ -177,7 +177,7 @@ ticked n t = record t { clock = n }
 abbrev pub placed : Id → Id → ℕ → ℕ → ℕ → List Version → ℕ → ℕ → Tablet → Tablet
 placed tablet table low high version versions cutoff n t = record {
   clock = n;
-  presence = InService;
+  presence = ServingPart;
   tablet = tablet;
   table = table;
   low = low;
@@ -195,8 +195,8 @@ abbrev pub versioned : ℕ → ℕ → Tablet → Tablet
 versioned version n t = record t { clock = n; version = version }
 
 -- the tablet is hidden
-abbrev pub put_out : ℕ → ℕ → Tablet → Tablet
-put_out ended n t = record t { clock = n; presence = OutOfService ended }
+abbrev pub hidden_since : ℕ → ℕ → Tablet → Tablet
+hidden_since ended n t = record t { clock = n; presence = HiddenPart ended }
 
 abbrev pub wrote : List Item → ℕ → Tablet → Tablet
 wrote batch n t = record t { clock = n; versions = written t.versions n batch }
@@ -204,8 +204,8 @@ wrote batch n t = record t { clock = n; versions = written t.versions n batch }
 abbrev pub raised : ℕ → ℕ → Tablet → Tablet
 raised to n t = record t { clock = n; cutoff = max t.cutoff to }
 
-abbrev pub compact : ℕ → Tablet → Tablet
-compact n t = record t { clock = n; versions = kept t.versions t.cutoff }
+abbrev pub compacted : ℕ → Tablet → Tablet
+compacted n t = record t { clock = n; versions = kept t.versions t.cutoff }
 
 -- the command goes behind the others, unless the inbox holds it or it is done
 abbrev pub offered : Command → ℕ → Tablet → Tablet
@@ -220,10 +220,10 @@ obeyed Fence operation tablet rows t = record t { fence = Some operation }
 obeyed (Freeze snapshot at) operation tablet rows t =
     record t { frozen = t.frozen ++ record { snapshot = snapshot; at = at; versions = frozen at t.versions; cutoff = t.cutoff } ∷ [] }
 obeyed (RestoreFrom snapshot to point version) operation tablet rows t =
-    record t { presence = InService; version = version; versions = of_rows (rows_of_set (set_of t.frozen snapshot) to) point; cutoff = point; fence = Some operation }
-obeyed (Hide ended) operation tablet rows t = record t { presence = OutOfService ended; fence = None }
+    record t { presence = ServingPart; version = version; versions = of_rows (rows_of_set (set_of t.frozen snapshot) to) point; cutoff = point; fence = Some operation }
+obeyed (Hide ended) operation tablet rows t = record t { presence = HiddenPart ended; fence = None }
 obeyed (Copy source snapshot to stamp table low high version) operation tablet rows t =
-    record t { presence = InService; tablet = tablet; table = table; low = low; high = high; version = version; versions = of_rows rows stamp; cutoff = stamp; fence = Some operation }
+    record t { presence = ServingPart; tablet = tablet; table = table; low = low; high = high; version = version; versions = of_rows rows stamp; cutoff = stamp; fence = Some operation }
 obeyed (Release cutoff) operation tablet rows t = record t { cutoff = max t.cutoff cutoff; fence = None }
 
 -- the first command of the inbox is done and marked
@@ -246,10 +246,10 @@ effect Clock n t = ticked n t
 effect (Make tablet table low high version) n t = placed tablet table low high version [] n n t
 effect (Child tablet table low high version versions cutoff) n t = placed tablet table low high version versions cutoff n t
 effect (SetVersion version) n t = versioned version n t
-effect (PutOut ended) n t = put_out ended n t
+effect (HideSince ended) n t = hidden_since ended n t
 effect (Write batch) n t = wrote batch n t
 effect (RaiseCutoff to) n t = raised to n t
-effect Compact n t = compact n t
+effect Compact n t = compacted n t
 effect (Offer command) n t = offered command n t
 effect (Process rows) n t = processed t.inbox rows n t
 effect Clear n t = emptied n

@@ -11,7 +11,8 @@ use Rattle.model.specs.Journal as made
 use Rattle.model.specs.Parts.{Master, Parts}
 use Rattle.model.specs.Right.{NothingLate}
 use Rattle.model.specs.Work.{act_of_work, collecting, next_act, next_work}
-use Rattle.model.specs.History.{Right, ReplyRight, journal_of, rows_made, with_table, with_command, with_restoration, with_clone, with_either, with_changes}
+use Rattle.model.specs.Replies.{Right, ReplyRight}
+use Rattle.model.specs.History.{journal_of, rows_made, with_table, with_command, with_restoration, with_clone, with_either, with_changes}
 use Rattle.model_rows.specs.Runs.{Run, done, coordinated}
 
 -- nothing is late among the earlier changes

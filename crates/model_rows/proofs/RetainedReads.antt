@@ -6,7 +6,7 @@ use Rattle.model.specs.History.{activity_of, snapshots_taken}
 use Rattle.model.specs.Parts.{Parts}
 use Rattle.model.specs.Records.{Schedule}
 use Rattle.model.specs.Retained.{Retained, RetainedFor, IsPresent}
-use Rattle.model.specs.Tablets.{is_vacant}
+use Rattle.model.specs.Tablets.{is_empty}
 use Rattle.model_rows.proofs.RightEntries.{only_one}
 use Rattle.model_rows.specs.Computed.{the_book}
 use Rattle.model_rows.specs.Scripts.{since, N, S, early, ready}
@@ -22,7 +22,7 @@ one_interval : activity_of 64 ready.entries ≡ since 2 ∷ []
 unfolding the_book
 one_interval = refl
 
-only_slot : (slot : ℕ) → is_vacant (ready.parts.tablet slot).presence ≡ false → slot ≡ 1
+only_slot : (slot : ℕ) → is_empty (ready.parts.tablet slot).presence ≡ false → slot ≡ 1
 unfolding the_book
 only_slot slot here = grind (arith, nat_tests)
 

@@ -4,7 +4,8 @@ use Rattle.std.proofs.lemmas.Bool.{leb-true, ltb-true}
 use Rattle.std.proofs.lemmas.Bool.Decides.{nat_tests}
 use Rattle.model.specs.Acts.{At, CloneNamespace, DropTable, Split}
 use Rattle.model.specs.Activity.{Interval}
-use Rattle.model.specs.History.{Right, journal_of}
+use Rattle.model.specs.Replies.{Right}
+use Rattle.model.specs.History.{journal_of}
 use Rattle.model.specs.Journal.{Change, NamespaceCloned, TableDropped}
 use Rattle.model.specs.Right.{NothingLate}
 use Rattle.model_rows.proofs.CoordinatedRuns.{coordinated_right}

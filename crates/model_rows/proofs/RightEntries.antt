@@ -12,14 +12,15 @@ use Rattle.row_values.specs.Ranges.{in_range}
 use Rattle.row_values.specs.Store.{present, of_key}
 use Rattle.model.specs.Acts.{At, Act, NamedCell, NamedItem, Placed, Rows}
 use Rattle.model.specs.Entries.{Entry}
-use Rattle.model.specs.History.{Right, ReplyRight, replay, journal_of}
+use Rattle.model.specs.Replies.{Right, ReplyRight}
+use Rattle.model.specs.History.{replay, journal_of}
 use Rattle.model.specs.Looks.{batch_fault, place_of}
 use Rattle.model.specs.Activity.{Interval, active_at}
 use Rattle.row_values.specs.Schema.{Column}
 use Rattle.model_rows.specs.Runs.{Run, entry_on, event_of, done}
 use Rattle.model.specs.Tablets.{Tablet}
 use Rattle.model.specs.Journal.{Change, ChangeAct, NamespaceRestored, NamespaceCloned, namespace_at, table_at, row_at}
-use Rattle.model.specs.Right.{NothingLate, is_fixed, TableFound, LookRight, PlacesRight, holds_keys, rows_of_places}
+use Rattle.model.specs.Right.{NothingLate, is_fixed, TableFound, LookRight, PlacesRight, holds_keys, rows_wanted}
 use Rattle.row_values.specs.Ids.{Id}
 use Rattle.row_values.specs.Elements.{In}
 use Rattle.model_rows.specs.Scripts.{asked, asking, reading, t, row}
@@ -66,8 +67,8 @@ table_found changes n namespace owner id columns named found = record {
 
 -- a read of a key at one place is right for all keys where it is for its own
 pub one_row : (changes : List Change) (time : ℕ) (k : List ℕ) (columns : List ℕ) (tablets : ℕ → Tablet) (p : At) (cells : List Cell)
-    → of_key k (row k cells ∷ []) ≡ rows_of_places changes time (Some k) columns tablets (p ∷ []) k → (key : List ℕ)
-    → of_key key (row k cells ∷ []) ≡ rows_of_places changes time (Some k) columns tablets (p ∷ []) key
+    → of_key k (row k cells ∷ []) ≡ rows_wanted changes time (Some k) columns tablets (p ∷ []) k → (key : List ℕ)
+    → of_key key (row k cells ∷ []) ≡ rows_wanted changes time (Some k) columns tablets (p ∷ []) key
 one_row changes time k columns tablets p cells own key = by (cases_Bool (bytes_eq k key))
   where
     other : Bool → List KeyedRow
@@ -76,9 +77,9 @@ one_row changes time k columns tablets p cells own key = by (cases_Bool (bytes_e
         then present key (cut_to (row_at changes time (tablets p.slot).table key) columns)
         else []) ++ []
 
-    by : (bytes_eq k key ≡ true) ⊎ (bytes_eq k key ≡ false) → of_key key (row k cells ∷ []) ≡ rows_of_places changes time (Some k) columns tablets (p ∷ []) key
+    by : (bytes_eq k key ≡ true) ⊎ (bytes_eq k key ≡ false) → of_key key (row k cells ∷ []) ≡ rows_wanted changes time (Some k) columns tablets (p ∷ []) key
     by (inl e) =
-        subst (λ q. of_key q (row k cells ∷ []) ≡ rows_of_places changes time (Some k) columns tablets (p ∷ []) q) ((bytes_eq-Decides k key).0 e) own
+        subst (λ q. of_key q (row k cells ∷ []) ≡ rows_wanted changes time (Some k) columns tablets (p ∷ []) q) ((bytes_eq-Decides k key).0 e) own
     by (inr e) = ap (λ test. if test then row k cells ∷ [] else []) e ∙ sym (ap other e)
 
 -- the entry that an act makes after a run
@@ -160,7 +161,7 @@ look_right slots run namespace owner table key cells now version columns right r
 pub read_right : (slots : ℕ) (run : Run) (p : At) (version : ℕ) (key columns : List ℕ) (cells : List Cell)
     → Right slots run.entries → (newest (reading p version key columns) run).reply ≡ Rows (row key cells ∷ [])
     → of_key key (row key cells ∷ [])
-    ≡ rows_of_places (journal_of slots run.entries) (newest (reading p version key columns) run).stamp (Some key) columns (replay slots run.entries).tablet (p ∷ []) key
+    ≡ rows_wanted (journal_of slots run.entries) (newest (reading p version key columns) run).stamp (Some key) columns (replay slots run.entries).tablet (p ∷ []) key
     → NothingLate (journal_of slots run.entries)
     → Right slots (done (reading p version key columns) run).entries
 unfolding journal_of

@@ -4,7 +4,8 @@ use Rattle.row_values.specs.declared.rows.KeyedRow.{KeyedRow}
 use Rattle.model.specs.Acts.{Placed, Rows, Refused, UnknownTable}
 use Rattle.model.specs.Right.{IsActivePlace}
 use Rattle.model.specs.Entries.{Entry}
-use Rattle.model.specs.History.{Right, journal_of}
+use Rattle.model.specs.Replies.{Right}
+use Rattle.model.specs.History.{journal_of}
 use Rattle.model_rows.proofs.RightEntries.{look_right, none_late, only_one, read_right, table_found}
 use Rattle.model_rows.proofs.Numbers.{first_number, none_is_not_one, two_is_not_one}
 use Rattle.model_rows.specs.Computed.{the_book}

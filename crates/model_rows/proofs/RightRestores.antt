@@ -2,7 +2,8 @@
 use Rattle.std.proofs.Common.{◌≡◌, [], ◌∷◌, ◌<◌, map, refl, arith}
 use Rattle.std.proofs.lemmas.Bool.{leb-true, ltb-true}
 use Rattle.std.proofs.lemmas.Bool.Decides.{nat_tests}
-use Rattle.model.specs.History.{Right, journal_of, snapshots_taken}
+use Rattle.model.specs.Replies.{Right}
+use Rattle.model.specs.History.{journal_of, snapshots_taken}
 use Rattle.model.specs.Drawn.{version_by}
 use Rattle.model.specs.Records.{SnapshotRecord}
 use Rattle.model.specs.Right.{NothingLate}

@@ -2,7 +2,7 @@
 use Rattle.std.proofs.Common.{◌<◌, [], ◌∷◌, ◌++◌, refl, arith}
 use Rattle.std.proofs.lemmas.Bool.{leb-true, ltb-true}
 use Rattle.model.specs.Acts.{Busy, Ok, Refused, TooEarly}
-use Rattle.model.specs.History.{Right}
+use Rattle.model.specs.Replies.{Right}
 use Rattle.model.specs.Right.{NothingLate}
 use Rattle.model_rows.proofs.RightEntries.{none_late}
 use Rattle.model_rows.specs.Computed.{the_book}

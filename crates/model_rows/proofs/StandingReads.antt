@@ -7,7 +7,7 @@ use Rattle.model.specs.Journal.{row_at}
 use Rattle.model.specs.Parts.{Parts}
 use Rattle.row_values.specs.Store.{read_of}
 use Rattle.model.specs.Stands.{Stands, LiveStands, Cover}
-use Rattle.model.specs.Tablets.{FrozenSet, is_vacant}
+use Rattle.model.specs.Tablets.{FrozenSet, is_empty}
 use Rattle.model_rows.proofs.Numbers.{none_is_not_one}
 use Rattle.model_rows.specs.Computed.{the_book}
 use Rattle.model_rows.specs.FirstRead.{changes, written}
@@ -22,7 +22,7 @@ written_read : read_of (written.parts.tablet 1).versions x (early 3) ≡ row_at 
 unfolding the_book
 written_read = written_stands_at_one.reads (since 2) x (early 3) refl refl (leb-true _ _ refl) (leb-true _ _ refl) refl refl refl
 
-only_slot : (slot : ℕ) → is_vacant (written.parts.tablet slot).presence ≡ false → slot ≡ 1
+only_slot : (slot : ℕ) → is_empty (written.parts.tablet slot).presence ≡ false → slot ≡ 1
 unfolding the_book
 only_slot slot here = grind (arith, nat_tests)
 

@@ -63,14 +63,14 @@ kept_of all v later c =
     else if has_old later v.key c then []
     else as_version v.key v.stamp (read_of all v.key c)
 
-abbrev pub kept_from : List Version → List Version → ℕ → List Version
-kept_from all [] c = []
-kept_from all (v ∷ vs) c = kept_of all v vs c ++ kept_from all vs c
+abbrev pub compacted_from : List Version → List Version → ℕ → List Version
+compacted_from all [] c = []
+compacted_from all (v ∷ vs) c = kept_of all v vs c ++ compacted_from all vs c
 
 -- what compaction keeps under a cutoff: for each key the versions after it, and before them the row at it, as one upsert
 -- at the newest stamp that it folds
 abbrev pub kept : List Version → ℕ → List Version
-kept versions c = kept_from versions versions c
+kept versions c = compacted_from versions versions c
 
 -- the versions whose partition code is in the range
 abbrev pub part_of : ℕ → ℕ → List Version → List Version

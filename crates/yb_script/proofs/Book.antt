@@ -6,7 +6,8 @@ use Rattle.std.proofs.Math.Path.{fun_ext}
 use Rattle.model.specs.Acts.{CreateNamespace, CreateTable}
 use Rattle.model.specs.Entries.{Entry}
 use Rattle.row_values.specs.Elements.{AllOf}
-use Rattle.model.specs.History.{Legal, Right}
+use Rattle.model.specs.History.{Legal}
+use Rattle.model.specs.Replies.{Right}
 use Rattle.model.specs.Scripts.{Numbered, ScriptAsked, ToMaster}
 use Rattle.model.specs.Scripts as scripts
 use Rattle.model.specs.Running.{run_of}

@@ -4,7 +4,7 @@ use Rattle.row_values.specs.Store.{Version}
 use Rattle.row_values.specs.Schema.{first_schema}
 use Rattle.model.specs.Catalog.{NamespaceRecord, TableRecord, KeptFrom, Owner}
 use Rattle.model.specs.Activity.{Interval}
-use Rattle.model.specs.Tablets.{Tablet, InService}
+use Rattle.model.specs.Tablets.{Tablet, ServingPart}
 use Rattle.row_values.specs.Ids.{Id}
 use Rattle.model.specs.Parts.{Master, empty_master, none_drawn}
 use Rattle.yb_script.specs.Runs.{Catalog}
@@ -73,7 +73,7 @@ tabled_at clock c = record (empty_master slot_count) {
 abbrev pub serving_at : ℕ → ℕ → List Version → Tablet
 serving_at clock made_at versions = record {
   clock = clock;
-  presence = InService;
+  presence = ServingPart;
   tablet = the_tablet;
   table = the_table;
   low = 0;

@@ -9,7 +9,8 @@ use Rattle.model.specs.Entries.{Entry}
 use Rattle.yb_script.specs.declared.script.ScriptCommand.{ScriptCommand}
 use Rattle.yb_script.specs.declared.run.Stop.{Stop}
 use Rattle.yb_script.specs.declared.run.Stop.TheVariants.{WriteFault, NoMemory}
-use Rattle.model.specs.History.{Legal, Right}
+use Rattle.model.specs.History.{Legal}
+use Rattle.model.specs.Replies.{Right}
 use Rattle.model.specs.Running.{run_of}
 use Rattle.yb_script.specs.Seen.{slot_count, entry_of, numbered_of}
 use Rattle.yb_script.specs.Runs.{State, done, looked_for}

@@ -1,5 +1,5 @@
 -- Identifiers.
-use Rattle.std.specs.Prelude.{ℕ, Bool, ◌==◌, ◌&&◌}
+use Rattle.std.specs.Prelude.{ℕ, Bool, ◌==◌, ◌&&◌, ◌<◌, ◌≤◌, ◌^◌}
 
 pub data Kind : Type 0 where
   Namespace : Kind
@@ -25,6 +25,14 @@ kind_digit Clone = 7
 pub record Id : Type 0 where
   pub kind : Kind
   pub number : ℕ
+
+-- the numbers of identifiers have six bytes
+abbrev pub id_bound : ℕ
+id_bound = 2 ^ 48
+
+-- the identifier is of something: nothing has the number 0
+abbrev pub IsId : Id → Type 0
+IsId id = (1 ≤ id.number) × (id.number < id_bound)
 
 abbrev pub same : Id → Id → Bool
 same a b = (a.number == b.number) && (kind_digit a.kind == kind_digit b.kind)

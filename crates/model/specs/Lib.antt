@@ -27,6 +27,7 @@ pub mod Replies
 pub mod Stands
 pub mod Retained
 pub mod Left
+pub mod Settling
 pub mod Scripts
 pub mod Texts
 pub mod Running

@@ -22,3 +22,4 @@ mod RightWindows
 mod RightClones
 mod Covers
 mod ScriptTexts
+mod Settled

@@ -146,8 +146,10 @@ batch_is : (columns : List Column) (batch : List NamedItem) → IsNamedBatch bat
 batch_is columns batch h =
     let long = length-map batch (item_by_id columns) in (
       subst (λ k. 1 ≤ k) (sym long) h.0,
-      subst (λ k. k ≤ 64) (sym long) h.1,
-      all_mapped (λ i. IsKey i.key × IsNamedOp i.op) (λ i. IsKey i.key × IsOp i.op) (item_by_id columns) batch (λ i k. (k.0, op_is columns i.op k.1)) h.2,
+      (
+        subst (λ k. k ≤ 64) (sym long) h.1,
+        all_mapped (λ i. IsKey i.key × IsNamedOp i.op) (λ i. IsKey i.key × IsOp i.op) (item_by_id columns) batch (λ i k. (k.0, op_is columns i.op k.1)) h.2,
+      ),
     )
 
 pub alone_is : (key : List ℕ) → IsKey key → IsNamedBatch (key_alone key)

@@ -56,7 +56,7 @@ been_read_legal = (
   (
     (
       (made_legal, step_of 64 _ _ (key_asked (v_is 1) ((one_to 32 refl, tt), tt) refl) refl refl refl),
-      step_of 64 _ _ (one_to 64 refl, (at_most 1 1 refl, at_most 1 64 refl, ((one_to 64 refl, (at_most 1 16 refl, (tt, tt))), tt))) refl refl refl,
+      step_of 64 _ _ (one_to 64 refl, (at_most 1 1 refl, (at_most 1 64 refl, ((one_to 64 refl, (at_most 1 16 refl, (tt, tt))), tt)))) refl refl refl,
     ),
     step_of 64 _ _ (key_asked [] tt refl) refl refl refl,
   ),

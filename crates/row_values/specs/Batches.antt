@@ -1,4 +1,5 @@
--- What a batch of writes may hold.
+-- What a batch of writes may hold: at most 64 items, each with a key of 1 to 64 bytes and at most 16 cells, whose texts
+-- have at most 256 bytes.
 use Rattle.std.specs.Prelude.{ℕ, ◌≤◌, List, length}
 use Rattle.row_values.specs.Elements.{AllOf}
 use Rattle.row_values.specs.declared.value.Value.{Value}
@@ -19,5 +20,10 @@ abbrev pub IsOp : RowOp → Type 0
 IsOp (Upsert cells) = (length cells ≤ 16) × AllOf (λ c. IsValue c.value) cells
 IsOp Delete = Unit {0}
 
+-- what a store takes
+abbrev pub FitsStore : List Item → Type 0
+FitsStore items = (length items ≤ 64) × AllOf (λ i. IsKey i.key × IsOp i.op) items
+
+-- a batch of writes has an item besides
 abbrev pub IsBatch : List Item → Type 0
-IsBatch batch = (1 ≤ length batch) × (length batch ≤ 64) × AllOf (λ i. IsKey i.key × IsOp i.op) batch
+IsBatch batch = (1 ≤ length batch) × FitsStore batch

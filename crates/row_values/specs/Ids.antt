@@ -1,5 +1,5 @@
 -- Identifiers.
-use Rattle.std.specs.Prelude.{ℕ, Bool, ◌==◌, ◌&&◌, ◌<◌, ◌≤◌, ◌^◌}
+use Rattle.std.specs.Prelude.{ℕ, zero, suc, Bool, ◌==◌, ◌&&◌, ◌<◌, ◌≤◌, ◌^◌, ◌+◌, ◌/◌, ◌%◌, nat_lt, if◌then◌else◌, List, [], ◌∷◌, ◌++◌, codes}
 
 pub data Kind : Type 0 where
   Namespace : Kind
@@ -40,3 +40,17 @@ same a b = (a.number == b.number) && (kind_digit a.kind == kind_digit b.kind)
 -- the identifier of nothing
 abbrev pub no_id : Id
 no_id = record { kind = Namespace; number = 0 }
+
+-- Its text
+
+abbrev pub hex_digit : ℕ → ℕ
+hex_digit d = if nat_lt d 10 then 48 + d else 87 + d
+
+-- the last so many hexadecimal digits of a number
+abbrev pub hex_digits : ℕ → ℕ → List ℕ
+hex_digits zero n = []
+hex_digits (suc count) n = hex_digits count (n / 16) ++ hex_digit (n % 16) ∷ []
+
+-- an identifier as a UUID: its kind stands in the first field, its number in the last
+abbrev pub id_text : Id → List ℕ
+id_text id = hex_digits 8 (kind_digit id.kind) ++ codes "-0000-4000-8000-" ++ hex_digits 12 id.number

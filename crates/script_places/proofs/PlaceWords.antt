@@ -17,6 +17,7 @@ use Rattle.script_places.specs.declared.place.Place.TheVariants as places
 use Rattle.script_places.specs.Words.{Word, wanted}
 use Rattle.script_places.specs.Names.{is_name, is_key, name_at, key_at}
 use Rattle.script_places.specs.Numbers.{number_of, from_least, number_in, number_at}
+use Rattle.yb_ident.specs.Seen.{kind_of}
 use Rattle.script_places.specs.Identifiers.{ident_of}
 use Rattle.script_places.specs.Values.{cells_from}
 use Rattle.script_places.specs.Columns.{column_of, column_at, columns_from}
@@ -172,8 +173,8 @@ stands slots places.Slot rest (w ∷ ws) p few bound last fit e =
     one_word slots places.Slot rest w ws t.0 p t.2 (ap (λ (v : Word). v ∷ []) n.0, n.1, n.2) fit
 stands slots (places.Identifier kind) rest [] p few bound last fit e = absurd cc
 stands slots (places.Identifier kind) rest (w ∷ ws) p few bound last fit e =
-    let t = took_some (ident_of kind w) BadIdentifier ws p e in
-    one_word slots (places.Identifier kind) rest w ws t.0 p t.2 (w, refl, ident_is kind w t.0 t.1) fit
+    let t = took_some (ident_of (kind_of kind) w) BadIdentifier ws p e in
+    one_word slots (places.Identifier kind) rest w ws t.0 p t.2 (w, refl, ident_is (kind_of kind) w t.0 t.1) fit
 stands slots places.Column rest [] p few bound last fit e = absurd cc
 stands slots places.Column rest (w ∷ ws) p few bound last fit e =
     let t = took_one (column_of w) ws p e in
@@ -227,7 +228,7 @@ read_again slots (places.Number least most) x front others few bound last w =
     ap (read_one slots (places.Number least most) others) w.0 ∙ number_first BadNumber least most x others (below most (2 ^ 64) bound) w.1 w.2
 read_again slots places.Slot x front others few bound last w = ap (read_one slots places.Slot others) w.0 ∙ number_first NoSuchSlot 1 slots x others few w.1 w.2
 read_again slots (places.Identifier kind) x front others few bound last w =
-    ap (read_one slots (places.Identifier kind) others) w.1 ∙ rw (ident_again kind x w.0 w.2) refl
+    ap (read_one slots (places.Identifier kind) others) w.1 ∙ rw (ident_again (kind_of kind) x w.0 w.2) refl
 read_again slots places.Column x front others few bound last w = ap (read_one slots places.Column others) w.0 ∙ rw (column_again x w.1) refl
 read_again slots places.Time x front others few bound last w =
     let e : front ++ others ≡ time_words x = ap (λ (vs : List Word). front ++ vs) (last refl) ∙ append-nil front ∙ w.0 in
@@ -312,7 +313,7 @@ refused_there slots places.Slot rest cause (w ∷ ws) few bound fit e =
     let n = not_some (number_in 1 slots w) NoSuchSlot ws cause e in (number_not 1 slots w few n.0, n.1)
 refused_there slots (places.Identifier kind) rest cause [] few bound fit e = absurd cc
 refused_there slots (places.Identifier kind) rest cause (w ∷ ws) few bound fit e =
-    let n = not_some (ident_of kind w) BadIdentifier ws cause e in (ident_not kind w n.0, n.1)
+    let n = not_some (ident_of (kind_of kind) w) BadIdentifier ws cause e in (ident_not (kind_of kind) w n.0, n.1)
 refused_there slots places.Column rest cause [] few bound fit e = absurd cc
 refused_there slots places.Column rest cause (w ∷ ws) few bound fit e = column_not w cause (not_one (column_of w) ws cause e)
 refused_there slots places.Time rest cause ws few bound fit e = let n = not_some (time_of ws) BadTime [] cause e in (time_not ws n.0, n.1)
@@ -337,7 +338,7 @@ refused_again slots places.Slot cause [] few bound r = absurd r
 refused_again slots places.Slot cause (w ∷ ws) few bound r =
     let none = no_number 1 slots w few r.0 in rw none (ap failed (sym r.1))
 refused_again slots (places.Identifier kind) cause [] few bound r = absurd r
-refused_again slots (places.Identifier kind) cause (w ∷ ws) few bound r = rw (no_ident kind w r.0) (ap failed (sym r.1))
+refused_again slots (places.Identifier kind) cause (w ∷ ws) few bound r = rw (no_ident (kind_of kind) w r.0) (ap failed (sym r.1))
 refused_again slots places.Column cause [] few bound r = absurd r
 refused_again slots places.Column cause (w ∷ ws) few bound r = rw (column_refused w cause r.0 r.1) refl
 refused_again slots places.Time cause ws few bound r = rw (no_time ws r.0) (ap failed (sym r.1))

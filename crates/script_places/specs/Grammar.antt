@@ -2,8 +2,8 @@
 use Rattle.std.specs.Prelude.{◌≡◌, ℕ, ◌≤◌, ◌^◌, Bool, true, false, not, ◌&&◌, ◌||◌, nat_lt, List, [], ◌∷◌, ◌++◌, ◌⊎◌, codes, decimal, bytes_eq}
 use Rattle.row_values.specs.declared.value.Value.{Value}
 use Rattle.table_schema.specs.declared.column.NewColumn.{NewColumn}
-use Rattle.yb_ident.specs.declared.kind.Kind.{Kind}
-use Rattle.yb_ident.specs.IdentValue.{IdentValue}
+use Rattle.row_values.specs.Ids.{Kind, Id}
+use Rattle.yb_ident.specs.Seen.{kind_of}
 use Rattle.script_words.specs.declared.cause.Cause.{Cause}
 use Rattle.script_words.specs.declared.cause.Cause.TheVariants.{UnknownCommand, WrongWords, BadName, BadKey, BadValue, BadNumber, BadIdentifier, BadTime, NoSuchSlot, RepeatedColumn}
 use Rattle.script_places.specs.declared.types.NamedCell.{NamedCell}
@@ -36,7 +36,7 @@ IsNumber least most w = (n : ℕ) × (w ≡ decimal n) × (least ≤ n) × (n �
 
 -- an identifier of this kind
 abbrev pub IsIdentifier : Kind → Word → Type 0
-IsIdentifier kind w = (i : IdentValue) × WritesIdent kind i w
+IsIdentifier kind w = (i : Id) × WritesIdent kind i w
 
 abbrev pub IsValue : Word → Type 0
 IsValue w = (value : Value) × (w ≡ value_word value) × FitsValue value
@@ -90,7 +90,7 @@ RefusedAt slots places.Name cause ws = First ws (λ w. (is_name w ≡ false) × 
 RefusedAt slots places.Key cause ws = First ws (λ w. (is_key w ≡ false) × (cause ≡ BadKey))
 RefusedAt slots (places.Number least most) cause ws = First ws (λ w. ¬ (IsNumber least most w) × (cause ≡ BadNumber))
 RefusedAt slots places.Slot cause ws = First ws (λ w. ¬ (IsNumber 1 slots w) × (cause ≡ NoSuchSlot))
-RefusedAt slots (places.Identifier kind) cause ws = First ws (λ w. ¬ (IsIdentifier kind w) × (cause ≡ BadIdentifier))
+RefusedAt slots (places.Identifier kind) cause ws = First ws (λ w. ¬ (IsIdentifier (kind_of kind) w) × (cause ≡ BadIdentifier))
 RefusedAt slots places.Column cause ws = First ws (λ w. ¬ (IsColumn w) × (cause ≡ BadName))
 RefusedAt slots places.Time cause ws = ¬ (IsTime ws) × (cause ≡ BadTime)
 RefusedAt slots places.Cells cause ws = CellsRefused cause ws

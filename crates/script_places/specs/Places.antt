@@ -1,7 +1,8 @@
 -- What the places of a command make of its words, from left to right.
 use Rattle.std.specs.Prelude.{ℕ, if◌then◌else◌, List, [], ◌∷◌, Result, Ok, Err, bytes_eq}
 use Rattle.table_schema.specs.declared.column.NewColumn.{NewColumn}
-use Rattle.yb_ident.specs.IdentValue.{IdentValue}
+use Rattle.row_values.specs.Ids.{Id}
+use Rattle.yb_ident.specs.Seen.{kind_of}
 use Rattle.script_words.specs.declared.cause.Cause.{Cause}
 use Rattle.script_words.specs.declared.cause.Cause.TheVariants.{WrongWords, BadNumber, BadTime, NoSuchSlot}
 use Rattle.script_words.specs.Reading.{◌>>=◌}
@@ -28,7 +29,7 @@ Meaning places.Name = Word
 Meaning places.Key = Word
 Meaning (places.Number least most) = ℕ
 Meaning places.Slot = ℕ
-Meaning (places.Identifier kind) = IdentValue
+Meaning (places.Identifier kind) = Id
 Meaning places.Column = NewColumn
 Meaning places.Time = Time
 Meaning places.Cells = List NamedCell
@@ -42,7 +43,7 @@ at slots places.Name ws = name_at ws
 at slots places.Key ws = key_at ws
 at slots (places.Number least most) ws = number_at BadNumber least most ws
 at slots places.Slot ws = number_at NoSuchSlot 1 slots ws
-at slots (places.Identifier kind) ws = identifier_at kind ws
+at slots (places.Identifier kind) ws = identifier_at (kind_of kind) ws
 at slots places.Column ws = column_at ws
 at slots places.Time ws = wanted BadTime (time_of ws) >>= λ time. Ok (time, [])
 at slots places.Cells ws = cells_from [] ws >>= λ cells. Ok (cells, [])

@@ -6,8 +6,8 @@ use Rattle.row_values.specs.declared.value.Value.TheVariants as values
 use Rattle.table_schema.specs.declared.kind.Kind.{Kind}
 use Rattle.table_schema.specs.declared.kind.Kind.TheVariants as kinds
 use Rattle.table_schema.specs.declared.column.NewColumn.{NewColumn}
-use Rattle.yb_ident.specs.declared.kind.Kind as identified
-use Rattle.yb_ident.specs.IdentValue.{IdentValue}
+use Rattle.row_values.specs.Ids as ids
+use Rattle.yb_ident.specs.Seen.{kind_of}
 use Rattle.yb_ident.specs.Layout.{Reads}
 use Rattle.script_places.specs.declared.types.NamedCell.{NamedCell}
 use Rattle.script_places.specs.declared.types.NamedItem.{NamedItem}
@@ -71,7 +71,7 @@ FitsTime (times.MinusSeconds n) = n ≤ 10000000
 FitsTime (times.Exact n) = n < 2 ^ 62
 
 -- The word is one of the four forms in which the identifier, of this kind, is written as a UUID.
-abbrev pub WritesIdent : identified.Kind → IdentValue → Word → Type 0
+abbrev pub WritesIdent : ids.Kind → ids.Id → Word → Type 0
 WritesIdent kind i w = (i.kind ≡ kind) × Reads w i
 
 abbrev pub op_words : NamedOp → List Word
@@ -102,7 +102,7 @@ Writes slots places.Name name ws = (ws ≡ name ∷ []) × (is_name name ≡ tru
 Writes slots places.Key key ws = (ws ≡ key ∷ []) × (is_key key ≡ true)
 Writes slots (places.Number least most) n ws = (ws ≡ decimal n ∷ []) × (least ≤ n) × (n ≤ most)
 Writes slots places.Slot n ws = (ws ≡ decimal n ∷ []) × (1 ≤ n) × (n ≤ slots)
-Writes slots (places.Identifier kind) i ws = (w : Word) × (ws ≡ w ∷ []) × WritesIdent kind i w
+Writes slots (places.Identifier kind) i ws = (w : Word) × (ws ≡ w ∷ []) × WritesIdent (kind_of kind) i w
 Writes slots places.Column column ws = (ws ≡ column_word column ∷ []) × FitsColumn column
 Writes slots places.Time time ws = (ws ≡ time_words time) × FitsTime time
 Writes slots places.Cells cells ws =

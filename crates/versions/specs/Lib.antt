@@ -1,4 +1,3 @@
-pub mod Batches
 pub mod Causes
 pub mod Indexed
 pub mod Tried

@@ -1,6 +1,6 @@
 ghost use Rattle.std.specs.Prelude.{ℕ, List, [], length, ◌≡◌, ◌≤◌, ◌<◌, IfOk, OnOk, MatchResult};
 ghost use Rattle.row_values.specs.Store.{Version, read_of, written, Below};
-ghost use Rattle.versions.specs.Batches.{FitsBatch};
+ghost use Rattle.row_values.specs.Batches.{FitsStore};
 ghost use Rattle.versions.specs.Causes.{RefusedFor};
 
 use hybrid_time::HybridTime;
@@ -43,14 +43,14 @@ pub trait VersionStore: Drop {
 
     /// Makes room for the versions of a batch.
     fn prepare_add(&mut self, batch: &Batch) -> Result<(), NoMemory>
-        requires batch { FitsBatch batch.now }
+        requires batch { FitsStore batch.now }
         ensures versions { versions self.new ≡ versions self.old }
         ensures cutoff { cutoff self.new ≡ cutoff self.old }
         ensures room { OnOk result (length batch.now ≤ room self.new) };
 
     /// Adds the versions of a batch, in the room that was made, under a stamp above those held.
     fn add(&mut self, batch: Batch, stamp: HybridTime)
-        requires batch { FitsBatch batch }
+        requires batch { FitsStore batch }
         requires room { length batch ≤ room self.old }
         requires above { Below stamp (versions self.old) }
         ensures versions { versions self.new ≡ written (versions self.old) stamp batch }

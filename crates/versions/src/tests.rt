@@ -1,5 +1,5 @@
 ghost use Rattle.std.specs.Prelude.{◌≡◌, ◌<◌, ◌≤◌, ◌^◌, [], ◌∷◌, length, IfOk};
-ghost use Rattle.versions.specs.Batches.{FitsBatch};
+ghost use Rattle.row_values.specs.Batches.{FitsStore};
 ghost use Rattle.versions.specs.Tried.{number_item};
 
 use crate::plain::PlainStore;

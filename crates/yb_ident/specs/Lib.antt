@@ -1,2 +1,2 @@
-pub mod IdentValue
+pub mod Seen
 pub mod Layout

@@ -1,6 +1,6 @@
 ghost use Rattle.std.specs.Prelude.{◌≡◌, ◌≢◌, ◌<◌, ◌^◌, IfOk, OnErr, IfSome};
-ghost use Rattle.yb_ident.specs.IdentValue.{IdentValue, IsIdent};
-ghost use Rattle.yb_ident.specs.Layout.{layout, text_of, Reads};
+ghost use Rattle.row_values.specs.Ids.{Id, IsId, id_text};
+ghost use Rattle.yb_ident.specs.Layout.{layout, Reads};
 ghost use Rattle.uuid.specs.Text.{parsed};
 
 use crate::kind::Kind;
@@ -10,7 +10,7 @@ use std::marker::Model;
 use uuid::Uuid;
 
 /// What a namespace, a table, a tablet, a schedule, a snapshot, a restoration or a clone is known
-/// by: its kind and its number, which is from 1 on and below 2^48.
+/// by: its kind and its number, which is from 1 on and below 2^48. Contracts see it as the book's.
 #[derive(Clone, Copy, Debug, PartialEq, Eq, PartialOrd, Ord, Hash)]
 pub struct Ident {
     pub kind: Kind,
@@ -18,15 +18,16 @@ pub struct Ident {
 }
 
 impl Model for Ident {
-    ghost use Rattle.yb_ident.specs.IdentValue.{IdentValue, IsIdent};
+    ghost use Rattle.row_values.specs.Ids.{Id, IsId};
+    ghost use Rattle.yb_ident.specs.Seen.{kind_of, kind_from};
 
-    ghost Value = { IdentValue };
+    ghost Value = { Id };
 
-    ghost view = { λ i. record { kind = i.kind; number = i.number } };
+    ghost view = { λ i. record { kind = kind_of i.kind; number = i.number } };
 
-    ghost invariant = { λ i. IsIdent (record { kind = i.kind; number = i.number }) };
+    ghost invariant = { λ i. IsId (record { kind = kind_of i.kind; number = i.number }) };
 
-    ghost inverse = { λ v. record { kind = v.kind; number = v.number } };
+    ghost inverse = { λ v. record { kind = kind_from v.kind; number = v.number } };
 }
 
 /// A text that is no identifier's.
@@ -38,8 +39,8 @@ impl Ident {
     /// so is a UUID that is not laid out as an identifier.
     pub fn read(text: &str) -> Result<Ident, IdentRefused>
         ensures found { IfOk result (λ i. Reads text.now i) }
-        ensures only { (i : IdentValue) → Reads text.now i → result ≡ Ok i }
-        ensures refused { OnErr result ((i : IdentValue) → IsIdent i → parsed text.now ≢ Some (layout i)) }
+        ensures only { (i : Id) → Reads text.now i → result ≡ Ok i }
+        ensures refused { OnErr result ((i : Id) → IsId i → parsed text.now ≢ Some (layout i)) }
     {
         let Ok(id) = Uuid::parse_str(text) else {
             return Err(IdentRefused);
@@ -52,7 +53,7 @@ impl Ident {
 
     /// The text with hyphens and lower-case digits, from which the identifier is read back.
     pub fn text(self, alloc: Global) -> Result<Bytes, NoMemory>
-        ensures exact { IfOk result (λ text. text ≡ text_of self) }
+        ensures exact { IfOk result (λ text. text ≡ id_text self) }
         ensures read_back { IfOk result (λ text. Reads text self) }
     {
         let id = Uuid::from_bytes(self.bytes());
@@ -76,7 +77,7 @@ impl Ident {
 // The identifier that lies in these bytes.
 fn of_bytes(bytes: [u8; 16]) -> Option<Ident>
     ensures found { IfSome result (λ i. bytes ≡ layout i) }
-    ensures only { (i : IdentValue) → IsIdent i → bytes ≡ layout i → result ≡ Some i }
+    ensures only { (i : Id) → IsId i → bytes ≡ layout i → result ≡ Some i }
 {
     let number = u64::from_be_bytes([
         0, 0, bytes[10], bytes[11], bytes[12], bytes[13], bytes[14], bytes[15],

@@ -1,6 +1,7 @@
 ghost use Rattle.std.specs.Prelude.{◌≡◌, MatchOption, ◌≢◌};
-ghost use Rattle.yb_ident.specs.declared.kind.Kind.{Kind};
-ghost use Rattle.yb_ident.specs.Layout.{kind_number};
+ghost use Rattle.row_values.specs.Ids as book;
+ghost use Rattle.row_values.specs.Ids.{kind_digit};
+ghost use Rattle.yb_ident.specs.Seen.{kind_of, kind_from};
 
 use row_values::{Copied, NoMemory};
 
@@ -19,7 +20,7 @@ pub enum Kind {
 impl Kind {
     /// The number of the kind in an identifier, from 1 to 7.
     pub fn number(self) -> u8
-        ensures value { result ≡ kind_number self }
+        ensures value { result ≡ kind_digit (kind_of self) }
     {
         match self {
             Kind::Namespace => 1,
@@ -35,9 +36,9 @@ impl Kind {
     /// The kind of this number; `None` for any but 1 to 7.
     pub fn from_number(number: u8) -> Option<Kind>
         ensures exact { MatchOption result
-            ((kind : Kind) → kind_number kind ≢ number)
-            (λ kind. kind_number kind ≡ number) }
-        ensures only { (kind : Kind) → kind_number kind ≡ number → result ≡ Some kind }
+            ((kind : book.Kind) → kind_digit kind ≢ number)
+            (λ kind. kind_digit (kind_of kind) ≡ number) }
+        ensures only { (kind : book.Kind) → kind_digit kind ≡ number → result ≡ Some (kind_from kind) }
     {
         match number {
             1 => Some(Kind::Namespace),

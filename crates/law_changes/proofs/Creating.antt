@@ -21,9 +21,9 @@ use Rattle.model.specs.Records.{Listed, RestorationRecord, RestorationState, Res
 use Rattle.model.specs.Stands.{awaited_in, awaited_of, first_of_two, is_restore}
 use Rattle.model.specs.Entries.{CommandAsked}
 use Rattle.model.specs.Acts.{CreateTable, Change, UnknownNamespace, Busy, NameTaken, TooMany, SlotsFull}
-use Rattle.model.specs.Parts.{Master, Parts, Drawn, Check, If}
+use Rattle.model.specs.Parts.{Master, Parts, Drawn, Check, If, Names}
 use Rattle.model.specs.Operations.{holder}
-use Rattle.model.specs.Looks.{names, known, plan_of, free_slots, least_slots}
+use Rattle.model.specs.Looks.{known, plan_of, free_slots, least_slots}
 use Rattle.model.specs.Changes.{accepts, tell_made, table_id, most_tables, create_table}
 use Rattle.model.specs.Changed.{changed, table_made, begins, shares, next_table, next_tablet}
 use Rattle.model.specs.History.{with}
@@ -457,8 +457,8 @@ create_table_checks namespace table tablets m =
     let ns = namespace_named m.catalog.namespaces namespace in
     let free = length (free_slots m) in
     If (is_none ns) UnknownNamespace
-    ∷ names (holder m (known ns)) Busy
-    ∷ names (table_id (current_named m.catalog.tables (known ns) table)) NameTaken
+    ∷ Names (holder m (known ns)) Busy
+    ∷ Names (table_id (current_named m.catalog.tables (known ns) table)) NameTaken
     ∷ If (length (current_tables m.catalog.tables (known ns)) == most_tables) (TooMany most_tables)
     ∷ If (ltb free tablets) (SlotsFull free tablets)
     ∷ []

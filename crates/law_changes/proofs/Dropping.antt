@@ -14,9 +14,9 @@ use Rattle.model.specs.Journal.{Change as Made, ChangeAct, TableDropped, table_a
 use Rattle.model.specs.Tablets.{Tablet, Presence, HiddenPart, HideSince, effect, is_empty, is_serving}
 use Rattle.model.specs.Stands.{awaited_in}
 use Rattle.model.specs.Acts.{DropTable, Change, UnknownNamespace, UnknownTable, Busy}
-use Rattle.model.specs.Parts.{Master, Parts, Check, If}
+use Rattle.model.specs.Parts.{Master, Parts, Check, If, Names}
 use Rattle.model.specs.Operations.{holder}
-use Rattle.model.specs.Looks.{names, known, table_of, the_table, plan_of, active_in, slots_of_table}
+use Rattle.model.specs.Looks.{known, table_of, the_table, plan_of, active_in, slots_of_table}
 use Rattle.model.specs.Changes.{accepts, tell, drop_table}
 use Rattle.model.specs.Changed.{changed, table_dropped}
 use Rattle.model.specs.History.{with, told}
@@ -323,7 +323,7 @@ heard m n id ps slots later all i isin from = either_way (same i.table id)
 abbrev pub drop_table_checks : List ℕ → List ℕ → Master → List Check
 drop_table_checks namespace table m =
     let ns = namespace_named m.catalog.namespaces namespace in
-    If (is_none ns) UnknownNamespace ∷ If (is_none (table_of m namespace table)) UnknownTable ∷ names (holder m (known ns)) Busy ∷ []
+    If (is_none ns) UnknownNamespace ∷ If (is_none (table_of m namespace table)) UnknownTable ∷ Names (holder m (known ns)) Busy ∷ []
 
 abbrev pub table_dropped_act : TableRecord → ChangeAct
 table_dropped_act t = TableDropped t.id

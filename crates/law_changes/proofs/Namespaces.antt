@@ -5,9 +5,9 @@ use Rattle.model.specs.Journal.{Change as Made, NamespaceMade, NamespaceDropped}
 use Rattle.model.specs.Catalog.{NamespaceRecord, namespace_named, current_tables, by_id, kept_from}
 use Rattle.model.specs.Records.{schedule_of, Schedule as ScheduleRecord, CloneRecord, is_visible}
 use Rattle.model.specs.Acts.{CreateNamespace, DropNamespace, Change, NameTaken, TooMany, UnknownNamespace, Busy, NotEmpty, UnderSchedule}
-use Rattle.model.specs.Parts.{Master, Parts, Drawn, Check, If}
+use Rattle.model.specs.Parts.{Master, Parts, Drawn, Check, If, Names}
 use Rattle.model.specs.Operations.{holder, time_of_user}
-use Rattle.model.specs.Looks.{names, known}
+use Rattle.model.specs.Looks.{known}
 use Rattle.model.specs.Changes.{named, clone_named, count_namespaces, most_namespaces, first_table, schedule_id, accepts, create_namespace, drop_namespace}
 use Rattle.model.specs.Changed.{changed, next_namespace, namespace_made, namespace_dropped}
 use Rattle.model.specs.History.{with}
@@ -95,7 +95,7 @@ namespace_dropped_keeps m n id changes le ops = record {
     was_open false n (Some x) e = e
 
 abbrev pub create_namespace_checks : List ℕ → Master → List Check
-create_namespace_checks name m = names (named m name) NameTaken ∷ If (count_namespaces m == most_namespaces) (TooMany most_namespaces) ∷ []
+create_namespace_checks name m = Names (named m name) NameTaken ∷ If (count_namespaces m == most_namespaces) (TooMany most_namespaces) ∷ []
 
 one_drawn : (d : Drawn) (kind : Kind) → drawn_of kind d ≤ drawn_of kind (record d { namespaces = d.namespaces + 1 })
 one_drawn d Namespace = omega arith
@@ -141,9 +141,9 @@ abbrev pub drop_namespace_checks : List ℕ → Master → List Check
 drop_namespace_checks name m =
     let ns = namespace_named m.catalog.namespaces name in
     If (is_none ns) UnknownNamespace
-    ∷ names (holder m (known ns)) Busy
-    ∷ names (first_table (by_id (current_tables m.catalog.tables (known ns)))) NotEmpty
-    ∷ names (schedule_id (schedule_of m.schedules (known ns))) UnderSchedule
+    ∷ Names (holder m (known ns)) Busy
+    ∷ Names (first_table (by_id (current_tables m.catalog.tables (known ns)))) NotEmpty
+    ∷ Names (schedule_id (schedule_of m.schedules (known ns))) UnderSchedule
     ∷ []
 
 pub drop_namespace_keeps : (ps : Parts) (activity : List Interval) (changes : List Made) (n : ℕ) (name slots : List ℕ) → Later (0 ∷ slots) ps n → Inv ps activity changes

@@ -6,9 +6,9 @@ use Rattle.model.specs.Journal.{Change as Made, ChangeAct, ColumnAdded, ColumnDr
 use Rattle.model.specs.Catalog.{TableRecord, namespace_named, end_table}
 use Rattle.model.specs.Tablets.{SetVersion}
 use Rattle.model.specs.Acts.{AddColumn, DropColumn, RenameTable, Change, NameTaken, TooMany, UnknownNamespace, UnknownTable, UnknownColumn, Busy}
-use Rattle.model.specs.Parts.{Master, Parts, Check, If}
+use Rattle.model.specs.Parts.{Master, Parts, Check, If, Names}
 use Rattle.model.specs.Operations.{holder}
-use Rattle.model.specs.Looks.{names, known, table_of, the_table}
+use Rattle.model.specs.Looks.{known, table_of, the_table}
 use Rattle.model.specs.Changes.{most_columns, table_id, accepts, tell, add_column, drop_column, rename_table}
 use Rattle.model.specs.Changed.{changed, table_changed}
 use Rattle.model.specs.History.{with, with_table, id_of_column, told}
@@ -75,7 +75,7 @@ add_column_checks namespace table name m =
     let t = the_table found in
     If (is_none ns) UnknownNamespace
     ∷ If (is_none found) UnknownTable
-    ∷ names (holder m (known ns)) Busy
+    ∷ Names (holder m (known ns)) Busy
     ∷ If (is_some (column_named t.schema.columns name)) (NameTaken t.id)
     ∷ If (length t.schema.columns == most_columns) (TooMany most_columns)
     ∷ []
@@ -118,7 +118,7 @@ drop_column_checks namespace table name m =
     If (is_none ns) UnknownNamespace
     ∷ If (is_none found) UnknownTable
     ∷ If (is_none (column_named t.schema.columns name)) UnknownColumn
-    ∷ names (holder m (known ns)) Busy
+    ∷ Names (holder m (known ns)) Busy
     ∷ []
 
 abbrev pub column_dropped : List ℕ → TableRecord → ChangeAct
@@ -156,8 +156,8 @@ rename_table_checks namespace table name m =
     let ns = namespace_named m.catalog.namespaces namespace in
     If (is_none ns) UnknownNamespace
     ∷ If (is_none (table_of m namespace table)) UnknownTable
-    ∷ names (holder m (known ns)) Busy
-    ∷ names (table_id (table_of m namespace name)) NameTaken
+    ∷ Names (holder m (known ns)) Busy
+    ∷ Names (table_id (table_of m namespace name)) NameTaken
     ∷ []
 
 abbrev pub table_renamed : List ℕ → TableRecord → ChangeAct

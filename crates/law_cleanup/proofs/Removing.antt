@@ -12,9 +12,8 @@ use Rattle.model.specs.Journal.{Change as Made}
 use Rattle.model.specs.Stands.{awaited_in}
 use Rattle.model.specs.Tablets.{Tablet, Presence, EmptyPart, ServingPart, HiddenPart, Empty, Clear, act_for, effect, emptied, standing, is_hidden}
 use Rattle.model.specs.Acts.{Remove, Refusal, Moved, StalePlan, InWindow, IsListed, Removed}
-use Rattle.model.specs.Parts.{Master, Parts, Outcome, Check, If, Removes, refused}
+use Rattle.model.specs.Parts.{Master, Parts, Outcome, Check, If, Removes, refused, Names}
 use Rattle.model.specs.Cleanup.{floor_of_table, hidden_at, is_hidden_as, lister_of_tablet, removing_unknown, removing_tablet, removed_of}
-use Rattle.model.specs.Looks.{names}
 use Rattle.model.specs.History.{told}
 use Rattle.law_store.proofs.Keys.{either_way}
 use Rattle.model.specs.Records.{is_restored}
@@ -183,7 +182,7 @@ tablet_checks target i slots n ps =
     If (not (same_slots slots (i.slot ∷ []))) (StalePlan (i.slot ∷ []))
     ∷ If (not (is_hidden_as target t)) (Moved i.slot (standing t))
     ∷ If (ltb floor (hidden_at t.presence)) (InWindow (hidden_at t.presence) floor)
-    ∷ names (lister_of_tablet ps.master target) IsListed
+    ∷ Names (lister_of_tablet ps.master target) IsListed
     ∷ []
 
 pub removing_tablet_keeps : (found : Option Interval) (ps : Parts) (activity : List Interval) (changes : List Made) (n : ℕ) (target : Id) (slots : List ℕ) → last_of ps.master.activity target ≡ found → target.kind ≡ TabletKind → Later (0 ∷ slots) ps n

@@ -11,9 +11,8 @@ use Rattle.model.specs.Tablets.{Tablet, FrozenSet, DropFrozen, effect}
 use Rattle.model.specs.Records.{SnapshotRecord, snapshot_with}
 use Rattle.model.specs.Entries.{IsRemovable, slots_of}
 use Rattle.model.specs.Acts.{Remove, UnknownSnapshot, StalePlan, InWindow, IsListed, Removed}
-use Rattle.model.specs.Parts.{Master, Parts, Outcome, Check, If, Removes}
+use Rattle.model.specs.Parts.{Master, Parts, Outcome, Check, If, Removes, Names}
 use Rattle.model.specs.Cleanup.{floor_of, lister_of_snapshot, snapshot_plan, removing_snapshot, removing, remove, removed_of}
-use Rattle.model.specs.Looks.{names}
 use Rattle.model.specs.Changes.{tell}
 use Rattle.model.specs.History.{told, outcome}
 use Rattle.law_invariants.specs.Orders.{RowsPast}
@@ -96,7 +95,7 @@ abbrev pub snapshot_checks : SnapshotRecord → List ℕ → ℕ → Master → 
 snapshot_checks r slots n m =
     let plan = snapshot_plan m r in
     let floor = floor_of m r.namespace n in
-    If (not (same_slots slots plan)) (StalePlan plan) ∷ If (leb floor r.at) (InWindow r.at floor) ∷ names (lister_of_snapshot m r) IsListed ∷ []
+    If (not (same_slots slots plan)) (StalePlan plan) ∷ If (leb floor r.at) (InWindow r.at floor) ∷ Names (lister_of_snapshot m r) IsListed ∷ []
 
 removing_snapshot_keeps : (found : Option SnapshotRecord) (ps : Parts) (activity : List Interval) (changes : List Made) (n : ℕ) (target : Id) (slots : List ℕ) → snapshot_with ps.master.snapshots target ≡ found → target.kind ≡ Snapshot
     → Later (0 ∷ slots) ps n → Inv ps activity changes → KeepsAll (Remove target slots) n ps activity changes (removing_snapshot found target slots n ps)

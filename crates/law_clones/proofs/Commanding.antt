@@ -13,17 +13,17 @@ use Rattle.model.specs.Records.{Schedule, schedule_of}
 use Rattle.model.specs.Schedules.{low}
 use Rattle.model.specs.Operations.{user}
 use Rattle.model.specs.Acts.{Reply, Change, CloneNamespace, Refused, UnknownNamespace, Busy, NoSchedule, NameTaken, TooMany, TooEarly, Future, SlotsFull, Ok}
-use Rattle.model.specs.Looks.{free_slots, known, names}
+use Rattle.model.specs.Looks.{free_slots, known}
 use Rattle.model.specs.Changed.{changed, next_clone, the_schedule, no_schedule, sources, clone_time, clone_begun}
 use Rattle.model.specs.Changes.{accepts, clone_namespace, named, count_namespaces, most_namespaces}
-use Rattle.model.specs.Parts.{Master, Parts, Check, If}
+use Rattle.model.specs.Parts.{Master, Parts, Check, If, Names}
 use Rattle.model.specs.Replies.{CloneWindowRight, WindowRightOf}
 use Rattle.law_invariants.specs.Invariant.{Inv, Later}
 use Rattle.law_invariants.proofs.Finding.{some_is}
 use Rattle.law_invariants.proofs.Names.{named_is}
 use Rattle.law_invariants.proofs.Ticking.{refused_keeps, KeepsAll}
 use Rattle.law_moves.proofs.Acting.{alone_keeps}
-use Rattle.law_moves.proofs.Restoring.{check_keeps, used_not}
+use Rattle.law_moves.proofs.Restoring.{check_keeps, name_keeps, used_not}
 use Rattle.law_moves.proofs.Using.{not_used, schedule_of_is}
 use Rattle.law_clones.proofs.Accepting.{MayClone, CountedIn, begun_keeps}
 
@@ -68,19 +68,19 @@ clone_namespace_keeps ps activity changes n source target at [] later plan count
     let future : List Check = If (leb n to) (Future n) ∷ full in
     let early : List Check = If (ltb to (low s n)) (TooEarly (low s n)) ∷ future in
     let many : List Check = If (eqb (count_namespaces m) most_namespaces) (TooMany most_namespaces) ∷ early in
-    let taken : List Check = names (named m target) NameTaken ∷ many in
+    let taken : List Check = Names (named m target) NameTaken ∷ many in
     let unscheduled : List Check = If (is_none found) (NoSchedule ns) ∷ taken in
-    let busy : List Check = names (user m ns) Busy ∷ unscheduled in
+    let busy : List Check = Names (user m ns) Busy ∷ unscheduled in
     let of : (t : Schedule) → found ≡ Some t → user m t.namespace ≡ None → user m ns ≡ None = λ t e free. ap (user m) (sym (schedule_of_is m.schedules ns t e).1) ∙ free in
     check_keeps act n ps activity changes (is_none named_) UnknownNamespace busy done
     (λ none. refused_keeps act UnknownNamespace n ps activity changes later inv (window_by found (Refused UnknownNamespace) m n to
     (λ t e free. let k = schedule_of_is m.schedules ns t e in absurd (nameless t k.0 (k.1 ∙ unknown named_ none)))) refl)
-    (λ some. check_keeps act n ps activity changes (is_some (user m ns)) (Busy (known (user m ns))) unscheduled done
-    (λ used. refused_keeps act (Busy (known (user m ns))) n ps activity changes later inv (window_by found (Refused (Busy (known (user m ns)))) m n to (λ t e free. absurd (used_not (user m ns) used (of t e free)))) refl)
+    (λ some. name_keeps act n ps activity changes (user m ns) Busy unscheduled done
+    (λ by used. refused_keeps act (Busy by) n ps activity changes later inv (window_by found (Refused (Busy by)) m n to (λ t e free. absurd (used_not (user m ns) (ap is_some used) (of t e free)))) refl)
     (λ free. check_keeps act n ps activity changes (is_none found) (NoSchedule ns) taken done
     (λ none. refused_keeps act (NoSchedule ns) n ps activity changes later inv (window_by found (Refused (NoSchedule ns)) m n to (λ t e unused. absurd (there_not found t e none))) refl)
-    (λ scheduled. check_keeps act n ps activity changes (is_some (named m target)) (NameTaken (known (named m target))) many done
-    (λ b. refused_keeps act (NameTaken (known (named m target))) n ps activity changes later inv (window_by found (Refused (NameTaken (known (named m target)))) m n to (λ t e unused. tt)) refl)
+    (λ scheduled. name_keeps act n ps activity changes (named m target) NameTaken many done
+    (λ by b. refused_keeps act (NameTaken by) n ps activity changes later inv (window_by found (Refused (NameTaken by)) m n to (λ t e unused. tt)) refl)
     (λ unnamed. check_keeps act n ps activity changes (eqb (count_namespaces m) most_namespaces) (TooMany most_namespaces) early done
     (λ b. refused_keeps act (TooMany most_namespaces) n ps activity changes later inv (window_by found (Refused (TooMany most_namespaces)) m n to (λ t e unused. tt)) refl)
     (λ few. check_keeps act n ps activity changes (ltb to (low s n)) (TooEarly (low s n)) future done
@@ -97,8 +97,8 @@ clone_namespace_keeps ps activity changes n source target at [] later plan count
     let may : MayClone m ns s target to n = record {
       drawn = subst (λ i. i.number ≤ m.drawn.namespaces) current.id_is (inv.master.namespaces.drawn_before current.record_ current.listed);
       scheduled = some_is found no_schedule scheduled;
-      free = not_used m ns free;
-      unnamed = unnamed;
+      free = not_used m ns (ap is_some free);
+      unnamed = ap is_some unnamed;
       from = at_least to (low s n) l;
       before = below n to g;
       enough = at_least free_ needed enough;

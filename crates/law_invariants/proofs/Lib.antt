@@ -5,6 +5,7 @@ pub mod Frame
 pub mod Rewriting
 pub mod Overlap
 pub mod Holding
+pub mod Judging
 pub mod Journaling
 pub mod Covering
 pub mod Names

@@ -1,6 +1,6 @@
 -- What the looks for keys and for a table answer is right.
-use Rattle.std.proofs.Common.{ℕ, ◌≡◌, ◌<◌, ◌≤◌, Bool, true, false, List, [], ◌∷◌, map, Option, Some, None, refl, sym, ap, subst, ◌∙◌, le_trans, le_of_lt}
-use Rattle.std.specs.Option.{option_map, is_some, is_none, unwrap_or, option_or, option_to_list}
+use Rattle.std.proofs.Common.{ℕ, ◌≡◌, ◌<◌, ◌≤◌, true, false, List, [], ◌∷◌, map, Option, Some, None, refl, sym, ap, subst, ◌∙◌, le_trans, le_of_lt}
+use Rattle.std.specs.Option.{option_map, is_some, is_none, option_or, option_to_list}
 use Rattle.std.proofs.lemmas.Bool.{ltb-false, cond_both}
 use Rattle.row_values.specs.Ids.{Id, no_id}
 use Rattle.row_values.specs.Elements.{In}
@@ -11,12 +11,13 @@ use Rattle.model.specs.Restored.{record_at}
 use Rattle.model.specs.Journal.{Change, namespace_at, table_at}
 use Rattle.model.specs.Looks as looks
 use Rattle.model.specs.Looks.{holding, first_code, other_code, place_of, known, the_table, table_asked, if_current, value_fault, cells_fault, op_fault, batch_fault, look_keys, look_table}
-use Rattle.model.specs.Acts.{NamedCell, NamedOp, NamedUpsert, NamedDelete, NamedItem, Refusal, UnknownNamespace, UnknownTable, UnknownColumn, WrongKind, CrossTablet, Future, TooOld, Reply, Placed, Refused}
-use Rattle.model.specs.Parts.{Master, Check, If, Outcome, judged, answered}
+use Rattle.model.specs.Acts.{NamedCell, NamedOp, NamedUpsert, NamedDelete, NamedItem, Refusal, UnknownNamespace, UnknownTable, UnknownColumn, WrongKind, CrossTablet, Future, TooOld, Placed, Refused}
+use Rattle.model.specs.Parts.{Master, Check, If, Fault, Outcome, unless, judged, answered}
 use Rattle.model.specs.Right.{NamespaceFound, TableFound, LookReplyRight}
 use Rattle.law_store.proofs.Keys.{either_way}
 use Rattle.law_invariants.specs.Invariant.{NamespacesStand, TablesStand, MasterGood, view_of, view_at}
-use Rattle.law_invariants.proofs.Finding.{none_or_some, none_is, some_is, not_some_is}
+use Rattle.law_invariants.proofs.Judging.{step_if, step_fault, step_found}
+use Rattle.law_invariants.proofs.Finding.{none_or_some, none_is, some_is}
 use Rattle.law_invariants.proofs.Names.{named_by_name, name_by_named}
 use Rattle.law_invariants.proofs.Records.{current_named_at, current_table_at, table_named_is, record_at_is, IsNamedAt}
 
@@ -136,13 +137,6 @@ no_table m n changes namespace table ns at h named kept none f =
     ∙ sym (some_mapped (record_at rs f.id n)) ∙ ap is_some (sym owned_now) ∙ f.current in
     asked_none m n changes ns table at r h none found current)
 
--- Judging
-
--- a refusal that comes, or what follows where it does not
-pub step : (P : Reply → Type 0) (comes : Bool) (why : Refusal) (checks : List Check) (o : Outcome) → (comes ≡ true → P (Refused why)) → (comes ≡ false → P (judged checks o).reply) → P (judged (If comes why ∷ checks) o).reply
-step P true why checks o comes_ goes = comes_ refl
-step P false why checks o comes_ goes = goes refl
-
 -- a fault of a batch is one of its columns
 
 IsColumnFault : Option Refusal → Type 0
@@ -176,13 +170,12 @@ batch_faults columns [] = tt
 batch_faults columns (item ∷ items) = either_fault (op_fault columns item.op) (batch_fault columns items) (op_faults columns item.op) (batch_faults columns items)
 
 -- where the view has the table, a fault of the batch by its columns is the right refusal
-fault_right : (changes : List Change) (x n : ℕ) (namespace table : List ℕ) (batch : List NamedItem) (f : TableFound changes x n namespace table) (fault : Option Refusal) → IsColumnFault fault → batch_fault f.view.columns batch ≡ fault
-    → is_some fault ≡ true → LookReplyRight (Refused (unwrap_or fault UnknownColumn)) changes x n namespace table batch
+fault_right : (changes : List Change) (x n : ℕ) (namespace table : List ℕ) (batch : List NamedItem) (f : TableFound changes x n namespace table) (why : Refusal) → IsColumnFault (Some why) → batch_fault f.view.columns batch ≡ Some why
+    → LookReplyRight (Refused why) changes x n namespace table batch
 unfolding IsColumnFault
-fault_right changes x n namespace table batch f None kind is e = cc
-fault_right changes x n namespace table batch f (Some UnknownColumn) kind is e = record { found = f; columns_are = tt; judged = is }
-fault_right changes x n namespace table batch f (Some WrongKind) kind is e = record { found = f; columns_are = tt; judged = is }
-fault_right changes x n namespace table batch f (Some _) kind is e = absurd kind
+fault_right changes x n namespace table batch f UnknownColumn kind is = record { found = f; columns_are = tt; judged = is }
+fault_right changes x n namespace table batch f WrongKind kind is = record { found = f; columns_are = tt; judged = is }
+fault_right changes x n namespace table batch f _ kind is = absurd kind
 
 -- Looks
 
@@ -206,19 +199,19 @@ opening_right m n changes namespace table at batch checks o h rest =
     let ns = namespace_named m.catalog.namespaces namespace in
     let from = kept_from m.catalog.kept_from (known ns) in
     let found = table_asked m.catalog.tables (known ns) table at in
-    let P : Reply → Type 0 = λ reply. LookReplyRight reply changes (time_of at n) n namespace table batch in
+    let P : Option Refusal → Type 0 = λ why. LookReplyRight (unless why o).reply changes (time_of at n) n namespace table batch in
     let fourth : List Check = If (is_none found) UnknownTable ∷ checks in
     let third : List Check = If (is_below at from) (TooOld (time_of at n) from) ∷ fourth in
-    step P (is_none ns) UnknownNamespace (If (is_future at n) (Future n) ∷ third) o
+    step_if P (is_none ns) UnknownNamespace (If (is_future at n) (Future n) ∷ third)
     (λ none. no_namespace m n changes namespace h (none_is ns none))
     (λ some.
     let named : ns ≡ Some (known ns) = some_is ns no_id some in
     let here : NamespaceFound changes n namespace = record { id = known ns; named = namespace_found m n changes namespace (known ns) h named } in
-    step P (is_future at n) (Future n) third o (λ _. here)
-    (λ _. step P (is_below at from) (TooOld (time_of at n) from) fourth o (λ _. here)
+    step_if P (is_future at n) (Future n) third (λ _. here)
+    (λ _. step_if P (is_below at from) (TooOld (time_of at n) from) fourth (λ _. here)
     (λ below.
     let kept = asked_kept m n changes (known ns) at h below in
-    step P (is_none found) UnknownTable checks o
+    step_if P (is_none found) UnknownTable checks
     (λ none. (here, no_table m n changes namespace table (known ns) at h named kept (none_is found none)))
     (λ there.
     let is : found ≡ Some (the_table found) = some_is found looks.no_table there in
@@ -240,17 +233,16 @@ look_keys_right m n changes namespace table batch at h =
     let t = the_table (table_asked m.catalog.tables (known (namespace_named m.catalog.namespaces namespace)) table at) in
     let fault = batch_fault t.schema.columns batch in
     let home = holding m t.id (first_code batch) in
-    let other = other_code home batch in
     let o = answered (Placed (map place_of (option_to_list home)) t.schema.version t.schema.columns) in
-    let P : Reply → Type 0 = λ reply. LookReplyRight reply changes (time_of at n) n namespace table batch in
-    let last : List Check = If (is_some other) (CrossTablet (first_code batch) (unwrap_or other 0)) ∷ [] in
-    opening_right m n changes namespace table at batch (If (is_some fault) (unwrap_or fault UnknownColumn) ∷ last) o h
+    let P : Option Refusal → Type 0 = λ why. LookReplyRight (unless why o).reply changes (time_of at n) n namespace table batch in
+    let last : List Check = Fault (option_map (CrossTablet (first_code batch)) (other_code home batch)) ∷ [] in
+    opening_right m n changes namespace table at batch (Fault fault ∷ last) o h
     (λ f is.
     let same_fault : batch_fault f.view.columns batch ≡ fault = ap (λ v. batch_fault v.columns batch) is in
-    step P (is_some fault) (unwrap_or fault UnknownColumn) last o
-    (λ some. fault_right changes (time_of at n) n namespace table batch f fault (batch_faults t.schema.columns batch) same_fault some)
+    step_fault P fault last
+    (λ why some. fault_right changes (time_of at n) n namespace table batch f why (subst IsColumnFault some (batch_faults t.schema.columns batch)) (same_fault ∙ some))
     (λ none.
-    let fine : batch_fault f.view.columns batch ≡ None = same_fault ∙ not_some_is fault none in
-    step P (is_some other) (CrossTablet (first_code batch) (unwrap_or other 0)) [] o
-    (λ _. record { found = f; columns_are = tt; judged = fine })
+    let fine : batch_fault f.view.columns batch ≡ None = same_fault ∙ none in
+    step_found P (other_code home batch) (CrossTablet (first_code batch)) []
+    (λ _ _. record { found = f; columns_are = tt; judged = fine })
     (λ _. record { found = f; columns_are = ap (λ v. v.columns) (sym is); judged = fine })))

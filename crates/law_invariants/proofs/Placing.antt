@@ -1,9 +1,9 @@
 -- The places of a look are the table's tablets that are active at its stamp: all of them, or the one that holds the keys.
-use Rattle.std.proofs.Common.{ℕ, ◌≡◌, ◌≤◌, ◌<◌, List, [], ◌∷◌, Option, Some, None, Bool, true, ◌&&◌, inl, inr, refl, sym, ap, subst, ◌∙◌, arith, eqb, eqb-true, le-leb, le_of_lt, map, length, is_some, is_none, ltb-true}
+use Rattle.std.proofs.Common.{ℕ, ◌≡◌, ◌≤◌, ◌<◌, List, [], ◌∷◌, Option, Some, None, Bool, true, ◌&&◌, inl, inr, refl, sym, ap, subst, ◌∙◌, arith, eqb, eqb-true, le-leb, le_of_lt, map, length, is_none, ltb-true, option_map}
 use Rattle.std.proofs.lemmas.Bool.{true≢false}
 use Rattle.std.proofs.lemmas.Bool.Decides.{nat_tests}
 use Rattle.std.specs.List.{filter}
-use Rattle.std.specs.Option.{unwrap_or, option_to_list}
+use Rattle.std.specs.Option.{option_to_list}
 use Rattle.row_values.specs.Codes.{code_of}
 use Rattle.row_values.specs.Ids.{Id, same, no_id}
 use Rattle.row_values.specs.Elements.{In, put_in, in_order}
@@ -12,8 +12,8 @@ use Rattle.row_values.specs.Ranges.{in_range}
 use Rattle.model.specs.Catalog.{namespace_named, kept_from}
 use Rattle.model.specs.Activity.{Interval, active_at}
 use Rattle.model.specs.Journal.{Change}
-use Rattle.model.specs.Acts.{NamedItem, Reply, Placed, UnknownNamespace, UnknownTable, UnknownColumn, Future, TooOld, CrossTablet}
-use Rattle.model.specs.Parts.{Master, Parts, Check, If, Outcome, judged, answered}
+use Rattle.model.specs.Acts.{NamedItem, Placed, UnknownNamespace, UnknownTable, Future, TooOld, CrossTablet, Refusal}
+use Rattle.model.specs.Parts.{Master, Parts, Check, If, Fault, unless, Outcome, judged, answered}
 use Rattle.model.specs.Lists.{by_range}
 use Rattle.model.specs.Looks as looks
 use Rattle.model.specs.Looks.{look_keys, look_table, table_asked, known, the_table, batch_fault, holding, first_code, other_code, code_outside, place_of, active_in}
@@ -21,9 +21,10 @@ use Rattle.model.specs.Right.{TableFound, IsActivePlace, PlacesRight, LookPlaces
 use Rattle.law_store.proofs.Keys.{either_way}
 use Rattle.law_invariants.specs.Remembered.{Remembered}
 use Rattle.law_invariants.specs.Invariant.{MasterGood, Covered, Inv, IsPast, EndsBy}
-use Rattle.law_invariants.proofs.Finding.{both_pass, passes_both, same_equal, same_self, map_in, in_mapped, find_is, find_none, some_is, not_some_is}
+use Rattle.law_invariants.proofs.Finding.{both_pass, passes_both, same_equal, same_self, map_in, in_mapped, find_is, find_none, some_is}
 use Rattle.law_invariants.proofs.Overlap.{two_holders, holds, code_below}
-use Rattle.law_invariants.proofs.Looking.{IsAsked, asked, view_found, table_found, asked_kept, step}
+use Rattle.law_invariants.proofs.Looking.{IsAsked, asked, view_found, table_found, asked_kept}
+use Rattle.law_invariants.proofs.Judging.{step_if, step_fault, step_found}
 
 -- Lists in order have the same items
 
@@ -108,13 +109,13 @@ places_opening m n changes namespace table at batch checks o h rest =
     let ns = namespace_named m.catalog.namespaces namespace in
     let from = kept_from m.catalog.kept_from (known ns) in
     let found = table_asked m.catalog.tables (known ns) table at in
-    let P : Reply → Type 0 = λ reply. LookPlacesRight reply changes (time_of at n) n namespace table batch m.activity in
+    let P : Option Refusal → Type 0 = λ why. LookPlacesRight (unless why o).reply changes (time_of at n) n namespace table batch m.activity in
     let fourth : List Check = If (is_none found) UnknownTable ∷ checks in
     let third : List Check = If (is_below at from) (TooOld (time_of at n) from) ∷ fourth in
-    step P (is_none ns) UnknownNamespace (If (is_future at n) (Future n) ∷ third) o (λ _. tt)
-    (λ some. step P (is_future at n) (Future n) third o (λ _. tt)
-    (λ _. step P (is_below at from) (TooOld (time_of at n) from) fourth o (λ _. tt)
-    (λ below. step P (is_none found) UnknownTable checks o (λ _. tt)
+    step_if P (is_none ns) UnknownNamespace (If (is_future at n) (Future n) ∷ third) (λ _. tt)
+    (λ some. step_if P (is_future at n) (Future n) third (λ _. tt)
+    (λ _. step_if P (is_below at from) (TooOld (time_of at n) from) fourth (λ _. tt)
+    (λ below. step_if P (is_none found) UnknownTable checks (λ _. tt)
     (λ there.
     let named : ns ≡ Some (known ns) = some_is ns no_id some in
     let kept = asked_kept m n changes (known ns) at h below in
@@ -201,11 +202,10 @@ keys_places ps n activity changes namespace table batch at less inv some =
     let t = the_table (table_asked m.catalog.tables (known (namespace_named m.catalog.namespaces namespace)) table at) in
     let fault = batch_fault t.schema.columns batch in
     let home = holding m t.id (first_code batch) in
-    let other = other_code home batch in
     let o = answered (Placed (map place_of (option_to_list home)) t.schema.version t.schema.columns) in
-    let P : Reply → Type 0 = λ reply. LookPlacesRight reply changes (time_of at n) n namespace table batch m.activity in
-    let last : List Check = If (is_some other) (CrossTablet (first_code batch) (unwrap_or other 0)) ∷ [] in
-    places_opening m n changes namespace table at batch (If (is_some fault) (unwrap_or fault UnknownColumn) ∷ last) o (asked m n changes less inv.master)
-    (λ f is. step P (is_some fault) (unwrap_or fault UnknownColumn) last o (λ _. tt)
-    (λ _. step P (is_some other) (CrossTablet (first_code batch) (unwrap_or other 0)) [] o (λ _. tt)
-    (λ none. one_home home m n activity changes namespace table (time_of at n) batch t.id f is less inv.remembered inv.cover (all_past ps activity changes inv) (alike ps activity changes inv) some refl (not_some_is other none))))
+    let P : Option Refusal → Type 0 = λ why. LookPlacesRight (unless why o).reply changes (time_of at n) n namespace table batch m.activity in
+    let last : List Check = Fault (option_map (CrossTablet (first_code batch)) (other_code home batch)) ∷ [] in
+    places_opening m n changes namespace table at batch (Fault fault ∷ last) o (asked m n changes less inv.master)
+    (λ f is. step_fault P fault last (λ _ _. tt)
+    (λ _. step_found P (other_code home batch) (CrossTablet (first_code batch)) [] (λ _ _. tt)
+    (λ none. one_home home m n activity changes namespace table (time_of at n) batch t.id f is less inv.remembered inv.cover (all_past ps activity changes inv) (alike ps activity changes inv) some refl none)))

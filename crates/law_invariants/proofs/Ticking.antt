@@ -8,7 +8,7 @@ use Rattle.model.specs.Activity.{Interval}
 use Rattle.model.specs.Journal.{Change}
 use Rattle.model.specs.Tablets.{Tablet}
 use Rattle.model.specs.Acts.{Act, Reply, Refused, Refusal}
-use Rattle.model.specs.Parts.{Master, Parts, Check, If, Outcome, judged, refused, answered}
+use Rattle.model.specs.Parts.{Master, Parts, Check, If, Names, Fault, Outcome, judged, refused, answered}
 use Rattle.model.specs.Entries.{slots_of, clock_at}
 use Rattle.model.specs.History.{told, with_changes}
 use Rattle.model.specs.Replies.{ReplyRight}
@@ -229,3 +229,7 @@ pub by_checks : (act : Act) (n : ℕ) (ps : Parts) (activity : List Interval) (c
 by_checks act n ps activity changes [] o no_ go = go tt
 by_checks act n ps activity changes (If false why ∷ checks) o no_ go = by_checks act n ps activity changes checks o no_ (λ p. go (refl, p))
 by_checks act n ps activity changes (If true why ∷ checks) o no_ go = no_ why
+by_checks act n ps activity changes (Names None why ∷ checks) o no_ go = by_checks act n ps activity changes checks o no_ (λ p. go (refl, p))
+by_checks act n ps activity changes (Names (Some id) why ∷ checks) o no_ go = no_ (why id)
+by_checks act n ps activity changes (Fault None ∷ checks) o no_ go = by_checks act n ps activity changes checks o no_ (λ p. go (refl, p))
+by_checks act n ps activity changes (Fault (Some why) ∷ checks) o no_ go = no_ why

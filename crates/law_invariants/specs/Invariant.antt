@@ -24,7 +24,7 @@ use Rattle.model.specs.Acts.{Act, Reply}
 use Rattle.model.specs.Right.{is_fixed, NothingLate}
 use Rattle.model.specs.Replies.{ReplyRight}
 use Rattle.model.specs.History.{with_changes}
-use Rattle.model.specs.Parts.{Master, Parts, Check, If}
+use Rattle.model.specs.Parts.{Master, Parts, Check, If, Names, Fault}
 use Rattle.law_store.specs.Sorted.{Sorted, EachKey}
 use Rattle.law_invariants.specs.Remembered.{Remembered}
 use Rattle.law_invariants.specs.Operations.{is_switched, OperationsGood, JournalGood}
@@ -238,3 +238,5 @@ Later slots ps n = (slot : ℕ) → has slots slot ≡ true → clock_at ps slot
 abbrev pub Passes : List Check → Type 0
 Passes [] = Unit {0}
 Passes (If comes why ∷ checks) = (comes ≡ false) × Passes checks
+Passes (Names found why ∷ checks) = (is_some found ≡ false) × Passes checks
+Passes (Fault fault ∷ checks) = (fault ≡ None) × Passes checks

@@ -7,9 +7,9 @@ use Rattle.model.specs.Catalog.{TableRecord, namespace_named}
 use Rattle.model.specs.Activity.{Interval}
 use Rattle.model.specs.Tablets.{Tablet, HideSince}
 use Rattle.model.specs.Acts.{Command, CreateNamespace, DropNamespace, CreateTable, AddColumn, DropColumn, RenameTable, DropTable, Split, CreateSchedule, DeleteSchedule, TakeSnapshot, Restore, CloneNamespace, ListSchedules, ListSnapshots, ListRestorations, ListClones, ListTablets, Change, UnknownNamespace, UnknownTable, Busy, TooNarrow, SlotsFull, StalePlan}
-use Rattle.model.specs.Parts.{Master, Parts, Outcome, If, Check}
+use Rattle.model.specs.Parts.{Master, Parts, Outcome, If, Check, Names}
 use Rattle.model.specs.Operations.{holder}
-use Rattle.model.specs.Looks.{free_slots, known, names, table_of, the_table, holding, family, family_of, plan_of}
+use Rattle.model.specs.Looks.{free_slots, known, table_of, the_table, holding, family, family_of, plan_of}
 use Rattle.model.specs.Changed.{no_interval, parent_of, next_tablet, children}
 use Rattle.model.specs.Changes.{accepts, tell_children, split, planned, change, create_namespace, drop_namespace, create_table, add_column, drop_column, rename_table, drop_table, create_schedule, delete_schedule, take_snapshot, restore, clone_namespace, list_tablets}
 use Rattle.law_local.specs.Agreeing.{Agree, PlanNames}
@@ -32,7 +32,7 @@ abbrev split_checks : List ℕ → List ℕ → ℕ → Master → List Check
 split_checks namespace table code m =
     If (is_none (namespace_named m.catalog.namespaces namespace)) UnknownNamespace
     ∷ If (is_none (table_of m namespace table)) UnknownTable
-    ∷ names (holder m (known (namespace_named m.catalog.namespaces namespace))) Busy
+    ∷ Names (holder m (known (namespace_named m.catalog.namespaces namespace))) Busy
     ∷ If (code == (parent_of m namespace table code).low) (TooNarrow (parent_of m namespace table code).low)
     ∷ If (nat_lt (length (free_slots m)) 2) (SlotsFull (length (free_slots m)) 2)
     ∷ []

@@ -1,17 +1,15 @@
 -- A read reads the parts of its places.
-use Rattle.std.proofs.Common.{ℕ, ◌≡◌, ◌==◌, ◌&&◌, ◌++◌, List, [], ◌∷◌, map, Option, Some, None, cond, refl, ap, ◌∙◌}
-use Rattle.std.specs.Prelude.{is_some, unwrap_or}
+use Rattle.std.proofs.Common.{ℕ, ◌≡◌, ◌==◌, ◌&&◌, ◌++◌, List, [], ◌∷◌, map, Option, Some, None, cond, refl, ap, ◌∙◌, option_map}
 use Rattle.std.specs.Option.{option_or}
 use Rattle.row_values.specs.declared.rows.KeyedRow.{KeyedRow}
 use Rattle.row_values.specs.Ids.{Id}
 use Rattle.model.specs.Times.{time_of, is_future, is_below}
 use Rattle.row_values.specs.Store.{precedes}
 use Rattle.model.specs.Tablets.{Tablet, serves}
-use Rattle.model.specs.Acts.{At, Refusal, Future, Fenced, StaleSchema, TooOld, Idle, Rows}
-use Rattle.model.specs.Parts.{Parts, Outcome, If, judged, answered}
+use Rattle.model.specs.Acts.{At, Refusal, Future, Fenced, StaleSchema, TooOld, Rows}
+use Rattle.model.specs.Parts.{Parts, Outcome, If, judged, answered, Names, Fault}
 use Rattle.row_values.specs.Elements.{AllOf, in_order}
 use Rattle.model.specs.Entries.{IsSlot}
-use Rattle.model.specs.Looks.{names}
 use Rattle.model.specs.RowActs.{read, has_moved, covers, none_left, goes_on, moved_from_key, moved_from_scan, first_moved, first_fence, other_version, stale, first_cutoff, rows_in, rows_of_places, cut_rows}
 use Rattle.law_local.specs.Agreeing.{Agree}
 use Rattle.law_local.proofs.Agreement.{has_first, agree_rest}
@@ -71,11 +69,11 @@ rows_same (place ∷ places) key x f g same =
 -- what a read answers by what it finds at its places
 abbrev read_by : Option ℕ → List ℕ → ℕ → Option Refusal → Option Id → Option ℕ → Option ℕ → List KeyedRow → Outcome
 read_by at columns n away fence other cutoff rows = judged
-    (If (is_some away) (unwrap_or away Idle)
-    ∷ names fence Fenced
-    ∷ If (is_some other) (StaleSchema (unwrap_or other 0))
+    (Fault away
+    ∷ Names fence Fenced
+    ∷ Fault (option_map StaleSchema other)
     ∷ If (is_future at n) (Future n)
-    ∷ If (is_some cutoff) (TooOld (time_of at n) (unwrap_or cutoff 0))
+    ∷ Fault (option_map (TooOld (time_of at n)) cutoff)
     ∷ [])
     (answered (Rows (cut_rows columns (in_order (λ r s. precedes r.key s.key) rows))))
 

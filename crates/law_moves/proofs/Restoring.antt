@@ -19,8 +19,7 @@ use Rattle.model.specs.Acts.{Act, Reply, Refusal, Refused, Ok, Restore, Change, 
 use Rattle.model.specs.Operations.{user, time_of_user, restoration_of, clone_with}
 use Rattle.model.specs.Cleanup.{floor_of}
 use Rattle.model.specs.Lists.{active_tablets, listing}
-use Rattle.model.specs.Looks.{known, names}
-use Rattle.model.specs.Parts.{Master, Parts, Drawn, Check, If, Outcome, judged, refused}
+use Rattle.model.specs.Parts.{Master, Parts, Drawn, Check, If, Outcome, judged, refused, Names, unless}
 use Rattle.model.specs.Changes.{accepts, restore}
 use Rattle.model.specs.Changed.{changed, next_restoration, the_schedule, no_schedule}
 use Rattle.model.specs.Replies.{WindowRight, WindowRightOf}
@@ -29,6 +28,7 @@ use Rattle.law_invariants.specs.Operations.{IsKnown, IsOpenOf, Uses}
 use Rattle.law_invariants.specs.Invariant.{Inv, Later}
 use Rattle.law_invariants.proofs.Finding.{some_is, same_equal, in_append, in_added, in_first, passes_both}
 use Rattle.law_invariants.proofs.Remembering.{floor_rises}
+use Rattle.law_invariants.proofs.Judging.{step_if, step_names}
 use Rattle.law_invariants.proofs.Ticking.{refused_keeps, KeepsAll}
 use Rattle.law_moves.proofs.Recording.{Records, recorded, RestorationCame, Onto}
 use Rattle.law_moves.proofs.Staying.{schedule_on}
@@ -42,8 +42,11 @@ use Rattle.law_moves.proofs.Using.{alone_added, same_on, schedule_with_is, sched
 
 pub check_keeps : (act : Act) (n : ℕ) (ps : Parts) (activity : List Interval) (changes : List Made) (comes : Bool) (why : Refusal) (checks : List Check) (o : Outcome) → (comes ≡ true → KeepsAll act n ps activity changes (refused why))
     → (comes ≡ false → KeepsAll act n ps activity changes (judged checks o)) → KeepsAll act n ps activity changes (judged (If comes why ∷ checks) o)
-check_keeps act n ps activity changes true why checks o comes_ goes = comes_ refl
-check_keeps act n ps activity changes false why checks o comes_ goes = goes refl
+check_keeps act n ps activity changes comes why checks o it goes = step_if (λ r. KeepsAll act n ps activity changes (unless r o)) comes why checks it goes
+
+pub name_keeps : (act : Act) (n : ℕ) (ps : Parts) (activity : List Interval) (changes : List Made) (found : Option Id) (why : Id → Refusal) (checks : List Check) (o : Outcome)
+    → ((id : Id) → found ≡ Some id → KeepsAll act n ps activity changes (refused (why id))) → (found ≡ None → KeepsAll act n ps activity changes (judged checks o)) → KeepsAll act n ps activity changes (judged (Names found why ∷ checks) o)
+name_keeps act n ps activity changes found why checks o it goes = step_names (λ r. KeepsAll act n ps activity changes (unless r o)) found why checks it goes
 
 -- what is right of a window, where the schedule is found and no operation uses its namespace
 pub window_by : (Judged : Reply → Schedule → ℕ → ℕ → Type 0) (found : Option Schedule) (reply : Reply) (m : Master) (n to : ℕ) → (is_none found ≡ false → user m (the_schedule found).namespace ≡ None → Judged reply (the_schedule found) n to)
@@ -267,12 +270,12 @@ restore_keeps ps activity changes n schedule to [] later plan inv =
     let done = accepts (Restore schedule to) [] [] (next_restoration m ∷ []) in
     let future : List Check = If (leb n to) (Future n) ∷ [] in
     let early : List Check = If (ltb to (low s n)) (TooEarly (low s n)) ∷ future in
-    let busy : List Check = names (user m s.namespace) Busy ∷ early in
+    let busy : List Check = Names (user m s.namespace) Busy ∷ early in
     check_keeps act n ps activity changes (is_none found) UnknownSchedule busy done
     (λ none. refused_keeps act UnknownSchedule n ps activity changes later inv (window_by WindowRight found (Refused UnknownSchedule) m n to (λ some free. absurd (true≢false (sym none ∙ some)))) refl)
-    (λ some. check_keeps act n ps activity changes (is_some (user m s.namespace)) (Busy (known (user m s.namespace))) early done
-    (λ used. refused_keeps act (Busy (known (user m s.namespace))) n ps activity changes later inv
-    (window_by WindowRight found (Refused (Busy (known (user m s.namespace)))) m n to (λ there free. absurd (used_not (user m s.namespace) used free))) refl)
+    (λ some. name_keeps act n ps activity changes (user m s.namespace) Busy early done
+    (λ by used. refused_keeps act (Busy by) n ps activity changes later inv
+    (window_by WindowRight found (Refused (Busy by)) m n to (λ there free. absurd (used_not (user m s.namespace) (ap is_some used) free))) refl)
     (λ free. check_keeps act n ps activity changes (ltb to (low s n)) (TooEarly (low s n)) future done
     (λ l. refused_keeps act (TooEarly (low s n)) n ps activity changes later inv (window_by WindowRight found (Refused (TooEarly (low s n))) m n to (λ there unused. (refl, ltb-true to (low s n) l))) refl)
     (λ l. check_keeps act n ps activity changes (leb n to) (Future n) [] done
@@ -280,7 +283,7 @@ restore_keeps ps activity changes n schedule to [] later plan inv =
     (window_by WindowRight found (Refused (Future n)) m n to (λ there unused. (refl, (at_least to (low s n) l, leb-true n to g)))) refl)
     (λ g.
     let is = schedule_with_is m.schedules schedule s (some_is found no_schedule some) in
-    let may : MayRestore m s to n = record { there = is.0; free = not_used m s.namespace free; from = at_least to (low s n) l; before = below n to g } in
+    let may : MayRestore m s to n = record { there = is.0; free = not_used m s.namespace (ap is_some free); from = at_least to (low s n) l; before = below n to g } in
     alone_keeps act done n ps activity activity changes changes (recorded m (begun s to n m)) refl refl refl refl
     (window_by WindowRight found (Ok (next_restoration m ∷ [])) m n to (λ there unused. (may.from, may.before))) refl
     (records_keep ps activity changes (begun s to n m) (begun_onto ps activity changes n to s before may inv) inv)))))

@@ -15,8 +15,8 @@ use Rattle.model.specs.Drawn.{drawn_of}
 use Rattle.model.specs.Acts.{CreateSchedule, DeleteSchedule, Change, UnknownNamespace, UnknownSchedule, Busy, ScheduleExists, BadPeriod}
 use Rattle.model.specs.Operations.{holder, user, time_of_user}
 use Rattle.model.specs.Cleanup.{floor_of}
-use Rattle.model.specs.Looks.{known, names}
-use Rattle.model.specs.Parts.{Master, Parts, Drawn, Check, If}
+use Rattle.model.specs.Looks.{known}
+use Rattle.model.specs.Parts.{Master, Parts, Drawn, Check, If, Names}
 use Rattle.model.specs.Changes.{accepts, create_schedule, delete_schedule, schedule_id, schedule_user}
 use Rattle.model.specs.Changed.{changed, next_schedule, the_schedule, no_schedule}
 use Rattle.law_store.proofs.Keys.{either_way}
@@ -38,8 +38,8 @@ abbrev create_schedule_checks : ℕ → ℕ → List ℕ → Master → List Che
 create_schedule_checks interval retention namespace m =
     let ns = namespace_named m.catalog.namespaces namespace in
     If (is_none ns) UnknownNamespace
-    ∷ names (holder m (known ns)) Busy
-    ∷ names (schedule_id (schedule_of m.schedules (known ns))) ScheduleExists
+    ∷ Names (holder m (known ns)) Busy
+    ∷ Names (schedule_id (schedule_of m.schedules (known ns))) ScheduleExists
     ∷ If (not (is_period interval retention)) (BadPeriod interval retention)
     ∷ []
 
@@ -308,7 +308,7 @@ deleted_onto ps activity changes n s before there calm free inv =
 abbrev delete_schedule_checks : Id → Master → List Check
 delete_schedule_checks schedule m =
     let found = schedule_with m.schedules schedule in
-    If (is_none found) UnknownSchedule ∷ names (schedule_user m (the_schedule found)) Busy ∷ []
+    If (is_none found) UnknownSchedule ∷ Names (schedule_user m (the_schedule found)) Busy ∷ []
 
 pub delete_schedule_keeps : (ps : Parts) (activity : List Interval) (changes : List Made) (n : ℕ) (schedule : Id) (slots : List ℕ) → Later (0 ∷ slots) ps n → same_slots slots [] ≡ true → Inv ps activity changes
     → KeepsAll (Change (DeleteSchedule schedule) slots) n ps activity changes (delete_schedule schedule slots n ps)

@@ -17,8 +17,7 @@ use Rattle.model.specs.Acts.{TakeSnapshot, Change, UnknownSchedule, Busy, NotDue
 use Rattle.model.specs.Operations.{user, time_of_user}
 use Rattle.model.specs.Cleanup.{floor_of}
 use Rattle.model.specs.Lists.{next_snapshot, new_snapshot, set_last, tablets_active_within, intervals_in, once}
-use Rattle.model.specs.Looks.{names}
-use Rattle.model.specs.Parts.{Master, Parts, Drawn, Check, If}
+use Rattle.model.specs.Parts.{Master, Parts, Drawn, Check, If, Names}
 use Rattle.model.specs.Changes.{accepts, take_snapshot, schedule_user}
 use Rattle.model.specs.Changed.{changed, the_schedule, no_schedule}
 use Rattle.law_store.proofs.Keys.{either_way}
@@ -234,7 +233,7 @@ abbrev take_snapshot_checks : Id → ℕ → Master → List Check
 take_snapshot_checks schedule n m =
     let found = schedule_with m.schedules schedule in
     let s = the_schedule found in
-    If (is_none found) UnknownSchedule ∷ names (schedule_user m s) Busy ∷ If (not (is_due s n)) (NotDue (next_due s)) ∷ []
+    If (is_none found) UnknownSchedule ∷ Names (schedule_user m s) Busy ∷ If (not (is_due s n)) (NotDue (next_due s)) ∷ []
 
 pub take_snapshot_keeps : (ps : Parts) (activity : List Interval) (changes : List Made) (n : ℕ) (schedule : Id) (slots : List ℕ) → Later (0 ∷ slots) ps n → same_slots slots [] ≡ true → Inv ps activity changes
     → KeepsAll (Change (TakeSnapshot schedule) slots) n ps activity changes (take_snapshot schedule slots n ps)

@@ -1,11 +1,11 @@
 -- Looks change nothing but clocks, and their replies are right.
-use Rattle.std.proofs.Common.{ℕ, ◌≤◌, length, List, [], ◌∷◌, Option, true, false, map, refl, is_some, is_none}
-use Rattle.std.specs.Option.{unwrap_or, option_to_list}
+use Rattle.std.proofs.Common.{ℕ, ◌≤◌, length, List, [], ◌∷◌, Option, Some, None, map, refl, is_none, Some}
+use Rattle.std.specs.Option.{option_map, option_to_list}
 use Rattle.model.specs.Times.{time_of, is_future, is_below}
 use Rattle.model.specs.Catalog.{namespace_named, kept_from}
 use Rattle.model.specs.Journal.{Change}
-use Rattle.model.specs.Acts.{Command, NamedItem, Act, Look, AskPlan, AskKeys, AskTable, AskWork, AskRemovable, AskPresent, Ask, UnknownNamespace, UnknownTable, UnknownColumn, Future, TooOld, CrossTablet, Placed, Planned, Reply, Refused}
-use Rattle.model.specs.Parts.{Parts, Check, If, judged, answered}
+use Rattle.model.specs.Acts.{Command, NamedItem, Act, Look, AskPlan, AskKeys, AskTable, AskWork, AskRemovable, AskPresent, Ask, UnknownNamespace, UnknownTable, Future, TooOld, CrossTablet, Placed, Planned, Reply, Refused, Refusal}
+use Rattle.model.specs.Parts.{Parts, Check, If, Fault, refusal_in, unless, judged, answered}
 use Rattle.model.specs.Lists.{by_range}
 use Rattle.model.specs.Looks.{look_plan, look_keys, look_table, look_present, plan_of, table_asked, known, the_table, batch_fault, holding, first_code, other_code, place_of, active_in}
 use Rattle.model.specs.Entries.{slots_of, AskAsked}
@@ -20,9 +20,11 @@ use Rattle.law_invariants.specs.Remembered.{activity_after}
 -- an outcome that only answers, refused or not, keeps what holds
 judged_told : (checks : List Check) (act : Act) (reply : Reply) (n : ℕ) (ps : Parts) (activity : List Interval) (changes : List Change) → Later (slots_of act) ps n → Inv ps activity changes
     → Inv (told act (judged checks (answered reply)) n ps) (activity_after act (judged checks (answered reply)) n ps activity) changes
-judged_told [] act reply n ps activity changes later inv = nothing_told act reply n ps activity changes later inv
-judged_told (If false why ∷ checks) act reply n ps activity changes later inv = judged_told checks act reply n ps activity changes later inv
-judged_told (If true why ∷ checks) act reply n ps activity changes later inv = nothing_told act (Refused why) n ps activity changes later inv
+judged_told checks act reply n ps activity changes later inv = either (refusal_in checks)
+  where
+    either : (why : Option Refusal) → Inv (told act (unless why (answered reply)) n ps) (activity_after act (unless why (answered reply)) n ps activity) changes
+    either None = nothing_told act reply n ps activity changes later inv
+    either (Some why) = nothing_told act (Refused why) n ps activity changes later inv
 
 pub keys_keeps : (namespace table : List ℕ) (batch : List NamedItem) (at : Option ℕ) (n : ℕ) (ps : Parts) (activity : List Interval) (changes : List Change) → Later (slots_of (Look (AskKeys namespace table batch at))) ps n
     → 1 ≤ length batch → Inv ps activity changes → KeepsAll (Look (AskKeys namespace table batch at)) n ps activity changes (look_keys namespace table batch at n ps.master)
@@ -33,11 +35,9 @@ keys_keeps namespace table batch at n ps activity changes later some inv =
     let from = kept_from m.catalog.kept_from (known ns) in
     let found = table_asked m.catalog.tables (known ns) table at in
     let t = the_table found in
-    let fault = batch_fault t.schema.columns batch in
     let home = holding m t.id (first_code batch) in
-    let other = other_code home batch in
     let checks : List Check = If (is_none ns) UnknownNamespace ∷ If (is_future at n) (Future n) ∷ If (is_below at from) (TooOld (time_of at n) from) ∷ If (is_none found) UnknownTable
-    ∷ If (is_some fault) (unwrap_or fault UnknownColumn) ∷ If (is_some other) (CrossTablet (first_code batch) (unwrap_or other 0)) ∷ [] in
+    ∷ Fault (batch_fault t.schema.columns batch) ∷ Fault (option_map (CrossTablet (first_code batch)) (other_code home batch)) ∷ [] in
     record {
       right = (look_keys_right m n changes namespace table batch at (asked m n changes (later 0 refl) inv.master), keys_places ps n activity changes namespace table batch at (later 0 refl) inv some);
       inv = judged_told checks (Look (AskKeys namespace table batch at)) (Placed (map place_of (option_to_list home)) t.schema.version t.schema.columns) n ps activity changes later inv;

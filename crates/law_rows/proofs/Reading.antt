@@ -1,7 +1,7 @@
 -- A read gives the rows of the view: each of its places stands for it.
 use Rattle.std.proofs.Common.{ℕ, ◌≡◌, ◌≤◌, ◌<◌, List, [], ◌∷◌, Option, Some, None, true, false, ◌&&◌, map, inl, inr, refl, sym, ap, subst, ◌∙◌, arith, ltb-false, le_trans, le_of_lt, is_some}
 use Rattle.std.proofs.lemmas.Bool.Decides.{nat_tests}
-use Rattle.std.specs.Option.{option_or, unwrap_or}
+use Rattle.std.specs.Option.{option_or, option_map}
 use Rattle.row_values.specs.Ids.{Id, same}
 use Rattle.row_values.specs.Elements.{In, in_order, AllOf}
 use Rattle.row_values.specs.Slots.{has}
@@ -9,9 +9,8 @@ use Rattle.model.specs.Times.{time_of, is_future, is_below, before_end, is_open}
 use Rattle.row_values.specs.Store.{precedes}
 use Rattle.model.specs.Journal.{Change, table_at, row_at}
 use Rattle.model.specs.Tablets.{Tablet, is_serving, serves}
-use Rattle.model.specs.Acts.{At, Read, Rows, Idle, Fenced, StaleSchema, Future, TooOld}
-use Rattle.model.specs.Parts.{Parts, If, answered}
-use Rattle.model.specs.Looks.{names}
+use Rattle.model.specs.Acts.{At, Read, Rows, Fenced, StaleSchema, Future, TooOld}
+use Rattle.model.specs.Parts.{Parts, If, Names, Fault, answered}
 use Rattle.model.specs.Entries.{slots_of, IsSlot}
 use Rattle.model.specs.RowActs.{read, first_moved, moved_from_key, moved_from_scan, has_moved, goes_on, none_left, covers, first_fence, stale, first_cutoff, rows_of_places, cut_rows}
 use Rattle.law_store.proofs.Keys.{either_way}
@@ -22,6 +21,10 @@ use Rattle.law_invariants.proofs.Ticking.{refused_keeps, by_checks, KeepsAll, no
 use Rattle.law_rows.proofs.Keeping.{clock_before}
 use Rattle.law_rows.proofs.Writing.{none_is}
 use Rattle.model.specs.Activity.{Interval}
+
+unmapped : {A B : Type 0} (f : A → B) (o : Option A) → option_map f o ≡ None → o ≡ None
+unmapped f None e = refl
+unmapped f (Some a) e = absurd (let q = e in grind arith)
 
 -- no place has moved: each serves its tablet
 served_key : (places : List At) (key : List ℕ) (tablet : ℕ → Tablet) → moved_from_key places key tablet ≡ None → (p : At) → In p places → serves (tablet p.slot) p.tablet ≡ true
@@ -91,25 +94,22 @@ pub read_keeps : (slots : ℕ) (ps : Parts) (activity : List Interval) (changes 
 unfolding read
 read_keeps slots ps activity changes n places version key at columns later asked inv =
     let act = Read places version key at columns in
-    let away = first_moved key places ps.tablet in
-    let other = stale at places version ps.tablet in
-    let cutoff = first_cutoff places at ps.tablet in
     let rows = cut_rows columns (in_order (λ r s. precedes r.key s.key) (rows_of_places places key (time_of at n) ps.tablet)) in
     by_checks act n ps activity changes
-    (If (is_some away) (unwrap_or away Idle) ∷ names (first_fence places ps.tablet) Fenced ∷ If (is_some other) (StaleSchema (unwrap_or other 0)) ∷ If (is_future at n) (Future n)
-    ∷ If (is_some cutoff) (TooOld (time_of at n) (unwrap_or cutoff 0)) ∷ [])
+    (Fault (first_moved key places ps.tablet) ∷ Names (first_fence places ps.tablet) Fenced ∷ Fault (option_map StaleSchema (stale at places version ps.tablet)) ∷ If (is_future at n) (Future n)
+    ∷ Fault (option_map (TooOld (time_of at n)) (first_cutoff places at ps.tablet)) ∷ [])
     (answered (Rows rows))
     (λ why. refused_keeps act why n ps activity changes later inv tt refl)
     (λ passes. record {
       right = read_right places ps.tablet changes key (time_of at n) columns (λ p k isin range.
           let t = ps.tablet p.slot in
           let h = inv.slots p.slot in
-          let serving : is_serving t.presence ≡ true = (both_pass (is_serving t.presence) (same t.tablet p.tablet) (served key places ps.tablet (none_is away passes.0) p isin)).0 in
+          let serving : is_serving t.presence ≡ true = (both_pass (is_serving t.presence) (same t.tablet p.tablet) (served key places ps.tablet passes.0 p isin)).0 in
           let free : t.fence ≡ None = unfenced places ps.tablet (none_is (first_fence places ps.tablet) passes.1.0) p isin in
           let o = h.opens serving free in
           let z = h.each o.interval o.listed o.slot_is in
           let less : t.clock < n = clock_before (slots_of act) ps n p.slot later (from_one slots places p asked isin) (place_touched places p isin) in
-          let cut : t.cutoff ≤ time_of at n = reached at n t.cutoff (le_trans h.good.cutoff (le_of_lt less)) (recent places at ps.tablet (none_is cutoff passes.1.1.1.1.0) p isin) in
+          let cut : t.cutoff ≤ time_of at n = reached at n t.cutoff (le_trans h.good.cutoff (le_of_lt less)) (recent places at ps.tablet (unmapped _ (first_cutoff places at ps.tablet) passes.1.1.1.1.0) p isin) in
           z.stands (second_fails (is_open o.interval.to) _ (ap is_some o.settled)) k (time_of at n) (rw (← z.low_is, ← z.high_is) range) cut (ap (before_end (time_of at n)) o.opened)
           (ap (λ i. is_some (table_at changes (time_of at n) i)) (sym z.table_is) ∙ h.shown serving free (time_of at n) cut)
           ∙ ap (λ i. row_at changes (time_of at n) i k) (sym z.table_is));

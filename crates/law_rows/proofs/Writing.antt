@@ -17,8 +17,7 @@ use Rattle.model.specs.Records.{Listed, RestorationRecord, RestorationState, Fen
 use Rattle.model.specs.Stands.{awaited_in, awaited_of, first_of_two}
 use Rattle.model.specs.Tablets.{Tablet, Mark, act_for, effect, is_serving, serves, wrote, Write as WriteRows}
 use Rattle.model.specs.Acts.{At, Write, Ok, Fenced, StaleSchema}
-use Rattle.model.specs.Parts.{Master, Parts, If}
-use Rattle.model.specs.Looks.{names}
+use Rattle.model.specs.Parts.{Master, Parts, If, Names}
 use Rattle.model.specs.Entries.{slots_of}
 use Rattle.model.specs.History.{rows_made, told}
 use Rattle.model.specs.RowActs.{write, serves_all, covers, has_moved}
@@ -343,7 +342,7 @@ unfolding write
 write_keeps ps activity changes n place version batch later from inv =
     let t = ps.tablet place.slot in
     by_checks (Write place version batch) n ps activity changes
-    (If (not (serves_all t place.tablet batch)) (has_moved place.slot t) ∷ names t.fence Fenced ∷ If (not (eqb t.version version)) (StaleSchema t.version) ∷ [])
+    (If (not (serves_all t place.tablet batch)) (has_moved place.slot t) ∷ Names t.fence Fenced ∷ If (not (eqb t.version version)) (StaleSchema t.version) ∷ [])
     (tells place.slot (WriteRows batch) (Ok []))
     (λ why. refused_keeps (Write place version batch) why n ps activity changes later inv tt refl)
     (λ passes. written_inv ps activity changes n place version batch later from inv (passed _ passes.0) (none_is t.fence passes.1.0))

@@ -13,9 +13,9 @@ use Rattle.model.specs.Journal.{Change as Made}
 use Rattle.model.specs.Tablets.{Tablet, TabletAct, Told, HideSince, Child, act_for, effect}
 use Rattle.model.specs.Entries.{CommandAsked, slots_of}
 use Rattle.model.specs.Acts.{Split, Change, UnknownNamespace, UnknownTable, Busy, TooNarrow, SlotsFull}
-use Rattle.model.specs.Parts.{Master, Parts, Check, If}
+use Rattle.model.specs.Parts.{Master, Parts, Check, If, Names}
 use Rattle.model.specs.Operations.{holder}
-use Rattle.model.specs.Looks.{names, known, table_of, the_table, plan_of, free_slots, family, family_of, holding}
+use Rattle.model.specs.Looks.{known, table_of, the_table, plan_of, free_slots, family, family_of, holding}
 use Rattle.model.specs.Changes.{accepts, tell_children, split}
 use Rattle.model.specs.Changed.{changed, children, parent_of, no_interval, next_tablet, tablet_split}
 use Rattle.model.specs.History.{told, outcome}
@@ -134,7 +134,7 @@ split_checks namespace table code m =
     let free = length (free_slots m) in
     If (is_none ns) UnknownNamespace
     ∷ If (is_none found) UnknownTable
-    ∷ names (holder m (known ns)) Busy
+    ∷ Names (holder m (known ns)) Busy
     ∷ If (eqb code parent.low) (TooNarrow parent.low)
     ∷ If (ltb free 2) (SlotsFull free 2)
     ∷ []

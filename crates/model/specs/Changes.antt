@@ -13,11 +13,11 @@ use Rattle.model.specs.Activity.{Interval}
 use Rattle.model.specs.Tablets.{Tablet, TabletAct, Make, Child, SetVersion, HideSince, Told}
 use Rattle.model.specs.Records.{Schedule, CloneRecord, is_visible, schedule_with, schedule_of, unfinished_of}
 use Rattle.model.specs.Acts.{Command, CreateNamespace, DropNamespace, CreateTable, AddColumn, DropColumn, RenameTable, DropTable, Split, CreateSchedule, DeleteSchedule, TakeSnapshot, Restore, CloneNamespace, ListSchedules, ListSnapshots, ListRestorations, ListClones, ListTablets, UnknownNamespace, UnknownTable, UnknownColumn, UnknownSchedule, BadPeriod, NameTaken, ScheduleExists, NotEmpty, UnderSchedule, NoSchedule, TooMany, SlotsFull, TooEarly, Future, Busy, StalePlan, TooNarrow, NotDue, Ok, Schedules, Snapshots, Restorations, Clones, Tablets}
-use Rattle.model.specs.Parts.{Master, Parts, Changes, Outcome, If, judged, answered}
+use Rattle.model.specs.Parts.{Master, Parts, Changes, Outcome, If, judged, answered, Names}
 use Rattle.model.specs.Schedules.{is_period, low, next_due, is_due}
 use Rattle.model.specs.Lists.{next_snapshot}
 use Rattle.model.specs.Operations.{holder, user}
-use Rattle.model.specs.Looks.{free_slots, known, names, table_of, plan_of, the_table}
+use Rattle.model.specs.Looks.{free_slots, known, table_of, plan_of, the_table}
 use Rattle.model.specs.Changed.{next_namespace, next_table, next_schedule, next_restoration, next_clone, the_schedule, next_tablet, shares, children, parent_of, sources, clone_time}
 use Rattle.model.specs.Lines.{schedule_lines, snapshot_lines, restoration_lines, clone_lines, tablet_lines}
 
@@ -77,7 +77,7 @@ accepts command slots tablets made = record { master = Changes command slots; ta
 
 unfoldable pub create_namespace : List ℕ → List ℕ → ℕ → Parts → Outcome
 create_namespace name slots n ps = let m = ps.master in judged
-    (names (named m name) NameTaken ∷ If (count_namespaces m == most_namespaces) (TooMany most_namespaces) ∷ [])
+    (Names (named m name) NameTaken ∷ If (count_namespaces m == most_namespaces) (TooMany most_namespaces) ∷ [])
     (accepts (CreateNamespace name) slots [] (next_namespace m ∷ []))
 
 unfoldable pub drop_namespace : List ℕ → List ℕ → ℕ → Parts → Outcome
@@ -86,9 +86,9 @@ drop_namespace name slots n ps =
     let ns = namespace_named m.catalog.namespaces name in
     judged
     (If (is_none ns) UnknownNamespace
-    ∷ names (holder m (known ns)) Busy
-    ∷ names (first_table (by_id (current_tables m.catalog.tables (known ns)))) NotEmpty
-    ∷ names (schedule_id (schedule_of m.schedules (known ns))) UnderSchedule
+    ∷ Names (holder m (known ns)) Busy
+    ∷ Names (first_table (by_id (current_tables m.catalog.tables (known ns)))) NotEmpty
+    ∷ Names (schedule_id (schedule_of m.schedules (known ns))) UnderSchedule
     ∷ [])
     (accepts (DropNamespace name) slots [] [])
 
@@ -99,8 +99,8 @@ create_table namespace table tablets columns slots n ps =
     let free = length (free_slots m) in
     judged
     (If (is_none ns) UnknownNamespace
-    ∷ names (holder m (known ns)) Busy
-    ∷ names (table_id (current_named m.catalog.tables (known ns) table)) NameTaken
+    ∷ Names (holder m (known ns)) Busy
+    ∷ Names (table_id (current_named m.catalog.tables (known ns) table)) NameTaken
     ∷ If (length (current_tables m.catalog.tables (known ns)) == most_tables) (TooMany most_tables)
     ∷ If (nat_lt free tablets) (SlotsFull free tablets)
     ∷ [])
@@ -115,7 +115,7 @@ add_column namespace table name kind slots n ps =
     judged
     (If (is_none ns) UnknownNamespace
     ∷ If (is_none found) UnknownTable
-    ∷ names (holder m (known ns)) Busy
+    ∷ Names (holder m (known ns)) Busy
     ∷ If (is_some (column_named t.schema.columns name)) (NameTaken t.id)
     ∷ If (length t.schema.columns == most_columns) (TooMany most_columns)
     ∷ [])
@@ -131,7 +131,7 @@ drop_column namespace table name slots n ps =
     (If (is_none ns) UnknownNamespace
     ∷ If (is_none found) UnknownTable
     ∷ If (is_none (column_named t.schema.columns name)) UnknownColumn
-    ∷ names (holder m (known ns)) Busy
+    ∷ Names (holder m (known ns)) Busy
     ∷ [])
     (accepts (DropColumn namespace table name) slots (tell slots (SetVersion (t.schema.version + 1))) [])
 
@@ -142,8 +142,8 @@ rename_table namespace table name slots n ps =
     judged
     (If (is_none ns) UnknownNamespace
     ∷ If (is_none (table_of m namespace table)) UnknownTable
-    ∷ names (holder m (known ns)) Busy
-    ∷ names (table_id (table_of m namespace name)) NameTaken
+    ∷ Names (holder m (known ns)) Busy
+    ∷ Names (table_id (table_of m namespace name)) NameTaken
     ∷ [])
     (accepts (RenameTable namespace table name) slots [] [])
 
@@ -154,7 +154,7 @@ drop_table namespace table slots n ps =
     judged
     (If (is_none ns) UnknownNamespace
     ∷ If (is_none (table_of m namespace table)) UnknownTable
-    ∷ names (holder m (known ns)) Busy
+    ∷ Names (holder m (known ns)) Busy
     ∷ [])
     (accepts (DropTable namespace table) slots (tell slots (HideSince n)) [])
 
@@ -168,7 +168,7 @@ split namespace table code slots n ps =
     judged
     (If (is_none ns) UnknownNamespace
     ∷ If (is_none found) UnknownTable
-    ∷ names (holder m (known ns)) Busy
+    ∷ Names (holder m (known ns)) Busy
     ∷ If (code == parent.low) (TooNarrow parent.low)
     ∷ If (nat_lt free 2) (SlotsFull free 2)
     ∷ [])
@@ -184,8 +184,8 @@ create_schedule interval retention namespace slots n ps =
     let ns = namespace_named m.catalog.namespaces namespace in
     judged
     (If (is_none ns) UnknownNamespace
-    ∷ names (holder m (known ns)) Busy
-    ∷ names (schedule_id (schedule_of m.schedules (known ns))) ScheduleExists
+    ∷ Names (holder m (known ns)) Busy
+    ∷ Names (schedule_id (schedule_of m.schedules (known ns))) ScheduleExists
     ∷ If (not (is_period interval retention)) (BadPeriod interval retention)
     ∷ [])
     (accepts (CreateSchedule interval retention namespace) slots [] (next_schedule m ∷ []))
@@ -195,7 +195,7 @@ delete_schedule schedule slots n ps =
     let m = ps.master in
     let found = schedule_with m.schedules schedule in
     judged
-    (If (is_none found) UnknownSchedule ∷ names (schedule_user m (the_schedule found)) Busy ∷ [])
+    (If (is_none found) UnknownSchedule ∷ Names (schedule_user m (the_schedule found)) Busy ∷ [])
     (accepts (DeleteSchedule schedule) slots [] [])
 
 unfoldable pub take_snapshot : Id → List ℕ → ℕ → Parts → Outcome
@@ -204,7 +204,7 @@ take_snapshot schedule slots n ps =
     let found = schedule_with m.schedules schedule in
     let s = the_schedule found in
     judged
-    (If (is_none found) UnknownSchedule ∷ names (schedule_user m s) Busy ∷ If (not (is_due s n)) (NotDue (next_due s)) ∷ [])
+    (If (is_none found) UnknownSchedule ∷ Names (schedule_user m s) Busy ∷ If (not (is_due s n)) (NotDue (next_due s)) ∷ [])
     (accepts (TakeSnapshot schedule) slots [] (next_snapshot m ∷ []))
 
 unfoldable pub restore : Id → ℕ → List ℕ → ℕ → Parts → Outcome
@@ -214,7 +214,7 @@ restore schedule to slots n ps =
     let s = the_schedule found in
     judged
     (If (is_none found) UnknownSchedule
-    ∷ names (user m s.namespace) Busy
+    ∷ Names (user m s.namespace) Busy
     ∷ If (nat_lt to (low s n)) (TooEarly (low s n))
     ∷ If (nat_le n to) (Future n)
     ∷ [])
@@ -231,9 +231,9 @@ clone_namespace source target at slots n ps =
     let needed = length (sources m (known ns) to) in
     judged
     (If (is_none ns) UnknownNamespace
-    ∷ names (user m (known ns)) Busy
+    ∷ Names (user m (known ns)) Busy
     ∷ If (is_none found) (NoSchedule (known ns))
-    ∷ names (named m target) NameTaken
+    ∷ Names (named m target) NameTaken
     ∷ If (count_namespaces m == most_namespaces) (TooMany most_namespaces)
     ∷ If (nat_lt to (low s n)) (TooEarly (low s n))
     ∷ If (nat_le n to) (Future n)

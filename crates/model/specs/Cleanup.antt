@@ -11,10 +11,9 @@ use Rattle.model.specs.Activity.{Interval, last_of, forget}
 use Rattle.model.specs.Tablets.{Tablet as TabletPart, Presence, EmptyPart, ServingPart, HiddenPart, Empty, Clear, DropFrozen, standing, is_hidden}
 use Rattle.model.specs.Records.{Listed, SnapshotRecord, RestorationRecord, CloneRecord, named_by_restoration, named_by_clone, is_restored, is_cloned, lists_tablet, schedule_of, snapshot_with}
 use Rattle.model.specs.Acts.{Refusal, UnknownSnapshot, Moved, StalePlan, InWindow, IsListed, Removal, Removed, Pruned}
-use Rattle.model.specs.Parts.{Master, Parts, Outcome, If, Removes, Prunes, judged, refused}
+use Rattle.model.specs.Parts.{Master, Parts, Outcome, If, Removes, Prunes, judged, refused, Names}
 use Rattle.model.specs.Schedules.{floor, history_retention}
 use Rattle.model.specs.Operations.{time_of_user}
-use Rattle.model.specs.Looks.{names}
 
 -- the floor of a namespace at a stamp
 abbrev pub floor_of : Master → Id → ℕ → ℕ
@@ -96,7 +95,7 @@ removing_tablet (Some i) target slots n ps =
     (If (not (same_slots slots (i.slot ∷ []))) (StalePlan (i.slot ∷ []))
     ∷ If (not (is_hidden_as target t)) (Moved i.slot (standing t))
     ∷ If (nat_lt floor (hidden_at t.presence)) (InWindow (hidden_at t.presence) floor)
-    ∷ names (lister_of_tablet ps.master target) IsListed
+    ∷ Names (lister_of_tablet ps.master target) IsListed
     ∷ [])
     (record { master = Removes target; tablets = record { slot = i.slot; act = Clear } ∷ []; reply = Removed })
 
@@ -109,7 +108,7 @@ removing_snapshot (Some r) target slots n ps =
     judged
     (If (not (same_slots slots plan)) (StalePlan plan)
     ∷ If (nat_le floor r.at) (InWindow r.at floor)
-    ∷ names (lister_of_snapshot ps.master r) IsListed
+    ∷ Names (lister_of_snapshot ps.master r) IsListed
     ∷ [])
     (record { master = Removes target; tablets = map (λ slot. record { slot = slot; act = DropFrozen target }) plan; reply = Removed })
 

@@ -1,5 +1,5 @@
 -- What the looks at the master answer: the plan of a command, the place of keys or of a table, the slots that hold a tablet.
-use Rattle.std.specs.Prelude.{ℕ, zero, suc, ◌+◌, Bool, not, ◌&&◌, ◌||◌, List, [], ◌∷◌, ◌++◌, map, length, take, is_some, is_none, if◌then◌else◌, nat_le, Option, Some, None, unwrap_or}
+use Rattle.std.specs.Prelude.{ℕ, zero, suc, ◌+◌, Bool, not, ◌&&◌, ◌||◌, List, [], ◌∷◌, ◌++◌, map, length, take, is_some, is_none, if◌then◌else◌, nat_le, Option, Some, None, unwrap_or, option_map}
 use Rattle.std.specs.List.{filter, find}
 use Rattle.std.specs.Option.{option_or, option_to_list}
 use Rattle.row_values.specs.Codes.{code_of}
@@ -13,7 +13,7 @@ use Rattle.model.specs.Catalog.{kept_from, TableRecord, namespace_named, table_n
 use Rattle.model.specs.Activity.{Interval}
 use Rattle.model.specs.Records.{CloneRecord, is_cloned}
 use Rattle.model.specs.Acts.{Command, NamedCell, NamedOp, NamedUpsert, NamedDelete, NamedItem, CreateTable, AddColumn, DropColumn, DropTable, Split, Refusal, UnknownNamespace, UnknownTable, UnknownColumn, WrongKind, Future, CrossTablet, TooOld, Place, Planned, Placed, Present}
-use Rattle.model.specs.Parts.{Master, Outcome, Check, If, judged, answered}
+use Rattle.model.specs.Parts.{Master, Outcome, If, judged, answered, Fault}
 use Rattle.model.specs.Lists.{by_range}
 
 -- the slots that the targets of unfinished clones have
@@ -41,10 +41,6 @@ least_slots count slots = if nat_le count (length slots) then take count slots e
 -- the identifier that is found, or that of nothing
 abbrev pub known : Option Id → Id
 known id = unwrap_or id no_id
-
--- a refusal that comes where something is found, and names it
-abbrev pub names : Option Id → (Id → Refusal) → Check
-names found why = If (is_some found) (why (known found))
 
 -- the current table of a name in the namespace of a name
 abbrev pub table_of : Master → List ℕ → List ℕ → Option TableRecord
@@ -146,16 +142,14 @@ look_keys namespace table batch at n m =
     let from = kept_from m.catalog.kept_from (known ns) in
     let found = table_asked m.catalog.tables (known ns) table at in
     let t = the_table found in
-    let fault = batch_fault t.schema.columns batch in
     let home = holding m t.id (first_code batch) in
-    let other = other_code home batch in
     judged
     (If (is_none ns) UnknownNamespace
     ∷ If (is_future at n) (Future n)
     ∷ If (is_below at from) (TooOld (time_of at n) from)
     ∷ If (is_none found) UnknownTable
-    ∷ If (is_some fault) (unwrap_or fault UnknownColumn)
-    ∷ If (is_some other) (CrossTablet (first_code batch) (unwrap_or other 0))
+    ∷ Fault (batch_fault t.schema.columns batch)
+    ∷ Fault (option_map (CrossTablet (first_code batch)) (other_code home batch))
     ∷ [])
     (answered (Placed (map place_of (option_to_list home)) t.schema.version t.schema.columns))
 

@@ -1,6 +1,7 @@
 -- The parts of a cluster: the master, and a tablet's part in each slot from 1 on. What an act does is told as plain data:
 -- its refusals in order, and else what each touched part is told, and the reply.
-use Rattle.std.specs.Prelude.{ℕ, Bool, List, [], ◌∷◌, if◌then◌else◌}
+use Rattle.std.specs.Prelude.{ℕ, Bool, List, [], ◌∷◌, Option, Some, None, if◌then◌else◌}
+use Rattle.std.specs.Option.{option_or, option_map}
 use Rattle.row_values.specs.Ids.{Id}
 use Rattle.model.specs.Catalog.{Catalog, empty_catalog}
 use Rattle.model.specs.Activity.{Interval}
@@ -73,18 +74,34 @@ pub record Outcome : Type 0 where
   pub tablets : List Told
   pub reply : Reply
 
--- a refusal, and whether it comes
+-- a refusal that comes or not: by a test, where something is found that it names, or as a fault that may be there
 pub data Check : Type 0 where
   If : (comes : Bool) (why : Refusal) → Check
+  Names : (found : Option Id) (why : Id → Refusal) → Check
+  Fault : (fault : Option Refusal) → Check
+
+abbrev pub refusal_of : Check → Option Refusal
+refusal_of (If comes why) = if comes then Some why else None
+refusal_of (Names found why) = option_map why found
+refusal_of (Fault fault) = fault
+
+-- the first refusal that comes
+abbrev pub refusal_in : List Check → Option Refusal
+refusal_in [] = None
+refusal_in (check ∷ checks) = option_or (refusal_of check) (refusal_in checks)
 
 -- each part sets its clock, and the reply is the refusal
 abbrev pub refused : Refusal → Outcome
 refused why = record { master = Ticks; tablets = []; reply = Refused why }
 
+-- the refusal, or the outcome where there is none
+abbrev pub unless : Option Refusal → Outcome → Outcome
+unless (Some why) outcome = refused why
+unless None outcome = outcome
+
 -- the first refusal that comes, or else the outcome
 abbrev pub judged : List Check → Outcome → Outcome
-judged [] outcome = outcome
-judged (If comes why ∷ checks) outcome = if comes then refused why else judged checks outcome
+judged checks outcome = unless (refusal_in checks) outcome
 
 -- an outcome that leaves the parts as they are, but for their clocks
 abbrev pub answered : Reply → Outcome

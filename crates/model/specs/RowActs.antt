@@ -1,7 +1,7 @@
 -- What acts on tablets do: writes and reads of rows, cutoffs, compactions, restarts and counts.
-use Rattle.std.specs.Prelude.{ℕ, ◌+◌, max, Bool, true, false, not, ◌&&◌, ◌||◌, List, [], ◌∷◌, ◌++◌, map, length, is_some, if◌then◌else◌, ◌==◌, Option, Some, None, unwrap_or}
+use Rattle.std.specs.Prelude.{ℕ, ◌+◌, max, Bool, true, false, not, ◌&&◌, ◌||◌, List, [], ◌∷◌, ◌++◌, map, length, if◌then◌else◌, ◌==◌, Option, Some, None}
 use Rattle.std.specs.List.{filter, list_all}
-use Rattle.std.specs.Option.{option_or}
+use Rattle.std.specs.Option.{option_or, option_map}
 use Rattle.row_values.specs.Codes.{code_of}
 use Rattle.row_values.specs.Rows.{cut_to}
 use Rattle.row_values.specs.declared.rows.KeyedRow.{KeyedRow}
@@ -14,11 +14,11 @@ use Rattle.model.specs.Catalog.{owner_of}
 use Rattle.model.specs.Activity.{Interval}
 use Rattle.model.specs.Tablets.{Tablet, FrozenSet, standing, is_empty, serves, RaiseCutoff, Write as WriteRows, Compact as CompactRows, Restart as RestartTablet}
 use Rattle.model.specs.Records.{Schedule, schedule_of}
-use Rattle.model.specs.Acts.{At, Refusal, Future, Fenced, Moved, StaleSchema, TooOld, Idle, Ok, Rows, CutoffAt, Compacted, Counts, NoTablet}
-use Rattle.model.specs.Parts.{Master, Parts, Ticks, Restarts, Outcome, If, judged, answered}
+use Rattle.model.specs.Acts.{At, Refusal, Future, Fenced, Moved, StaleSchema, TooOld, Ok, Rows, CutoffAt, Compacted, Counts, NoTablet}
+use Rattle.model.specs.Parts.{Master, Parts, Ticks, Restarts, Outcome, If, Names, Fault, judged, answered}
 use Rattle.model.specs.Schedules.{allowed_cutoff}
 use Rattle.row_values.specs.Elements.{in_order}
-use Rattle.model.specs.Looks.{known, names}
+use Rattle.model.specs.Looks.{known}
 
 -- the slot's part doesn't have what is wanted of it
 abbrev pub has_moved : ℕ → Tablet → Refusal
@@ -35,7 +35,7 @@ unfoldable pub write : At → ℕ → List Item → ℕ → Parts → Outcome
 write place version batch n ps =
     let t = ps.tablet place.slot in
     judged
-    (If (not (serves_all t place.tablet batch)) (has_moved place.slot t) ∷ names t.fence Fenced ∷ If (not (t.version == version)) (StaleSchema t.version) ∷ [])
+    (If (not (serves_all t place.tablet batch)) (has_moved place.slot t) ∷ Names t.fence Fenced ∷ If (not (t.version == version)) (StaleSchema t.version) ∷ [])
     (record { master = Ticks; tablets = record { slot = place.slot; act = WriteRows batch } ∷ []; reply = Ok [] })
 
 -- the refusal of the first place whose part doesn't serve its tablet, or hasn't the key in its range
@@ -104,15 +104,12 @@ cut_rows columns rows = map {A = KeyedRow} (λ r. record r { row = cut_to r.row 
 -- a read of all rows or of a key's, at a time or at the stamp: by key, and those of one key in the order of the places
 unfoldable pub read : List At → ℕ → Option (List ℕ) → Option ℕ → List ℕ → ℕ → Parts → Outcome
 read places version key at columns n ps =
-    let away = first_moved key places ps.tablet in
-    let other = stale at places version ps.tablet in
-    let cutoff = first_cutoff places at ps.tablet in
     judged
-    (If (is_some away) (unwrap_or away Idle)
-    ∷ names (first_fence places ps.tablet) Fenced
-    ∷ If (is_some other) (StaleSchema (unwrap_or other 0))
+    (Fault (first_moved key places ps.tablet)
+    ∷ Names (first_fence places ps.tablet) Fenced
+    ∷ Fault (option_map StaleSchema (stale at places version ps.tablet))
     ∷ If (is_future at n) (Future n)
-    ∷ If (is_some cutoff) (TooOld (time_of at n) (unwrap_or cutoff 0))
+    ∷ Fault (option_map (TooOld (time_of at n)) (first_cutoff places at ps.tablet))
     ∷ [])
     (answered (Rows (cut_rows columns (in_order (λ r s. precedes r.key s.key) (rows_of_places places key (time_of at n) ps.tablet)))))
 

@@ -13,7 +13,7 @@ use Rattle.model.specs.Catalog.{owns}
 use Rattle.model.specs.Activity.{Interval, active_at, last_of}
 use Rattle.row_values.specs.declared.value.RowOp.{RowOp}
 use Rattle.model.specs.Journal.{Change, NamespaceMade, NamespaceDropped, TableMade, TableRenamed, TableDropped, ColumnAdded, ColumnDropped, RowChanged, NamespaceRestored, NamespaceCloned, source_of, table_at, row_at}
-use Rattle.model.specs.Tablets.{Tablet, Body, RestoreFrom, Release, BodyKind, FenceKind, FreezeKind, RestoreFromKind, HideKind, CopyKind, ReleaseKind, kind_of, Command, Mark, FrozenSet, is_empty, is_serving, is_done, holds_command, set_of}
+use Rattle.model.specs.Tablets.{Tablet, Body, Fence, Freeze, RestoreFrom, Hide, Copy, Release, BodyKind, FenceKind, FreezeKind, RestoreFromKind, HideKind, CopyKind, ReleaseKind, kind_of, Command, Mark, FrozenSet, is_empty, is_serving, is_done, holds_command, set_of}
 use Rattle.model.specs.Records.{Listed, SnapshotRecord, RestorationRecord, RestorationState, Fencing, Snapshotting, Switching, Restoring, Releasing, Restored, CloneRecord, CloneState, Accepted, CloneSnapshot, Copying, CloneReleasing, CloneComplete, is_restored, is_cloned, point_of, TabletPair}
 use Rattle.model.specs.Parts.{Parts}
 
@@ -21,7 +21,11 @@ use Rattle.model.specs.Parts.{Parts}
 
 abbrev pub is_restore : Body → Bool
 is_restore (RestoreFrom snapshot to point version) = true
-is_restore _ = false
+is_restore Fence = false
+is_restore (Freeze snapshot at) = false
+is_restore (Hide ended) = false
+is_restore (Copy source snapshot to stamp table low high version) = false
+is_restore (Release cutoff) = false
 
 abbrev pub first_of_two : Option ℕ → Option ℕ → Option ℕ
 first_of_two None later = later
@@ -31,7 +35,11 @@ first_of_two (Some x) later = Some x
 abbrev pub awaited_of : RestorationState → RestorationRecord → Id → List Mark → Option ℕ
 awaited_of (Restoring point serving) r tablet done =
     if list_any (λ l. same l.tablet tablet && is_restore l.body) r.listed && not (is_done done r.id RestoreFromKind) then Some point else None
-awaited_of _ r tablet done = None
+awaited_of Fencing r tablet done = None
+awaited_of (Snapshotting point own) r tablet done = None
+awaited_of (Switching point serving) r tablet done = None
+awaited_of (Releasing point serving) r tablet done = None
+awaited_of (Restored point serving) r tablet done = None
 
 abbrev pub awaited_in : List RestorationRecord → Id → List Mark → Option ℕ
 awaited_in [] tablet done = None

@@ -1,6 +1,6 @@
--- Numbers that are drawn once, over the whole history, whatever is restored: identifiers, the ids of a table's columns, and the
--- versions of its schema.
-use Rattle.std.specs.Prelude.{◌≡◌, ℕ, ◌≤◌, ◌<◌, List, [], ◌∷◌, ◌++◌, Option, Some, None, ◌+◌, ◌*◌, ◌==◌, ◌||◌, ◌&&◌, nat_lt, max, fold, map, length, if◌then◌else◌, unwrap_or, ◌-◌}
+-- Numbers that are drawn once, over the whole history, whatever is restored: identifiers, the ids of a table's
+-- columns, and the versions of its schema.
+use Rattle.std.specs.Prelude.{◌≡◌, ℕ, ◌≤◌, ◌<◌, Bool, List, [], ◌∷◌, ◌++◌, Option, Some, None, ◌+◌, ◌*◌, ◌==◌, ◌||◌, ◌&&◌, nat_lt, max, fold, map, length, if◌then◌else◌, unwrap_or, ◌-◌}
 use Rattle.std.specs.List.{filter, list_any}
 use Rattle.std.specs.Option.{option_map_or}
 use Rattle.row_values.specs.Ids.{Id, Kind, Namespace, Table, Tablet, Schedule, Snapshot, Restoration, Clone, id_bound, same}
@@ -82,7 +82,8 @@ entered_by (Clones lines) = []
 entered_by (Tablets lines) = []
 entered_by (Refused why) = []
 
--- a clone draws one for the namespace that it makes, and one for each table and each tablet that its source had at the time
+-- a clone draws one for the namespace that it makes, and one for each table and each tablet that its source had at the
+-- time
 abbrev pub drawn_for_clone : ℕ → Master → Id → Drawn
 drawn_for_clone to m source = record none_drawn {
   namespaces = 1;
@@ -171,24 +172,35 @@ given_of Restoration given = given.restorations
 given_of Clone given = given.clones
 
 abbrev pub none_given : Given
-none_given = record { namespaces = []; tables = []; tablets = []; schedules = []; snapshots = []; restorations = []; clones = [] }
+none_given = record {
+  namespaces = [];
+  tables = [];
+  tablets = [];
+  schedules = [];
+  snapshots = [];
+  restorations = [];
+  clones = [];
+}
 
 -- the tablets of tables, those of each in order of range
 abbrev pub tablets_of : List Interval → List Id → List Id
 tablets_of activity [] = []
 tablets_of activity (table ∷ tables) =
-    map {A = Interval} (λ i. i.tablet) (by_range (filter (λ i. same i.table table) activity)) ++ tablets_of activity tables
+    map {A = Interval} (λ i. i.tablet) (by_range (filter (λ i. same i.table table) activity))
+    ++ tablets_of activity tables
 
--- what clones gave: their namespaces; their tables, in order of the source's table; their tablets, in order of table, then of range
+-- a clone's tablets stand in order of table, then of range
+abbrev pub is_pair_before : TabletPair → TabletPair → Bool
+is_pair_before p q = nat_lt p.table.number q.table.number || (p.table.number == q.table.number) && nat_lt p.low q.low
+
+-- what clones gave: their namespaces; their tables, in order of the source's table; their tablets
 abbrev pub given_to_clones : List CloneRecord → Given
 given_to_clones [] = none_given
 given_to_clones (c ∷ cs) = let others = given_to_clones cs in record none_given {
   namespaces = c.target_id ∷ others.namespaces;
-  tables = map {A = IdPair} (λ p. p.target) (in_order (λ p q. nat_lt p.source.number q.source.number) c.tables) ++ others.tables;
-  tablets = map {A = TabletPair}
-      (λ p. p.target)
-      (in_order (λ p q. nat_lt p.table.number q.table.number || (p.table.number == q.table.number) && nat_lt p.low q.low) c.tablets)
-      ++ others.tablets;
+  tables = map {A = IdPair} (λ p. p.target) (in_order (λ p q. nat_lt p.source.number q.source.number) c.tables)
+      ++ others.tables;
+  tablets = map {A = TabletPair} (λ p. p.target) (in_order is_pair_before c.tablets) ++ others.tablets;
   clones = c.id ∷ others.clones;
 }
 
@@ -200,7 +212,8 @@ clones_made made cs = filter (λ c. list_any (same c.id) made) cs
 abbrev pub given_for : Command → List Id → Master → Given
 given_for (CreateNamespace name) made m = record none_given { namespaces = made }
 given_for (DropNamespace name) made m = none_given
-given_for (CreateTable namespace table tablets columns) made m = record none_given { tables = made; tablets = tablets_of m.activity made }
+given_for (CreateTable namespace table tablets columns) made m =
+    record none_given { tables = made; tablets = tablets_of m.activity made }
 given_for (AddColumn namespace table name kind) made m = none_given
 given_for (DropColumn namespace table name) made m = none_given
 given_for (RenameTable namespace table name) made m = none_given
@@ -277,16 +290,19 @@ AreNext kind drawn (id ∷ ids) = (id ≡ numbered_as kind (drawn + 1)) × AreNe
 
 -- an entry draws so many identifiers of each kind, and gives just these
 pub record DrawsNext (act : Act) (reply : Reply) (n : ℕ) (before after : Master) : Type 0 where
-  pub count : (kind : Kind) → drawn_of kind after.drawn ≡ drawn_of kind before.drawn + drawn_of kind (drawn_by act reply n before)
-  pub given : (kind : Kind) → length (given_of kind (given_by act reply after)) ≡ drawn_of kind (drawn_by act reply n before)
+  pub count : (kind : Kind)
+      → drawn_of kind after.drawn ≡ drawn_of kind before.drawn + drawn_of kind (drawn_by act reply n before)
+  pub given : (kind : Kind)
+      → length (given_of kind (given_by act reply after)) ≡ drawn_of kind (drawn_by act reply n before)
   pub next : (kind : Kind) → AreNext kind (drawn_of kind before.drawn) (given_of kind (given_by act reply after))
 
--- each entry of a history draws on from what the entries before it drew: so the numbers of a kind are those of 1, 2, 3 and so on, in the
--- order in which their entries were accepted, and no number comes twice
+-- each entry of a history draws on from what the entries before it drew: so the numbers of a kind are those of 1, 2, 3
+-- and so on, in the order in which their entries were accepted, and no number comes twice
 abbrev pub DrawsInTurn : ℕ → List Entry → Type 0
 DrawsInTurn slots [] = Unit {0}
 DrawsInTurn slots (e ∷ earlier) =
-    DrawsInTurn slots earlier × DrawsNext e.event.act e.reply e.stamp (replay slots earlier).master (replay slots (e ∷ earlier)).master
+    DrawsInTurn slots earlier
+    × DrawsNext e.event.act e.reply e.stamp (replay slots earlier).master (replay slots (e ∷ earlier)).master
 
 -- the most slots that a cluster has, and so the most identifiers of a kind that one entry draws
 abbrev pub most_slots : ℕ
@@ -294,7 +310,8 @@ most_slots = 1024
 
 -- what was drawn by a history is little: so many at most for each entry of the master's log
 abbrev pub DrawnWithin : ℕ → List Entry → Type 0
-DrawnWithin slots history = (kind : Kind) → drawn_of kind (replay slots history).master.drawn ≤ most_slots * held 0 history
+DrawnWithin slots history =
+    (kind : Kind) → drawn_of kind (replay slots history).master.drawn ≤ most_slots * held 0 history
 
 -- and so numbers stay below their bound
 abbrev pub DrawnBelow : Master → Type 0
@@ -311,7 +328,8 @@ pub record IsAsTaken (taken : List SnapshotRecord) (r : SnapshotRecord) : Type 0
   pub at_is : snapshot.at ≡ r.at
 
 abbrev pub SnapshotsAsTaken : ℕ → List Entry → Type 0
-SnapshotsAsTaken slots history = (r : SnapshotRecord) → In r (replay slots history).master.snapshots → IsAsTaken (snapshots_taken slots history) r
+SnapshotsAsTaken slots history =
+    (r : SnapshotRecord) → In r (replay slots history).master.snapshots → IsAsTaken (snapshots_taken slots history) r
 
 -- Columns and versions of schemas
 
@@ -324,9 +342,11 @@ of_source None before own = own
 of_source (Some source) before own = before source
 
 abbrev pub given_after : ChangeAct → Id → (Id → ℕ) → ℕ
-given_after (TableMade table namespace name columns) id before = if same table id then greatest_id columns else before id
+given_after (TableMade table namespace name columns) id before =
+    if same table id then greatest_id columns else before id
 given_after (ColumnAdded table column) id before = if same table id then max (before id) column.id else before id
-given_after (NamespaceCloned source target name to tables) id before = of_source (source_of tables id) before (before id)
+given_after (NamespaceCloned source target name to tables) id before =
+    of_source (source_of tables id) before (before id)
 given_after (NamespaceMade namespace name) id before = before id
 given_after (NamespaceDropped namespace) id before = before id
 given_after (TableRenamed table name) id before = before id
@@ -335,7 +355,8 @@ given_after (ColumnDropped table column) id before = before id
 given_after (RowChanged table key op) id before = before id
 given_after (NamespaceRestored namespace to) id before = before id
 
--- the greatest id that was ever given to a column of the table; a table of a clone goes on from its source's at that moment
+-- the greatest id that was ever given to a column of the table; a table of a clone goes on from its source's at that
+-- moment
 abbrev pub given_to : List made.Change → Id → ℕ
 given_to [] id = 0
 given_to (c ∷ earlier) id = given_after c.act id (given_to earlier)
@@ -349,15 +370,18 @@ abbrev pub version_after : ChangeAct → Id → ℕ → (ℕ → Id → Option T
 version_after (TableMade table namespace name columns) id before then_ = if same table id then 1 else before
 version_after (ColumnAdded table column) id before then_ = if same table id then before + 1 else before
 version_after (ColumnDropped table column) id before then_ = if same table id then before + 1 else before
-version_after (NamespaceRestored namespace to) id before then_ = if is_in namespace (then_ to id) then before + 1 else before
-version_after (NamespaceCloned source target name to tables) id before then_ = first_version (source_of tables id) before
+version_after (NamespaceRestored namespace to) id before then_ =
+    if is_in namespace (then_ to id) then before + 1 else before
+version_after (NamespaceCloned source target name to tables) id before then_ =
+    first_version (source_of tables id) before
 version_after (NamespaceMade namespace name) id before then_ = before
 version_after (NamespaceDropped namespace) id before then_ = before
 version_after (TableRenamed table name) id before then_ = before
 version_after (TableDropped table) id before then_ = before
 version_after (RowChanged table key op) id before then_ = before
 
--- the version of a table's schema: 1, the columns that were added and dropped, and the restores that made the table current
+-- the version of a table's schema: 1, the columns that were added and dropped, and the restores that made the table
+-- current
 abbrev pub version_by : List made.Change → Id → ℕ
 version_by [] id = 0
 version_by (c ∷ earlier) id = version_after c.act id (version_by earlier id) (table_at earlier)
@@ -367,7 +391,8 @@ abbrev pub NumberedFrom : ℕ → List Column → Type 0
 NumberedFrom id [] = Unit {0}
 NumberedFrom id (c ∷ cs) = (c.id ≡ id) × NumberedFrom (id + 1) cs
 
--- the columns of a new table are numbered from 1, and a column that is added gets one more than the greatest id that its table gave
+-- the columns of a new table are numbered from 1, and a column that is added gets one more than the greatest id that
+-- its table gave
 abbrev pub TakesNextColumn : ChangeAct → (Id → ℕ) → Type 0
 TakesNextColumn (TableMade table namespace name columns) given = NumberedFrom 1 columns
 TakesNextColumn (ColumnAdded table column) given = column.id ≡ given table + 1
@@ -384,9 +409,10 @@ abbrev pub ColumnsNew : List made.Change → Type 0
 ColumnsNew [] = Unit {0}
 ColumnsNew (c ∷ earlier) = ColumnsNew earlier × TakesNextColumn c.act (given_to earlier)
 
--- the newest schema that the master keeps of a table, also of one that was dropped, has the version of the table, and its next column an
--- id that no column of it ever had
+-- the newest schema that the master keeps of a table, also of one that was dropped, has the version of the table, and
+-- its next column an id that no column of it ever had
 pub record SchemasDrawn (m : Master) (changes : List made.Change) : Type 0 where
   pub columns : ColumnsNew changes
   pub next : (table : Id) (s : Schema) → latest m.catalog.tables table ≡ Some s → s.next ≡ given_to changes table + 1
-  pub version : (table : Id) (s : Schema) → latest m.catalog.tables table ≡ Some s → s.version ≡ version_by changes table
+  pub version : (table : Id) (s : Schema) → latest m.catalog.tables table ≡ Some s
+      → s.version ≡ version_by changes table

@@ -1,5 +1,6 @@
--- When each record entered its states, read off a history: a snapshot, a restoration and a clone enters each of its states once, in
--- order, and a tablet that was given a command has a clock above the stamp at which the record entered the state that gives it.
+-- When each record entered its states, read off a history: a snapshot, a restoration and a clone enters each of its
+-- states once, in order, and a tablet that was given a command has a clock above the stamp at which the record entered
+-- the state that gives it.
 use Rattle.std.specs.Prelude.{◌≡◌, ℕ, ◌<◌, Bool, true, false, List, [], ◌∷◌, ◌++◌, ◌⊎◌, map}
 use Rattle.std.specs.List.{filter}
 use Rattle.row_values.specs.Ids.{Id, same}
@@ -25,10 +26,12 @@ all_enter state n ids = map (λ id. record { operation = id; state = state; at =
 -- new records enter their first states
 abbrev pub begun_with : Given → ℕ → List Entering
 begun_with given n =
-    all_enter IsCreating n given.snapshots ++ all_enter IsFencing n given.restorations ++ all_enter IsAccepted n given.clones
+    all_enter IsCreating n given.snapshots ++ all_enter IsFencing n given.restorations
+    ++ all_enter IsAccepted n given.clones
 
 abbrev pub moved_by : Act → Reply → ℕ → List Entering
-moved_by (Advance operation) reply n = map {A = State} (λ state. record { operation = operation; state = state; at = n }) (entered_by reply)
+moved_by (Advance operation) reply n =
+    map {A = State} (λ state. record { operation = operation; state = state; at = n }) (entered_by reply)
 moved_by (Look ask) reply n = []
 moved_by (Change command slots) reply n = []
 moved_by (Write place version batch) reply n = []
@@ -98,7 +101,8 @@ pub record IsGivenBelow (es : List Entering) (operation : Id) (kind : BodyKind) 
   pub was_entered : In (record { operation = operation; state = state_giving kind; at = at }) es
   pub below : at < clock
 
--- a tablet whose inbox holds a command, or that has done it, has a clock above the stamp at which the record entered the state that gives it
+-- a tablet whose inbox holds a command, or that has done it, has a clock above the stamp at which the record entered
+-- the state that gives it
 abbrev pub GivenAfter : Parts → List Entering → Type 0
 GivenAfter ps es = (slot : ℕ) (operation : Id) (kind : BodyKind) → was_given (ps.tablet slot) operation kind ≡ true
     → IsGivenBelow es operation kind (ps.tablet slot).clock

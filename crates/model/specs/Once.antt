@@ -1,5 +1,6 @@
--- What comes once over a whole history, however often a coordinator repeats its steps and whatever a restart loses: the restore of an
--- accepted command to restore, the clone of an accepted command to clone, and each command of a tablet.
+-- What comes once over a whole history, however often a coordinator repeats its steps and whatever a restart loses:
+-- the restore of an accepted command to restore, the clone of an accepted command to clone, and each command of a
+-- tablet.
 use Rattle.std.specs.Prelude.{◌≡◌, ℕ, ◌+◌, ◌-◌, Bool, false, List, [], ◌∷◌, ◌++◌, Option, Some, None, map, unwrap_or, if◌then◌else◌}
 use Rattle.std.specs.List.{list_any}
 use Rattle.std.specs.Option.{option_map}
@@ -35,16 +36,16 @@ command_of Prune = None
 command_of (Restart slot) = None
 command_of (Stats slot) = None
 
--- a command to restore that was accepted: the restoration that it made, its schedule and that schedule's namespace, and the time that
--- it named
+-- a command to restore that was accepted: the restoration that it made, its schedule and that schedule's namespace,
+-- and the time that it named
 pub record RestoreAsked : Type 0 where
   pub operation : Id
   pub schedule : Id
   pub namespace : Option Id
   pub to : ℕ
 
--- a command to clone that was accepted: the clone that it made, the source of the name that it gave, the target's name, the time to which
--- it goes, and the changes that the history had made before it
+-- a command to clone that was accepted: the clone that it made, the source of the name that it gave, the target's
+-- name, the time to which it goes, and the changes that the history had made before it
 pub record CloneAsked : Type 0 where
   pub operation : Id
   pub source : Option Id
@@ -121,7 +122,8 @@ restores_asked slots (e ∷ earlier) =
 unfoldable pub clones_asked : ℕ → List Entry → List CloneAsked
 clones_asked slots [] = []
 clones_asked slots (e ∷ earlier) =
-    clones_in (command_of e.event.act) (made_by e.reply) e.stamp (replay slots earlier).master (journal_of slots earlier)
+    clones_in
+    (command_of e.event.act) (made_by e.reply) e.stamp (replay slots earlier).master (journal_of slots earlier)
     ++ clones_asked slots earlier
 
 -- The changes of an operation
@@ -169,10 +171,11 @@ restored_by (Restored point serving) ns to = one_restore point ns to
 -- a point is one more than the stamp at which the restoration made its own snapshot
 abbrev pub IsAfterOwn : List Entering → Id → Option ℕ → Type 0
 IsAfterOwn es operation None = Unit {0}
-IsAfterOwn es operation (Some point) = (at : ℕ) × (In (record { operation = operation; state = IsSnapshot; at = at }) es × (point ≡ at + 1))
+IsAfterOwn es operation (Some point) =
+    (at : ℕ) × (In (record { operation = operation; state = IsSnapshot; at = at }) es × (point ≡ at + 1))
 
--- an accepted command to restore has a record of its schedule, namespace and time. Its moves restored the namespace at most once, and
--- exactly once where the record has switched: to that very time, at the record's point
+-- an accepted command to restore has a record of its schedule, namespace and time. Its moves restored the namespace at
+-- most once, and exactly once where the record has switched: to that very time, at the record's point
 pub record RestoresOnce (slots : ℕ) (history : List Entry) (asked : RestoreAsked) : Type 0 where
   pub restoration : RestorationRecord
   pub kept : In restoration (replay slots history).master.restorations
@@ -201,7 +204,8 @@ pub record IsOneClone (c : CloneRecord) (es : List Entering) (changes : List mad
   pub current : In (record { operation = c.id; state = IsReleasing; at = at }) es
   pub alone : changes ≡ record { stamp = at; act = NamespaceCloned c.source c.target_id c.target c.to c.tables } ∷ []
 
--- what a clone in a state has cloned: nothing before its target is current, and then the source once, at the stamp at which it became so
+-- what a clone in a state has cloned: nothing before its target is current, and then the source once, at the stamp at
+-- which it became so
 abbrev pub ClonedBy : CloneState → CloneRecord → List Entering → List made.Change → Type 0
 ClonedBy Accepted c es changes = changes ≡ []
 ClonedBy (CloneSnapshot own) c es changes = changes ≡ []
@@ -209,8 +213,9 @@ ClonedBy (Copying serving copied_at) c es changes = changes ≡ []
 ClonedBy (CloneReleasing serving copied_at) c es changes = IsOneClone c es changes
 ClonedBy (CloneComplete serving copied_at) c es changes = IsOneClone c es changes
 
--- an accepted command to clone has a record of its source, target's name and time, and of the tables that the source had then. Its moves
--- cloned the source at most once, and exactly once where the target is current: under that name, to that very time, these tables
+-- an accepted command to clone has a record of its source, target's name and time, and of the tables that the source
+-- had then. Its moves cloned the source at most once, and exactly once where the target is current: under that name,
+-- to that very time, these tables
 pub record ClonesOnce (slots : ℕ) (history : List Entry) (asked : CloneAsked) : Type 0 where
   pub clone : CloneRecord
   pub kept : In clone (replay slots history).master.clones
@@ -292,9 +297,11 @@ NoneAgain (o ∷ os) = NoneAgain os × (In o os → ⊥)
 
 pub record Once (slots : ℕ) (history : List Entry) : Type 0 where
   pub restores : (asked : RestoreAsked) → In asked (restores_asked slots history) → RestoresOnce slots history asked
-  pub restores_of : (c : made.Change) (ns : Id) (to : ℕ) → In c (journal_of slots history) → c.act ≡ NamespaceRestored ns to
+  pub restores_of : (c : made.Change) (ns : Id) (to : ℕ) → In c (journal_of slots history)
+      → c.act ≡ NamespaceRestored ns to
       → IsRestoreAsked slots history c
   pub clones : (asked : CloneAsked) → In asked (clones_asked slots history) → ClonesOnce slots history asked
-  pub clones_of : (c : made.Change) (source target : Id) (name : List ℕ) (to : ℕ) (tables : List IdPair) → In c (journal_of slots history)
+  pub clones_of : (c : made.Change) (source target : Id) (name : List ℕ) (to : ℕ) (tables : List IdPair)
+      → In c (journal_of slots history)
       → c.act ≡ NamespaceCloned source target name to tables → IsCloneAsked slots history c
   pub commands : NoneAgain (obeyed slots history)

@@ -1,7 +1,7 @@
 -- What comes once, of a restore and of the one that undoes it: each restored its namespace once, to the time that was asked; no tablet did
 -- a command twice; each record entered its states once; the numbers were drawn in turn.
-use Rattle.std.proofs.Common.{◌≡◌, ℕ, true, false, [], ◌∷◌, Some, inl, inr, refl, sym, ap, subst, List, map, ◌-◌, Option, None, ◌+◌}
-use Rattle.row_values.specs.Ids.{same}
+use Rattle.std.proofs.Common.{◌≡◌, ℕ, true, false, [], ◌∷◌, Some, inl, inr, refl, sym, ap, subst, List, map, ◌-◌, Option, None, ◌+◌, ◌⊎◌, arith}
+use Rattle.row_values.specs.Ids.{Id, same}
 use Rattle.row_values.specs.Elements.{In}
 use Rattle.model.specs.Drawn.{DrawsInTurn, given_to, SchemasDrawn, version_by}
 use Rattle.model.specs.Entering.{Entering, entered, states_of, EntersOnce, states_to, states_of_snapshot}

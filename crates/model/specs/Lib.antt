@@ -25,6 +25,8 @@ pub mod History
 pub mod Drawn
 pub mod Replies
 pub mod Stands
+pub mod Entering
+pub mod Once
 pub mod Retained
 pub mod Left
 pub mod Settling

@@ -1,5 +1,5 @@
--- What holds of the parts of a cluster against its journal after each entry: tablets stand for the journal, ranges cover the
--- codes, and a record's state says what its tablets have done.
+-- What holds of the parts of a cluster against its journal after each entry: tablets stand for the journal, ranges
+-- cover the codes, and a record's state says what its tablets have done.
 use Rattle.std.specs.Prelude.{◌≡◌, ◌≢◌, ℕ, ◌≤◌, ◌<◌, Bool, true, false, List, [], ◌∷◌, Option, Some, None, ◌==◌, ◌&&◌, ◌||◌, ◌⊎◌, ◌+◌, not, nat_lt, if◌then◌else◌}
 use Rattle.std.specs.List.{list_any, filter}
 use Rattle.std.specs.Option.{is_some}
@@ -13,7 +13,7 @@ use Rattle.model.specs.Catalog.{owns}
 use Rattle.model.specs.Activity.{Interval, active_at, last_of}
 use Rattle.row_values.specs.declared.value.RowOp.{RowOp}
 use Rattle.model.specs.Journal.{Change, NamespaceMade, NamespaceDropped, TableMade, TableRenamed, TableDropped, ColumnAdded, ColumnDropped, RowChanged, NamespaceRestored, NamespaceCloned, source_of, table_at, row_at}
-use Rattle.model.specs.Tablets.{Tablet, Body, RestoreFrom, Release, BodyKind, FenceKind, FreezeKind, RestoreFromKind, HideKind, CopyKind, ReleaseKind, kind_of, Command, Mark, FrozenSet, is_empty, is_serving, is_done, holds_command, set_of}
+use Rattle.model.specs.Tablets.{Tablet, Body, Fence, Freeze, RestoreFrom, Hide, Copy, Release, BodyKind, FenceKind, FreezeKind, RestoreFromKind, HideKind, CopyKind, ReleaseKind, kind_of, Command, Mark, FrozenSet, is_empty, is_serving, is_done, holds_command, set_of}
 use Rattle.model.specs.Records.{Listed, SnapshotRecord, RestorationRecord, RestorationState, Fencing, Snapshotting, Switching, Restoring, Releasing, Restored, CloneRecord, CloneState, Accepted, CloneSnapshot, Copying, CloneReleasing, CloneComplete, is_restored, is_cloned, point_of, TabletPair}
 use Rattle.model.specs.Parts.{Parts}
 
@@ -21,7 +21,11 @@ use Rattle.model.specs.Parts.{Parts}
 
 abbrev pub is_restore : Body → Bool
 is_restore (RestoreFrom snapshot to point version) = true
-is_restore _ = false
+is_restore Fence = false
+is_restore (Freeze snapshot at) = false
+is_restore (Hide ended) = false
+is_restore (Copy source snapshot to stamp table low high version) = false
+is_restore (Release cutoff) = false
 
 abbrev pub first_of_two : Option ℕ → Option ℕ → Option ℕ
 first_of_two None later = later
@@ -30,8 +34,13 @@ first_of_two (Some x) later = Some x
 -- the point of a restoration that still has rows to give to a tablet: it lists it for them, and they aren't taken yet
 abbrev pub awaited_of : RestorationState → RestorationRecord → Id → List Mark → Option ℕ
 awaited_of (Restoring point serving) r tablet done =
-    if list_any (λ l. same l.tablet tablet && is_restore l.body) r.listed && not (is_done done r.id RestoreFromKind) then Some point else None
-awaited_of _ r tablet done = None
+    if list_any (λ l. same l.tablet tablet && is_restore l.body) r.listed
+    && not (is_done done r.id RestoreFromKind) then Some point else None
+awaited_of Fencing r tablet done = None
+awaited_of (Snapshotting point own) r tablet done = None
+awaited_of (Switching point serving) r tablet done = None
+awaited_of (Releasing point serving) r tablet done = None
+awaited_of (Restored point serving) r tablet done = None
 
 abbrev pub awaited_in : List RestorationRecord → Id → List Mark → Option ℕ
 awaited_in [] tablet done = None
@@ -63,7 +72,8 @@ pub record LiveStands (ps : Parts) (changes : List Change) (slot : ℕ) : Type 0
 
 -- the reads of a frozen set, from its cutoff to its time, wherever the tablet was active, are those of the view
 pub record FrozenStands (ps : Parts) (changes : List Change) (slot : ℕ) (f : FrozenSet) : Type 0 where
-  pub reads : (i : Interval) (key : List ℕ) (x : ℕ) → In i ps.master.activity → i.tablet ≡ (ps.tablet slot).tablet → active_at x i ≡ true
+  pub reads : (i : Interval) (key : List ℕ) (x : ℕ) → In i ps.master.activity → i.tablet ≡ (ps.tablet slot).tablet
+      → active_at x i ≡ true
       → in_range (ps.tablet slot).low (ps.tablet slot).high (code_of key) ≡ true → f.cutoff ≤ x → x ≤ f.at
       → is_some (table_at changes x (ps.tablet slot).table) ≡ true
       → read_of f.versions key x ≡ row_at changes x (ps.tablet slot).table key
@@ -71,19 +81,23 @@ pub record FrozenStands (ps : Parts) (changes : List Change) (slot : ℕ) (f : F
 -- a serving or hidden tablet stands for the journal
 pub record Stands (ps : Parts) (changes : List Change) : Type 0 where
   pub live : (slot : ℕ) → is_empty (ps.tablet slot).presence ≡ false → LiveStands ps changes slot
-  pub frozen : (slot : ℕ) (f : FrozenSet) → is_empty (ps.tablet slot).presence ≡ false → In f (ps.tablet slot).frozen → FrozenStands ps changes slot f
+  pub frozen : (slot : ℕ) (f : FrozenSet) → is_empty (ps.tablet slot).presence ≡ false → In f (ps.tablet slot).frozen
+      → FrozenStands ps changes slot f
 
 -- Ranges cover the codes
 
 -- how many tablets of the table were active at x with the code in their range
 abbrev pub holders : List Interval → Id → ℕ → ℕ → ℕ
 holders [] table code x = 0
-holders (i ∷ is) table code x = (if same i.table table && (active_at x i && in_range i.low i.high code) then 1 else 0) + holders is table code x
+holders (i ∷ is) table code x =
+    (if same i.table table && (active_at x i && in_range i.low i.high code) then 1 else 0) + holders is table code x
 
--- the ranges of a table's active tablets divide the codes, without gap or overlap, at each time at which the view has the table.
--- `activity` has the intervals of all tablets that ever were
+-- the ranges of a table's active tablets divide the codes, without gap or overlap, at each time at which the view has
+-- the table. `activity` has the intervals of all tablets that ever were
 abbrev pub Cover : List Interval → List Change → Type 0
-Cover activity changes = (table : Id) (code x : ℕ) → code < 65536 → is_some (table_at changes x table) ≡ true → holders activity table code x ≡ 1
+Cover activity changes =
+    (table : Id) (code x : ℕ) → code < 65536 → is_some (table_at changes x table) ≡ true
+    → holders activity table code x ≡ 1
 
 -- What a record's state says
 
@@ -91,7 +105,8 @@ Cover activity changes = (table : Id) (code x : ℕ) → code < 65536 → is_som
 abbrev pub AreRowsAt : List Version → ℕ → ℕ → ℕ → List Change → ℕ → Id → Type 0
 AreRowsAt versions low high stamp changes to table = AreRows versions low high stamp (row_at changes to table)
 
--- the tablet holds the frozen set of the snapshot, of versions at or before its time. What can be read of it `FrozenStands` says
+-- the tablet holds the frozen set of the snapshot, of versions at or before its time. What can be read of it
+-- `FrozenStands` says
 pub record HoldsFrozen (snapshot : Id) (at : ℕ) (t : Tablet) : Type 0 where
   pub set : FrozenSet
   pub held : set_of t.frozen snapshot ≡ Some set
@@ -105,7 +120,8 @@ pub record SnapshotFacts (r : SnapshotRecord) (ps : Parts) : Type 0 where
 
 -- every active tablet of the namespace is fenced by the operation
 abbrev pub AllFenced : Id → Id → Parts → Type 0
-AllFenced operation ns ps = (i : Interval) → In i ps.master.activity → is_open i.to ≡ true → owns ps.master.catalog.owners ns i.table ≡ true
+AllFenced operation ns ps =
+    (i : Interval) → In i ps.master.activity → is_open i.to ≡ true → owns ps.master.catalog.owners ns i.table ≡ true
     → (ps.tablet i.slot).fence ≡ Some operation
 
 -- no tablet has a fence of the operation
@@ -129,12 +145,14 @@ is_restore_of ns point c = elim c.act [
 -- the changes before the restore of the namespace at the point; all where there is none
 abbrev pub before_restore : List Change → Id → ℕ → List Change → List Change
 before_restore [] ns point all = all
-before_restore (c ∷ earlier) ns point all = if is_restore_of ns point c then earlier else before_restore earlier ns point all
+before_restore (c ∷ earlier) ns point all =
+    if is_restore_of ns point c then earlier else before_restore earlier ns point all
 
--- the restoration's own snapshot, whose time is one before the point, comes after each change of a row of the namespace that was
--- made before the restore
+-- the restoration's own snapshot, whose time is one before the point, comes after each change of a row of the
+-- namespace that was made before the restore
 abbrev pub AfterRows : Id → ℕ → Parts → List Change → Type 0
-AfterRows ns point ps changes = (c : Change) (table : Id) (key : List ℕ) (op : RowOp) → In c (before_restore changes ns point changes)
+AfterRows ns point ps changes =
+    (c : Change) (table : Id) (key : List ℕ) (op : RowOp) → In c (before_restore changes ns point changes)
     → c.act ≡ RowChanged table key op → owns ps.master.catalog.owners ns table ≡ true → c.stamp + 1 < point
 
 abbrev pub RestorationStateFacts : RestorationState → RestorationRecord → Parts → List Change → Type 0
@@ -142,13 +160,16 @@ RestorationStateFacts Fencing r ps changes = (l : Listed) → In l r.listed → 
     → ((ps.tablet l.slot).fence ≡ Some r.id) × (r.to < (ps.tablet l.slot).clock)
 RestorationStateFacts (Snapshotting point own) r ps changes = AllFenced r.id r.namespace ps
 RestorationStateFacts (Switching point serving) r ps changes = AllFenced r.id r.namespace ps
-RestorationStateFacts (Restoring point serving) r ps changes = (l : Listed) → In l r.listed → (ps.tablet l.slot).tablet ≡ l.tablet → record {
-  fenced : is_serving (ps.tablet l.slot).presence ≡ true → (ps.tablet l.slot).fence ≡ Some r.id;
-  restored : is_restore l.body ≡ true → is_done (ps.tablet l.slot).done r.id RestoreFromKind ≡ true
-      → ((ps.tablet l.slot).cutoff ≡ point)
-      × AreRowsAt (ps.tablet l.slot).versions (ps.tablet l.slot).low (ps.tablet l.slot).high point (before_restore changes r.namespace point changes) r.to (ps.tablet l.slot).table;
-}
-RestorationStateFacts (Releasing point serving) r ps changes = (l : Listed) → In l r.listed → l.acked ≡ true → (ps.tablet l.slot).fence ≢ Some r.id
+RestorationStateFacts (Restoring point serving) r ps changes =
+    (l : Listed) → In l r.listed → (ps.tablet l.slot).tablet ≡ l.tablet → record {
+      fenced : is_serving (ps.tablet l.slot).presence ≡ true → (ps.tablet l.slot).fence ≡ Some r.id;
+      restored : is_restore l.body ≡ true → is_done (ps.tablet l.slot).done r.id RestoreFromKind ≡ true
+          → ((ps.tablet l.slot).cutoff ≡ point)
+          × AreRowsAt (ps.tablet l.slot).versions (ps.tablet l.slot).low (ps.tablet l.slot).high point
+          (before_restore changes r.namespace point changes) r.to (ps.tablet l.slot).table;
+    }
+RestorationStateFacts (Releasing point serving) r ps changes =
+    (l : Listed) → In l r.listed → l.acked ≡ true → (ps.tablet l.slot).fence ≢ Some r.id
 RestorationStateFacts (Restored point serving) r ps changes = NoneFenced r.id ps
 
 abbrev pub CloneStateFacts : CloneState → CloneRecord → Parts → List Change → Type 0
@@ -156,15 +177,22 @@ CloneStateFacts Accepted c ps changes = Unit {0}
 CloneStateFacts (CloneSnapshot own) c ps changes = Unit {0}
 CloneStateFacts (Copying serving copied_at) c ps changes = (l : Listed) (p : TabletPair) (source : Id)
     → In l c.listed → In p c.tablets → p.target ≡ l.tablet → source_of c.tables p.table ≡ Some source → l.acked ≡ true
-    → ((ps.tablet l.slot).fence ≡ Some c.id) × AreRowsAt (ps.tablet l.slot).versions p.low p.high copied_at changes c.to source
-CloneStateFacts (CloneReleasing serving copied_at) c ps changes = (l : Listed) → In l c.listed → l.acked ≡ true → (ps.tablet l.slot).fence ≢ Some c.id
+    → ((ps.tablet l.slot).fence ≡ Some c.id)
+    × AreRowsAt (ps.tablet l.slot).versions p.low p.high copied_at changes c.to source
+CloneStateFacts (CloneReleasing serving copied_at) c ps changes =
+    (l : Listed) → In l c.listed → l.acked ≡ true → (ps.tablet l.slot).fence ≢ Some c.id
 CloneStateFacts (CloneComplete serving copied_at) c ps changes = NoneFenced c.id ps
 
 -- a fence names an unfinished operation that holds the tablet's namespace, or made the tablet
 pub record FenceFacts (ps : Parts) (slot : ℕ) (operation : Id) : Type 0 where
   pub by :
-      ((r : RestorationRecord) × (In r ps.master.restorations × ((r.id ≡ operation) × (is_restored r.state ≡ false) × (owns ps.master.catalog.owners r.namespace (ps.tablet slot).table ≡ true))))
-      ⊎ ((c : CloneRecord) × (In c ps.master.clones × ((c.id ≡ operation) × (is_cloned c.state ≡ false) × (owns ps.master.catalog.owners c.target_id (ps.tablet slot).table ≡ true))))
+      ((r : RestorationRecord)
+      × (In r ps.master.restorations
+      × ((r.id ≡ operation) × (is_restored r.state ≡ false)
+      × (owns ps.master.catalog.owners r.namespace (ps.tablet slot).table ≡ true))))
+      ⊎ ((c : CloneRecord) × (In c ps.master.clones
+      × ((c.id ≡ operation) × (is_cloned c.state ≡ false)
+      × (owns ps.master.catalog.owners c.target_id (ps.tablet slot).table ≡ true))))
 
 abbrev pub NoneTwice : List Command → Type 0
 NoneTwice [] = Unit {0}
@@ -197,18 +225,26 @@ pub record RecordFacts (ps : Parts) (changes : List Change) : Type 0 where
   pub restorations : (r : RestorationRecord) → In r ps.master.restorations → RestorationStateFacts r.state r ps changes
   pub clones : (c : CloneRecord) → In c ps.master.clones → CloneStateFacts c.state c ps changes
   -- a restoration's point comes after the rows that it undoes
-  pub after_rows : (r : RestorationRecord) (point : ℕ) → In r ps.master.restorations → point_of r.state ≡ Some point → AfterRows r.namespace point ps changes
-  -- a tablet that was sent a command, or did it, has a clock above the stamp at which the record entered the state that gives it: so it
-  -- is above a snapshot's time, the time that a restoration goes to, its point from the switch on, the stamp of a clone's copies, and
-  -- the stamp at which its target became current
-  pub after_freeze : (slot : ℕ) (r : SnapshotRecord) → In r ps.master.snapshots → was_given (ps.tablet slot) r.id FreezeKind ≡ true → r.at < (ps.tablet slot).clock
-  pub after_fence : (slot : ℕ) (r : RestorationRecord) → In r ps.master.restorations → was_given (ps.tablet slot) r.id FenceKind ≡ true → r.to < (ps.tablet slot).clock
-  pub after_point : (slot : ℕ) (r : RestorationRecord) (point : ℕ) (kind : BodyKind) → In r ps.master.restorations → point_of r.state ≡ Some point
+  pub after_rows : (r : RestorationRecord) (point : ℕ) → In r ps.master.restorations → point_of r.state ≡ Some point
+      → AfterRows r.namespace point ps changes
+  -- a tablet that was sent a command, or did it, has a clock above the times that the record remembers of it: a
+  -- snapshot's time, the time that a restoration goes to, its point from the switch on, the stamp of a clone's copies,
+  -- and the stamp at which its target became current. `GivenAfter` says it of the stamp at which the record entered
+  -- the state that gives the command
+  pub after_freeze : (slot : ℕ) (r : SnapshotRecord) → In r ps.master.snapshots
+      → was_given (ps.tablet slot) r.id FreezeKind ≡ true → r.at < (ps.tablet slot).clock
+  pub after_fence : (slot : ℕ) (r : RestorationRecord) → In r ps.master.restorations
+      → was_given (ps.tablet slot) r.id FenceKind ≡ true → r.to < (ps.tablet slot).clock
+  pub after_point : (slot : ℕ) (r : RestorationRecord) (point : ℕ) (kind : BodyKind) → In r ps.master.restorations
+      → point_of r.state ≡ Some point
       → is_after_switch kind ≡ true → was_given (ps.tablet slot) r.id kind ≡ true → point < (ps.tablet slot).clock
-  pub after_copy : (slot : ℕ) (c : CloneRecord) (at : ℕ) (kind : BodyKind) → In c ps.master.clones → copied_at c.state ≡ Some at
+  pub after_copy : (slot : ℕ) (c : CloneRecord) (at : ℕ) (kind : BodyKind) → In c ps.master.clones
+      → copied_at c.state ≡ Some at
       → was_given (ps.tablet slot) c.id kind ≡ true → at < (ps.tablet slot).clock
-  pub after_release : (c : CloneRecord) (l : Listed) (cutoff : ℕ) → In c ps.master.clones → In l c.listed → l.body ≡ Release cutoff
+  pub after_release : (c : CloneRecord) (l : Listed) (cutoff : ℕ) → In c ps.master.clones → In l c.listed
+      → l.body ≡ Release cutoff
       → was_given (ps.tablet l.slot) c.id ReleaseKind ≡ true → cutoff < (ps.tablet l.slot).clock
   pub fences : (slot : ℕ) (operation : Id) → (ps.tablet slot).fence ≡ Some operation → FenceFacts ps slot operation
   pub once : (slot : ℕ) → NoneTwice (ps.tablet slot).inbox
-  pub fresh : (slot : ℕ) (c : Command) → In c (ps.tablet slot).inbox → is_done (ps.tablet slot).done c.operation (kind_of c.body) ≡ false
+  pub fresh : (slot : ℕ) (c : Command) → In c (ps.tablet slot).inbox
+      → is_done (ps.tablet slot).done c.operation (kind_of c.body) ≡ false

@@ -1,5 +1,8 @@
 mod Cleanups
 mod Clones
+mod ComesOnce
+mod NotOnce
+mod ClonesComeOnce
 mod Cutoffs
 mod FirstReads
 mod Hour
@@ -18,6 +21,7 @@ mod StandingRestores
 mod Windows
 pub mod CoordinatedRuns
 pub mod Histories
+pub mod Turns
 mod RightWindows
 mod RightClones
 mod Covers

@@ -19,30 +19,30 @@ use Rattle.model_rows.specs.UndoneRestore.{row_of}
 
 -- a row is written, and the clone is accepted; the source's table is split, written and dropped; then the clone is finished
 
-abbrev accepted : Run
+abbrev pub accepted : Run
 accepted = after (put a t (home 1) x (v_is 1) ++ change (CloneNamespace a b (Some (early 4))) ++ planned_change (Split a t 1000) (1 ∷ 3 ∷ 4 ∷ [])) ready
 
-abbrev gone_on : Run
+abbrev pub gone_on : Run
 gone_on = after
     (put a t (record { places = place 3 (B 3) 0 1000 ∷ []; version = 1; columns = int_column 1 v ∷ [] }) x (v_is 9) ++ planned_change (DropTable a t) (3 ∷ 4 ∷ []))
     accepted
 
-abbrev cloned : Run
+abbrev pub cloned : Run
 cloned = coordinated 60 gone_on
 
-abbrev target_place : At
+abbrev pub target_place : At
 target_place = record { slot = 2; tablet = B 2 }
 
-abbrev been_read : Run
+abbrev pub been_read : Run
 been_read = done (reading target_place 1 x (1 ∷ [])) (done (asking b x []) cloned)
 
-abbrev one_row : List Change
+abbrev pub one_row : List Change
 one_row = row_of 3 1 ∷ table_made ∷ namespace_made ∷ []
 
-abbrev dropped : List Change
+abbrev pub dropped : List Change
 dropped = record { stamp = early 10; act = TableDropped (T 1) } ∷ row_of 8 9 ∷ one_row
 
-abbrev all_changes : List Change
+abbrev pub all_changes : List Change
 all_changes =
     record { stamp = early 26; act = NamespaceCloned (N 1) (N 2) b (early 4) (record { source = T 1; target = T 2 } ∷ []) } ∷ dropped
 

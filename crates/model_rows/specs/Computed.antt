@@ -4,12 +4,14 @@ use Rattle.model.specs.Changes.{create_namespace, drop_namespace, create_table, 
 use Rattle.model.specs.Cleanup.{remove, prune}
 use Rattle.model.specs.Coordination.{send, process, ack}
 use Rattle.model.specs.History.{replay, entry_of, journal_of, activity_of, snapshots_taken}
+use Rattle.model.specs.Entering.{entered}
 use Rattle.model.specs.Looks.{plan_of, look_plan, look_keys, look_table, look_present}
 use Rattle.model.specs.Moves.{advance}
+use Rattle.model.specs.Once.{restores_asked, clones_asked, changes_by, obeyed}
 use Rattle.model.specs.RowActs.{write, read, cutoff, compact, restart, stats}
 use Rattle.row_values.specs.Store.{kept_of}
 use Rattle.model.specs.Running.{may_follow, made_by, line_of, run_of}
 
 unfoldable pub the_book : Type 0
-unfolding changed create_namespace drop_namespace create_table add_column drop_column rename_table drop_table split create_schedule delete_schedule take_snapshot restore clone_namespace list_tablets change remove prune send process ack replay entry_of journal_of activity_of snapshots_taken plan_of look_plan look_keys look_table look_present advance write read cutoff compact restart stats kept_of may_follow made_by line_of run_of
+unfolding changed create_namespace drop_namespace create_table add_column drop_column rename_table drop_table split create_schedule delete_schedule take_snapshot restore clone_namespace list_tablets change remove prune send process ack replay entry_of journal_of activity_of snapshots_taken entered restores_asked clones_asked changes_by obeyed plan_of look_plan look_keys look_table look_present advance write read cutoff compact restart stats kept_of may_follow made_by line_of run_of
 the_book = Unit {0}

@@ -1,0 +1,108 @@
+-- When each record entered its states, read off a history: a snapshot, a restoration and a clone enters each of its
+-- states once, in order, and a tablet that was given a command has a clock above the stamp at which the record entered
+-- the state that gives it.
+use Rattle.std.specs.Prelude.{◌≡◌, ℕ, ◌<◌, Bool, true, false, List, [], ◌∷◌, ◌++◌, ◌⊎◌, map}
+use Rattle.std.specs.List.{filter}
+use Rattle.row_values.specs.Ids.{Id, same}
+use Rattle.row_values.specs.Elements.{In}
+use Rattle.model.specs.Tablets.{BodyKind, FenceKind, FreezeKind, RestoreFromKind, HideKind, CopyKind, ReleaseKind}
+use Rattle.model.specs.Records.{SnapshotRecord, RestorationRecord, RestorationState, Fencing, Snapshotting, Switching, Restoring, Releasing, Restored, CloneRecord, CloneState, Accepted, CloneSnapshot, Copying, CloneReleasing, CloneComplete, State, IsCreating, IsComplete, IsFencing, IsSnapshot, IsSwitching, IsRestoring, IsReleasing, IsRestored, IsAccepted, IsCopying}
+use Rattle.model.specs.Acts.{Act, Look, Change, Write, Read, Cutoff, Compact, Send, Process, Ack, Advance, Remove, Prune, Restart, Stats, Reply}
+use Rattle.model.specs.Parts.{Parts}
+use Rattle.model.specs.Entries.{Entry}
+use Rattle.model.specs.History.{replay}
+use Rattle.model.specs.Drawn.{Given, entered_by, given_by}
+use Rattle.model.specs.Stands.{was_given}
+
+-- the record of an operation entered a state at a stamp
+pub record Entering : Type 0 where
+  pub operation : Id
+  pub state : State
+  pub at : ℕ
+
+abbrev pub all_enter : State → ℕ → List Id → List Entering
+all_enter state n ids = map (λ id. record { operation = id; state = state; at = n }) ids
+
+-- new records enter their first states
+abbrev pub begun_with : Given → ℕ → List Entering
+begun_with given n =
+    all_enter IsCreating n given.snapshots ++ all_enter IsFencing n given.restorations
+    ++ all_enter IsAccepted n given.clones
+
+abbrev pub moved_by : Act → Reply → ℕ → List Entering
+moved_by (Advance operation) reply n =
+    map {A = State} (λ state. record { operation = operation; state = state; at = n }) (entered_by reply)
+moved_by (Look ask) reply n = []
+moved_by (Change command slots) reply n = []
+moved_by (Write place version batch) reply n = []
+moved_by (Read places version key at columns) reply n = []
+moved_by (Cutoff slot) reply n = []
+moved_by (Compact slot) reply n = []
+moved_by (Send operation slot) reply n = []
+moved_by (Process slot other) reply n = []
+moved_by (Ack operation slot) reply n = []
+moved_by (Remove target slots) reply n = []
+moved_by Prune reply n = []
+moved_by (Restart slot) reply n = []
+moved_by (Stats slot) reply n = []
+
+-- which records entered which states, the newest first
+unfoldable pub entered : ℕ → List Entry → List Entering
+entered slots [] = []
+entered slots (e ∷ earlier) =
+    moved_by e.event.act e.reply e.stamp
+    ++ begun_with (given_by e.event.act e.reply (replay slots (e ∷ earlier)).master) e.stamp
+    ++ entered slots earlier
+
+-- the states that a record entered, the newest first
+abbrev pub states_of : Id → List Entering → List State
+states_of operation es = map {A = Entering} (λ e. e.state) (filter (λ e. same e.operation operation) es)
+
+abbrev pub states_of_snapshot : Bool → List State
+states_of_snapshot false = IsCreating ∷ []
+states_of_snapshot true = IsComplete ∷ IsCreating ∷ []
+
+abbrev pub states_to : RestorationState → List State
+states_to Fencing = IsFencing ∷ []
+states_to (Snapshotting point own) = IsSnapshot ∷ IsFencing ∷ []
+states_to (Switching point serving) = IsSwitching ∷ IsSnapshot ∷ IsFencing ∷ []
+states_to (Restoring point serving) = IsRestoring ∷ IsSwitching ∷ IsSnapshot ∷ IsFencing ∷ []
+states_to (Releasing point serving) = IsReleasing ∷ IsRestoring ∷ IsSwitching ∷ IsSnapshot ∷ IsFencing ∷ []
+states_to (Restored point serving) = IsRestored ∷ IsReleasing ∷ IsRestoring ∷ IsSwitching ∷ IsSnapshot ∷ IsFencing ∷ []
+
+-- a clone has a snapshot made only where none served its time; `before` are the states that it entered before it copied
+abbrev pub clone_states_to : CloneState → List State → List State
+clone_states_to Accepted before = IsAccepted ∷ []
+clone_states_to (CloneSnapshot own) before = IsSnapshot ∷ IsAccepted ∷ []
+clone_states_to (Copying serving copied_at) before = IsCopying ∷ before
+clone_states_to (CloneReleasing serving copied_at) before = IsReleasing ∷ IsCopying ∷ before
+clone_states_to (CloneComplete serving copied_at) before = IsComplete ∷ IsReleasing ∷ IsCopying ∷ before
+
+-- each record entered the states up to its own, each once and in order
+pub record EntersOnce (ps : Parts) (es : List Entering) : Type 0 where
+  pub snapshots : (r : SnapshotRecord) → In r ps.master.snapshots → states_of r.id es ≡ states_of_snapshot r.complete
+  pub restorations : (r : RestorationRecord) → In r ps.master.restorations → states_of r.id es ≡ states_to r.state
+  pub clones : (c : CloneRecord) → In c ps.master.clones
+      → (states_of c.id es ≡ clone_states_to c.state (IsAccepted ∷ []))
+      ⊎ (states_of c.id es ≡ clone_states_to c.state (IsSnapshot ∷ IsAccepted ∷ []))
+
+-- the state of a record in which its tablets get a command of a kind
+abbrev pub state_giving : BodyKind → State
+state_giving FenceKind = IsFencing
+state_giving FreezeKind = IsCreating
+state_giving RestoreFromKind = IsRestoring
+state_giving HideKind = IsRestoring
+state_giving CopyKind = IsCopying
+state_giving ReleaseKind = IsReleasing
+
+-- the record entered the state that gives a command of this kind, at a stamp below the clock
+pub record IsGivenBelow (es : List Entering) (operation : Id) (kind : BodyKind) (clock : ℕ) : Type 0 where
+  pub at : ℕ
+  pub was_entered : In (record { operation = operation; state = state_giving kind; at = at }) es
+  pub below : at < clock
+
+-- a tablet whose inbox holds a command, or that has done it, has a clock above the stamp at which the record entered
+-- the state that gives it
+abbrev pub GivenAfter : Parts → List Entering → Type 0
+GivenAfter ps es = (slot : ℕ) (operation : Id) (kind : BodyKind) → was_given (ps.tablet slot) operation kind ≡ true
+    → IsGivenBelow es operation kind (ps.tablet slot).clock

@@ -1,0 +1,130 @@
+-- Numbers are drawn in turn, and commands are done once, where the tests of a history say so.
+use Rattle.std.proofs.Common.{◌≡◌, ℕ, Bool, true, false, List, [], ◌∷◌, ◌&&◌, ◌+◌, inl, inr, refl, sym, ap, ◌∙◌, subst, eqb, eqb-true, length, arith, zero, suc, Option, Some, None, if◌then◌else◌}
+use Rattle.std.specs.List.{list_all, filter}
+use Rattle.std.proofs.lemmas.Bool.{true≢false}
+use Rattle.std.proofs.lemmas.Bool.Decides.{nat_tests}
+use Rattle.row_values.specs.Ids.{Id, Kind, Namespace, Table, Tablet, Schedule, Snapshot, Restoration, Clone, kind_digit}
+use Rattle.row_values.specs.Elements.{In}
+use Rattle.model.specs.Acts.{Act, Reply}
+use Rattle.model.specs.Parts.{Master}
+use Rattle.model.specs.Entries.{Entry}
+use Rattle.model.specs.Lists.{numbered_as}
+use Rattle.model.specs.Drawn.{AreNext, DrawsNext, DrawsInTurn, drawn_of, drawn_by, given_of, given_by}
+use Rattle.model.specs.Once.{Obeyed, NoneAgain}
+use Rattle.model_rows.specs.Turns.{are_next, draws_next, all_kinds, all_draw_next, draw_in_turn, differ, none_again}
+
+both : (a b : Bool) → (a && b) ≡ true → (a ≡ true) × (b ≡ true)
+both true b e = (refl, e)
+both false b e = absurd (true≢false (sym e))
+
+-- Kinds
+
+abbrev kind_of : ℕ → Kind
+kind_of d =
+    if eqb d 1 then Namespace else if eqb d 2 then Table else if eqb d 3 then Tablet else if eqb d 4 then Schedule else if eqb d 5
+    then Snapshot
+    else if eqb d 6 then Restoration
+    else Clone
+
+kind_back : (kind : Kind) → kind_of (kind_digit kind) ≡ kind
+kind_back Namespace = refl
+kind_back Table = refl
+kind_back Tablet = refl
+kind_back Schedule = refl
+kind_back Snapshot = refl
+kind_back Restoration = refl
+kind_back Clone = refl
+
+-- Numbers
+
+next_in_turn : (ids : List Id) (kind : Kind) (drawn : ℕ) → are_next kind drawn ids ≡ true → AreNext kind drawn ids
+next_in_turn [] kind drawn e = tt
+next_in_turn (id ∷ ids) kind drawn e =
+    let apart = both _ _ e in
+    let first = both (eqb id.number (drawn + 1)) (eqb (kind_digit id.kind) (kind_digit kind)) apart.0 in
+    let number : id.number ≡ drawn + 1 = eqb-true _ _ first.0 in
+    let same_kind : id.kind ≡ kind = sym (kind_back id.kind) ∙ ap kind_of (eqb-true _ _ first.1) ∙ kind_back kind in
+    let is : id ≡ numbered_as kind (drawn + 1) = ap (λ k. numbered_as k id.number) same_kind ∙ ap (numbered_as kind) number in
+    (is, next_in_turn ids kind (drawn + 1) apart.1)
+
+abbrev DrawsKind : Act → Reply → ℕ → Master → Master → Kind → Type 0
+DrawsKind act reply n before after kind =
+    (drawn_of kind after.drawn ≡ drawn_of kind before.drawn + drawn_of kind (drawn_by act reply n before))
+    × (length (given_of kind (given_by act reply after)) ≡ drawn_of kind (drawn_by act reply n before))
+    × AreNext kind (drawn_of kind before.drawn) (given_of kind (given_by act reply after))
+
+draws_kind : (act : Act) (reply : Reply) (n : ℕ) (before after : Master) (kind : Kind) → draws_next act reply n before after kind ≡ true
+    → DrawsKind act reply n before after kind
+draws_kind act reply n before after kind e =
+    let first = both _ _ e in
+    let second = both _ _ first.1 in
+    (eqb-true _ _ first.0, eqb-true _ _ second.0, next_in_turn _ kind _ second.1)
+
+each_passes : (kinds : List Kind) (test : Kind → Bool) (kind : Kind) → list_all test kinds ≡ true → In kind kinds → test kind ≡ true
+each_passes [] test kind e isin = absurd isin
+each_passes (k ∷ ks) test kind e (inl is) = subst (λ j. test j ≡ true) is (both _ _ e).0
+each_passes (k ∷ ks) test kind e (inr isin) = each_passes ks test kind (both _ _ e).1 isin
+
+in_kinds : (kind : Kind) → In kind all_kinds
+in_kinds Namespace = inl refl
+in_kinds Table = inr (inl refl)
+in_kinds Tablet = inr (inr (inl refl))
+in_kinds Schedule = inr (inr (inr (inl refl)))
+in_kinds Snapshot = inr (inr (inr (inr (inl refl))))
+in_kinds Restoration = inr (inr (inr (inr (inr (inl refl)))))
+in_kinds Clone = inr (inr (inr (inr (inr (inr (inl refl))))))
+
+each_kind : (act : Act) (reply : Reply) (n : ℕ) (before after : Master) → all_draw_next act reply n before after ≡ true → (kind : Kind)
+    → DrawsKind act reply n before after kind
+each_kind act reply n before after e kind =
+    draws_kind act reply n before after kind (each_passes all_kinds (draws_next act reply n before after) kind e (in_kinds kind))
+
+entry_draws : (act : Act) (reply : Reply) (n : ℕ) (before after : Master) → all_draw_next act reply n before after ≡ true
+    → DrawsNext act reply n before after
+entry_draws act reply n before after e = record {
+  count = λ kind. (each_kind act reply n before after e kind).0;
+  given = λ kind. (each_kind act reply n before after e kind).1;
+  next = λ kind. (each_kind act reply n before after e kind).2;
+}
+
+pub drawn_in_turn : (history : List Entry) (slots : ℕ) → draw_in_turn slots history ≡ true → DrawsInTurn slots history
+drawn_in_turn [] slots e = tt
+drawn_in_turn (entry ∷ earlier) slots e = let apart = both _ _ e in (drawn_in_turn earlier slots apart.0, entry_draws _ _ _ _ _ apart.1)
+
+-- Commands
+
+not_itself : (o : Obeyed) → differ o o ≡ true → ⊥
+not_itself o e = grind (arith, nat_tests)
+
+not_among : (os : List Obeyed) (o : Obeyed) → list_all (differ o) os ≡ true → In o os → ⊥
+not_among [] o e isin = absurd isin
+not_among (p ∷ os) o e (inl is) = not_itself o (subst (λ q. differ o q ≡ true) is (both _ _ e).0)
+not_among (p ∷ os) o e (inr isin) = not_among os o (both _ _ e).1 isin
+
+pub none_done_again : (os : List Obeyed) → none_again os ≡ true → NoneAgain os
+none_done_again [] e = tt
+none_done_again (o ∷ os) e = let apart = both _ _ e in (none_done_again os apart.0, not_among os o apart.1)
+
+-- Lists
+
+behind : {A : Type 0} (b : Bool) (x y : A) (ys : List A) → In x ys → In x (if b then y ∷ ys else ys)
+behind true x y ys isin = inr isin
+behind false x y ys isin = isin
+
+-- what is in a list and passes a test is among those that pass it
+pub passes_in : {A : Type 0} (xs : List A) (test : A → Bool) (x : A) → In x xs → test x ≡ true → In x (filter test xs)
+passes_in [] test x isin e = absurd isin
+passes_in (y ∷ xs) test x (inl is) e = let h : test y ≡ true = subst (λ z. test z ≡ true) (sym is) e in rw h (inl is)
+passes_in (y ∷ xs) test x (inr isin) e = behind (test y) x y (filter test xs) (passes_in xs test x isin e)
+
+-- what stands at a place of a list
+
+abbrev pub at_place : {A : Type 0} → ℕ → List A → Option A
+at_place place [] = None
+at_place zero (x ∷ xs) = Some x
+at_place (suc place) (x ∷ xs) = at_place place xs
+
+pub in_at : {A : Type 0} (place : ℕ) (xs : List A) (x : A) → at_place place xs ≡ Some x → In x xs
+in_at place [] x e = absurd (let q = e in grind arith)
+in_at zero (y ∷ xs) x e = inl (let q = e in cc)
+in_at (suc place) (y ∷ xs) x e = inr (in_at place xs x e)

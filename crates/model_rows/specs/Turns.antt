@@ -1,0 +1,82 @@
+-- What comes once in a history, and which numbers it draws, told by tests, so that a row computes it.
+use Rattle.std.specs.Prelude.{ℕ, Bool, true, List, [], ◌∷◌, ◌==◌, ◌&&◌, ◌+◌, not, length, false}
+use Rattle.std.specs.List.{list_all}
+use Rattle.row_values.specs.Ids.{Id, Kind, Namespace, Table, Tablet, Schedule, Snapshot, Restoration, Clone, kind_digit}
+use Rattle.model.specs.Tablets.{body_digit}
+use Rattle.model.specs.Acts.{Act, Reply}
+use Rattle.model.specs.Parts.{Master}
+use Rattle.model.specs.Entries.{Entry}
+use Rattle.model.specs.History.{replay}
+use Rattle.model.specs.Drawn.{drawn_of, drawn_by, given_of, given_by}
+use Rattle.model.specs.Journal.{Change, ChangeAct, NamespaceMade, NamespaceDropped, TableMade, TableRenamed, TableDropped, ColumnAdded, ColumnDropped, RowChanged, NamespaceRestored, NamespaceCloned}
+use Rattle.model.specs.Once.{Obeyed}
+
+-- whether the identifiers are the next of their kind, in turn
+abbrev pub are_next : Kind → ℕ → List Id → Bool
+are_next kind drawn [] = true
+are_next kind drawn (id ∷ ids) =
+    ((id.number == drawn + 1) && (kind_digit id.kind == kind_digit kind)) && are_next kind (drawn + 1) ids
+
+-- whether an entry draws so many of a kind, and gives just these
+abbrev pub draws_next : Act → Reply → ℕ → Master → Master → Kind → Bool
+draws_next act reply n before after kind =
+    let drawn = drawn_of kind (drawn_by act reply n before) in
+    let given = given_of kind (given_by act reply after) in
+    (drawn_of kind after.drawn == drawn_of kind before.drawn + drawn)
+    && ((length given == drawn) && are_next kind (drawn_of kind before.drawn) given)
+
+abbrev pub all_kinds : List Kind
+all_kinds = Namespace ∷ Table ∷ Tablet ∷ Schedule ∷ Snapshot ∷ Restoration ∷ Clone ∷ []
+
+abbrev pub all_draw_next : Act → Reply → ℕ → Master → Master → Bool
+all_draw_next act reply n before after = list_all (draws_next act reply n before after) all_kinds
+
+abbrev pub draw_in_turn : ℕ → List Entry → Bool
+draw_in_turn slots [] = true
+draw_in_turn slots (e ∷ earlier) =
+    draw_in_turn slots earlier
+    && all_draw_next e.event.act e.reply e.stamp (replay slots earlier).master (replay slots (e ∷ earlier)).master
+
+-- whether two tablets did something else, or are others
+abbrev pub differ : Obeyed → Obeyed → Bool
+differ o p = not
+    ((o.operation.number == p.operation.number)
+    && ((kind_digit o.operation.kind == kind_digit p.operation.kind)
+    && ((body_digit o.kind == body_digit p.kind) && (o.tablet.number == p.tablet.number))))
+
+abbrev pub none_again : List Obeyed → Bool
+none_again [] = true
+none_again (o ∷ os) = none_again os && list_all (differ o) os
+
+-- whether a change is a restore, or a clone
+
+abbrev pub is_restore : Change → Bool
+is_restore c = elim c.act [
+  | NamespaceMade namespace name ↦ false
+  | NamespaceDropped namespace ↦ false
+  | TableMade table namespace name columns ↦ false
+  | TableRenamed table name ↦ false
+  | TableDropped table ↦ false
+  | ColumnAdded table column ↦ false
+  | ColumnDropped table column ↦ false
+  | RowChanged table key op ↦ false
+  | NamespaceRestored namespace to ↦ true
+  | NamespaceCloned source target name to tables ↦ false
+]
+
+abbrev pub is_clone : Change → Bool
+is_clone c = elim c.act [
+  | NamespaceMade namespace name ↦ false
+  | NamespaceDropped namespace ↦ false
+  | TableMade table namespace name columns ↦ false
+  | TableRenamed table name ↦ false
+  | TableDropped table ↦ false
+  | ColumnAdded table column ↦ false
+  | ColumnDropped table column ↦ false
+  | RowChanged table key op ↦ false
+  | NamespaceRestored namespace to ↦ false
+  | NamespaceCloned source target name to tables ↦ true
+]
+
+abbrev pub of_act : ChangeAct → Change
+of_act act = record { stamp = 0; act = act }

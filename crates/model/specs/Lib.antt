@@ -26,6 +26,7 @@ pub mod Drawn
 pub mod Replies
 pub mod Stands
 pub mod Retained
+pub mod Taking
 pub mod Left
 pub mod Settling
 pub mod Scripts

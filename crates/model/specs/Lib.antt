@@ -28,6 +28,7 @@ pub mod Stands
 pub mod Entering
 pub mod Once
 pub mod Retained
+pub mod Taking
 pub mod Left
 pub mod Settling
 pub mod Scripts

@@ -1,5 +1,5 @@
--- What a coordinator does next: for the first unfinished record that no snapshot holds up, it goes on with the first listed
--- tablet that isn't done, or moves the record.
+-- What a coordinator does next: for the first unfinished record that no snapshot holds up, it goes on with the first
+-- listed tablet that isn't done, or moves the record.
 use Rattle.std.specs.Prelude.{ℕ, List, [], ◌∷◌, ◌++◌, Option, Some, None, not, map, if◌then◌else◌}
 use Rattle.std.specs.Option.{option_or, option_map}
 use Rattle.std.specs.List.{filter}
@@ -20,9 +20,11 @@ unfinished_records m =
 
 -- a command that is sent is to be collected: to be done and acked
 abbrev pub work_at : Listed → Id → List Sent → WorkItem
-work_at l operation sent = if is_sent sent operation l.slot then CollectWork operation l.slot (source_slot l.slot l.body) else SendWork operation l.slot
+work_at l operation sent =
+    if is_sent sent operation l.slot then CollectWork operation l.slot (source_slot l.slot l.body)
+    else SendWork operation l.slot
 
--- what is to be done for a record, by its first listed tablet without ack and the snapshot that its move has to wait for
+-- what is to be done for a record, by its first listed tablet without ack and the snapshot that its move waits for
 abbrev pub work_for : Option Listed → Option Id → Id → List Sent → Option WorkItem
 work_for (Some l) awaited operation sent = Some (work_at l operation sent)
 work_for None None operation sent = Some (AdvanceWork operation)

@@ -27,3 +27,7 @@ mod RightClones
 mod Covers
 mod ScriptTexts
 mod Settled
+mod KeptVersions
+mod Limits
+mod Places
+mod Taken

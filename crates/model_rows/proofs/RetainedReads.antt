@@ -32,7 +32,8 @@ ready_retained_for = record {
   active_present = λ i time listed owned kept active.
       subst (λ j. IsPresent ready.parts j.slot j.tablet) (only_one i (since 2) listed) (record { held = refl; tablet_is = refl });
   reaches = λ i to listed owned kept before active.
-      let low : early 2 ≤ to = omega arith in subst (λ j. (ready.parts.tablet j.slot).cutoff ≤ to) (only_one i (since 2) listed) low;
+      let low : early 2 ≤ to = omega arith in
+      subst (λ j. ((ready.parts.tablet j.slot).cutoff ≤ to) × Unit {0}) (only_one i (since 2) listed) (low, tt);
   cutoffs = λ slot i here last owned.
       let low : early 2 ≤ max (early 3) i.from = omega arith in
       subst (λ at. ((ready.parts.tablet at).cutoff ≤ max (early 3) i.from) × ((ready.parts.tablet at).cutoff ≤ early 3))
@@ -58,5 +59,6 @@ cut_off = record ready.parts { tablet = λ slot. record (ready.parts.tablet slot
 too_high_a_cutoff : Retained cut_off (since 2 ∷ []) [] → ⊥
 unfolding the_book
 too_high_a_cutoff retained =
-    let kept : early 9 ≤ early 3 = (retained.scheduled schedule (inl refl)).reaches (since 2) (early 3) (inl refl) refl (leb-true _ _ refl) (leb-true _ _ refl) refl in
+    let kept : early 9 ≤ early 3 =
+    ((retained.scheduled schedule (inl refl)).reaches (since 2) (early 3) (inl refl) refl (leb-true _ _ refl) (leb-true _ _ refl) refl).0 in
     omega arith

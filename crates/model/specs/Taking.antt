@@ -1,0 +1,122 @@
+-- What an act may take away: nothing that a time needs, from the floor of its namespace on. It is said of the parts
+-- before and after any act, a step at a time.
+use Rattle.std.specs.Prelude.{◌≡◌, ℕ, ◌≤◌, true, List, Option, Some, None, ◌&&◌, ◌-◌, max, min, map}
+use Rattle.std.specs.Option.{option_map, option_and_then}
+use Rattle.std.specs.List.{filter}
+use Rattle.row_values.specs.Ids.{Id, same}
+use Rattle.row_values.specs.Elements.{In}
+use Rattle.row_values.specs.Rows.{absent_row}
+use Rattle.row_values.specs.Store.{read_of}
+use Rattle.row_values.specs.declared.rows.Row.{Row}
+use Rattle.model.specs.Times.{holds_at, before_end}
+use Rattle.model.specs.Catalog.{NamespaceRecord, TableRecord, Catalog, tables_at, kept_from, owns}
+use Rattle.model.specs.Activity.{Interval, active_at, route}
+use Rattle.model.specs.Tablets.{set_of}
+use Rattle.model.specs.Records.{Schedule, SnapshotRecord, point_of}
+use Rattle.model.specs.Acts.{Act, Look, Change, Write, Read, Cutoff, Compact, Send, Process, Ack, Advance, Remove, Prune, Restart, Stats}
+use Rattle.model.specs.Parts.{Master, Parts}
+use Rattle.model.specs.Schedules.{history_retention, serving}
+use Rattle.model.specs.Operations.{restoration_of}
+use Rattle.model.specs.Looks.{place_of}
+use Rattle.model.specs.Cleanup.{floor_of}
+use Rattle.model.specs.Retained.{IsPresent, IsTabletOf, Source, floor_now, source_for, ReachesBack}
+
+-- The catalog at a time, as it is shown: of each record the interval doesn't count
+
+abbrev pub names_at : List NamespaceRecord → Id → ℕ → List (List ℕ)
+names_at rs ns x = map {A = NamespaceRecord} (λ r. r.name) (filter (λ r. holds_at x r.from r.to && same r.id ns) rs)
+
+abbrev pub untimed : TableRecord → TableRecord
+untimed r = record r { from = 0; to = None }
+
+-- the catalog of a namespace at a time is as before, and may be asked for
+pub record CatalogKept (before after : Catalog) (ns : Id) (to : ℕ) : Type 0 where
+  pub names : names_at after.namespaces ns to ≡ names_at before.namespaces ns to
+  pub tables : map untimed (tables_at after.tables ns to) ≡ map untimed (tables_at before.tables ns to)
+  pub kept : kept_from after.kept_from ns ≤ to
+
+-- The snapshot that serves a time
+
+-- where one served the time before, that one still does
+abbrev pub StillServes : Option SnapshotRecord → Option SnapshotRecord → Type 0
+StillServes None after = Unit {0}
+StillServes (Some r) after = option_map {T = SnapshotRecord} (λ x. x.id) after ≡ Some r.id
+
+-- and the tablet's frozen set of it is the same
+abbrev pub SetKept : Option SnapshotRecord → ℕ → Parts → Parts → Type 0
+SetKept None slot before after = Unit {0}
+SetKept (Some r) slot before after = set_of (after.tablet slot).frozen r.id ≡ set_of (before.tablet slot).frozen r.id
+
+-- Tablets
+
+-- the master still keeps an interval of the tablet that holds the time
+pub record StillActive (activity : List Interval) (i : Interval) (to : ℕ) : Type 0 where
+  pub interval : Interval
+  pub listed : In interval activity
+  pub place : place_of interval ≡ place_of i
+  pub table : interval.table ≡ i.table
+  pub active : active_at to interval ≡ true
+
+abbrev pub read_from : Option Source → List ℕ → ℕ → Row
+read_from None key x = absent_row
+read_from (Some source) key x = read_of source.versions key x
+
+-- a tablet that was active at a time stays, and its rows of then are had as before. What it writes later than its clock
+-- isn't of then
+pub record TabletKept (before after : Parts) (s : Schedule) (to : ℕ) (i : Interval) : Type 0 where
+  pub present : IsPresent after i.slot i.tablet
+  pub active : StillActive after.master.activity i to
+  pub set : SetKept (serving before.master.snapshots s.id to) i.slot before after
+  pub reaches : ReachesBack (source_for after s i.slot to) to
+  pub reads : (key : List ℕ) → let x = min to (before.tablet i.slot).clock in
+      read_from (source_for after s i.slot to) key x ≡ read_from (source_for before s i.slot to) key x
+
+-- all that a time of a schedule's namespace needs is still there: the catalog, the place of each code, the snapshot
+-- that serves it, and the tablets with their rows
+pub record NeededKept (before after : Parts) (s : Schedule) (to : ℕ) : Type 0 where
+  pub catalog : CatalogKept before.master.catalog after.master.catalog s.namespace to
+  pub places : (table : Id) (code : ℕ) → owns before.master.catalog.owners s.namespace table ≡ true
+      → option_map place_of (route after.master.activity table code to)
+      ≡ option_map place_of (route before.master.activity table code to)
+  pub serves : StillServes (serving before.master.snapshots s.id to) (serving after.master.snapshots s.id to)
+  pub tablets : (i : Interval) → In i before.master.activity → IsTabletOf before.master s.namespace i
+      → active_at to i ≡ true → TabletKept before after s to i
+
+-- the point of the unfinished restoration of a namespace
+abbrev pub point_in : Master → Id → Option ℕ
+point_in m ns = option_and_then (λ r. point_of r.state) (restoration_of m.restorations ns)
+
+-- from when on an act may put other tables and rows in place: a move, or what a tablet does of a command, may be part
+-- of a restoration, which does so from its point on. No other act does at any time
+abbrev pub replaced_from : Act → Master → Id → Option ℕ
+replaced_from (Look ask) m ns = None
+replaced_from (Change command slots) m ns = None
+replaced_from (Write place version batch) m ns = None
+replaced_from (Read places version key at columns) m ns = None
+replaced_from (Cutoff slot) m ns = None
+replaced_from (Compact slot) m ns = None
+replaced_from (Send operation slot) m ns = None
+replaced_from (Process slot other) m ns = point_in m ns
+replaced_from (Ack operation slot) m ns = None
+replaced_from (Advance operation) m ns = point_in m ns
+replaced_from (Remove target slots) m ns = None
+replaced_from Prune m ns = None
+replaced_from (Restart slot) m ns = None
+replaced_from (Stats slot) m ns = None
+
+-- an act takes nothing that a time needs, from the floor of a namespace with a schedule up to the master's clock
+abbrev pub TakesNothingNeeded : Act → Parts → Parts → Type 0
+TakesNothingNeeded act before after = (s : Schedule) (to : ℕ) → In s after.master.schedules
+    → floor_now after.master s.namespace ≤ to → to ≤ before.master.clock
+    → before_end to (replaced_from act before.master s.namespace) ≡ true
+    → NeededKept before after s to
+
+-- The mark of a namespace's catalog
+
+-- a prune at a stamp never lowers it, and raises it at most to the less of the floor and 900 seconds before the stamp.
+-- From the mark on the catalog is as before
+pub record MarkRaised (before after : Master) (n : ℕ) (ns : Id) : Type 0 where
+  pub rises : kept_from before.catalog.kept_from ns ≤ kept_from after.catalog.kept_from ns
+  pub bound : kept_from after.catalog.kept_from ns
+      ≤ max (kept_from before.catalog.kept_from ns) (min (floor_of before ns n) (n - history_retention))
+  pub catalog : (to : ℕ) → kept_from after.catalog.kept_from ns ≤ to → CatalogKept before.catalog after.catalog ns to

@@ -1,0 +1,154 @@
+-- What would take away something that a time in the window needs is refused: one kind of thing after the other.
+use Rattle.std.proofs.Common.{◌≡◌, ◌≤◌, ◌∷◌, ◌++◌, ap, arith, is_some, length, inl, refl, subst, sym, true, ℕ, [], None, Some}
+use Rattle.std.proofs.lemmas.Bool.{leb-true, true≢false}
+use Rattle.row_values.specs.Store.{kept}
+use Rattle.model.specs.Activity.{active_at}
+use Rattle.model.specs.Acts.{Compact, Cutoff, Prune, Remove}
+use Rattle.model.specs.Catalog.{Catalog}
+use Rattle.model.specs.Retained.{floor_now}
+use Rattle.model.specs.Parts.{Parts}
+use Rattle.model.specs.Records.{Schedule}
+use Rattle.model.specs.Tablets.{Tablet, emptied}
+use Rattle.model.specs.Taking.{NeededKept, MarkRaised, TabletKept, TakesNothingNeeded}
+use Rattle.model_rows.proofs.RightEntries.{only_one}
+use Rattle.model_rows.proofs.Numbers.{none_is_not_one}
+use Rattle.model_rows.specs.Computed.{the_book}
+use Rattle.model_rows.specs.Runs.{Run, after}
+use Rattle.model_rows.specs.Scripts.{B, N, P, S, a, compact, early, home, ht, put, ready, settle, since, t, take_snapshot, v_is, x}
+
+-- two values of a row, at the tablet's stamps 3 and 4; the window begins at 3, the master's clock is 5
+abbrev filled_run : Run
+filled_run = after (put a t (home 1) x (v_is 1) ++ put a t (home 1) x (v_is 2)) ready
+
+abbrev filled : Parts
+filled = filled_run.parts
+
+abbrev schedule : Schedule
+schedule = record { id = S 1; namespace = N 1; interval = 1; retention = 10; kept_low = early 3; last = None; complete = None }
+
+abbrev with_tablets : (Tablet → Tablet) → Parts → Parts
+with_tablets changed ps = record ps { tablet = λ slot. changed (ps.tablet slot) }
+
+abbrev with_catalog : (Catalog → Catalog) → Parts → Parts
+with_catalog changed ps = record ps { master = record ps.master { catalog = changed ps.master.catalog } }
+
+-- a compaction that folds up to the clock, and not to the cutoff, takes the first value
+folded_to_the_clock : TakesNothingNeeded (Compact 1) filled (with_tablets (λ t. record t { versions = kept t.versions (early 9) }) filled) → ⊥
+unfolding the_book
+folded_to_the_clock takes =
+    let needed = takes schedule (early 3) (inl refl) (leb-true _ _ refl) (leb-true _ _ refl) refl in
+    let e = (needed.tablets (since 2) (inl refl) refl refl).reads x in
+    true≢false (sym (ap (λ row. row.present) e))
+
+-- so does one that keeps no version
+emptied_store : TakesNothingNeeded (Compact 1) filled (with_tablets (λ t. record t { versions = [] }) filled) → ⊥
+unfolding the_book
+emptied_store takes =
+    let needed = takes schedule (early 5) (inl refl) (leb-true _ _ refl) (leb-true _ _ refl) refl in
+    let e = (needed.tablets (since 2) (inl refl) refl refl).reads x in
+    true≢false (sym (ap (λ row. row.present) e))
+
+-- a cutoff just above the window's low end
+cut_too_far : TakesNothingNeeded (Cutoff 1) filled (with_tablets (λ t. record t { cutoff = early 4 }) filled) → ⊥
+unfolding the_book
+cut_too_far takes =
+    let needed = takes schedule (early 3) (inl refl) (leb-true _ _ refl) (leb-true _ _ refl) refl in
+    let reaches : early 4 ≤ early 3 = (needed.tablets (since 2) (inl refl) refl refl).reaches in
+    omega arith
+
+-- a tablet is emptied
+tablet_removed : TakesNothingNeeded (Remove (B 1) (1 ∷ [])) filled (with_tablets (λ t. emptied t.clock) filled) → ⊥
+unfolding the_book
+tablet_removed takes =
+    let needed = takes schedule (early 3) (inl refl) (leb-true _ _ refl) (leb-true _ _ refl) refl in
+    true≢false ((needed.tablets (since 2) (inl refl) refl refl).present.held)
+
+-- the master forgets it
+forgotten : TakesNothingNeeded (Remove (B 1) (1 ∷ [])) filled (record filled { master = record filled.master { activity = [] } }) → ⊥
+unfolding the_book
+forgotten takes =
+    let needed = takes schedule (early 3) (inl refl) (leb-true _ _ refl) (leb-true _ _ refl) refl in
+    (needed.tablets (since 2) (inl refl) refl refl).active.listed
+
+-- a snapshot of stamp 5 that serves the window
+abbrev frozen : Parts
+frozen = (after (put a t (home 1) x (v_is 1) ++ take_snapshot ++ settle) ready).parts
+
+abbrev snapped : Schedule
+snapped = record schedule { last = Some (early 5); complete = Some (early 5) }
+
+snapshot_removed : TakesNothingNeeded (Remove (P 1) (1 ∷ [])) frozen (record frozen { master = record frozen.master { snapshots = [] } }) → ⊥
+unfolding the_book
+snapshot_removed takes =
+    let needed = takes snapped (early 3) (inl refl) (leb-true _ _ refl) (leb-true _ _ refl) refl in
+    true≢false (sym (ap is_some needed.serves))
+
+set_dropped : TakesNothingNeeded (Remove (P 1) (1 ∷ [])) frozen (with_tablets (λ t. record t { frozen = [] }) frozen) → ⊥
+unfolding the_book
+set_dropped takes =
+    let needed = takes snapped (early 3) (inl refl) (leb-true _ _ refl) (leb-true _ _ refl) refl in
+    true≢false (sym (ap is_some (needed.tablets (since 2) (inl refl) refl refl).set))
+
+-- a prune that takes the table's record, or the namespace's, or lets the mark rise above the low end
+
+table_pruned : TakesNothingNeeded Prune filled (with_catalog (λ c. record c { tables = [] }) filled) → ⊥
+unfolding the_book
+table_pruned takes =
+    let needed = takes schedule (early 3) (inl refl) (leb-true _ _ refl) (leb-true _ _ refl) refl in
+    none_is_not_one (ap length needed.catalog.tables)
+
+namespace_pruned : TakesNothingNeeded Prune filled (with_catalog (λ c. record c { namespaces = [] }) filled) → ⊥
+unfolding the_book
+namespace_pruned takes =
+    let needed = takes schedule (early 3) (inl refl) (leb-true _ _ refl) (leb-true _ _ refl) refl in
+    none_is_not_one (ap length needed.catalog.names)
+
+abbrev marked_at : ℕ → Catalog → Catalog
+marked_at from c = record c { kept_from = record { namespace = N 1; from = from } ∷ [] }
+
+mark_too_high : TakesNothingNeeded Prune filled (with_catalog (marked_at (early 4)) filled) → ⊥
+unfolding the_book
+mark_too_high takes =
+    let needed = takes schedule (early 3) (inl refl) (leb-true _ _ refl) (leb-true _ _ refl) refl in
+    let kept : early 4 ≤ early 3 = needed.catalog.kept in
+    omega arith
+
+-- ten minutes later the floor is 1000000.3, and 900 seconds before that is nothing
+raised_to_the_floor : MarkRaised filled.master (with_catalog (marked_at (early 3)) filled).master (ht 601000000 3) (N 1) → ⊥
+unfolding the_book
+raised_to_the_floor raised =
+    let bound : early 3 ≤ early 0 = raised.bound in
+    omega arith
+
+lowered : MarkRaised filled.master (with_catalog (marked_at 7) filled).master (ht 601000000 3) (N 1) → ⊥
+unfolding the_book
+lowered raised =
+    let rises : early 0 ≤ 7 = raised.rises in
+    omega arith
+
+-- the compaction itself takes nothing: both values are later than the tablet's cutoff
+
+abbrev compacted : Parts
+compacted = (after (compact 1) filled_run).parts
+
+kept_for_each : (to : ℕ) → early 3 ≤ to → NeededKept filled compacted schedule to
+unfolding the_book
+kept_for_each to from = record {
+  catalog = record { names = refl; tables = refl; kept = omega arith };
+  places = λ table code owned. refl;
+  serves = tt;
+  tablets = λ i inside owned active. subst (λ j. active_at to j ≡ true → TabletKept filled compacted schedule to j) (only_one i (since 2) inside)
+      (λ now. record {
+        present = record { held = refl; tablet_is = refl };
+        active = record { interval = since 2; listed = inl refl; place = refl; table = refl; active = now };
+        set = tt;
+        reaches = omega arith;
+        reads = λ key. refl;
+      }) active;
+}
+
+compaction_takes_nothing : TakesNothingNeeded (Compact 1) filled compacted
+unfolding the_book
+compaction_takes_nothing s to listed from below point =
+    subst (λ r. floor_now compacted.master r.namespace ≤ to → NeededKept filled compacted r to) (only_one s schedule listed)
+    (λ low. kept_for_each to low) from

@@ -44,7 +44,7 @@ of_key_step : (t : Bool) (v : Version) (xs ys : List Version) → (if t then v �
 of_key_step true v xs ys = refl
 of_key_step false v xs ys = refl
 
-of_key-append : (key : List ℕ) (log more : List Version) → of_key key (log ++ more) ≡ of_key key log ++ of_key key more
+pub of_key-append : (key : List ℕ) (log more : List Version) → of_key key (log ++ more) ≡ of_key key log ++ of_key key more
 of_key-append key [] more = refl
 of_key-append key (v ∷ log) more = rw (of_key-append key log more) (of_key_step (bytes_eq v.key key) v (of_key key log) (of_key key more))
 

@@ -1,5 +1,5 @@
 -- What an index keeps of versions that stand in the order of writing.
-use Rattle.std.specs.Prelude.{ℕ, Bool, true, ◌≤◌, ◌≡◌, ◌&&◌, nat_lt, List, [], ◌∷◌, fold, length, slice_get, Option, Some, None, if◌then◌else◌}
+use Rattle.std.specs.Prelude.{ℕ, Bool, true, ◌≤◌, ◌≡◌, ◌&&◌, nat_lt, List, [], ◌∷◌, ◌++◌, fold, length, slice_get, Option, Some, None, if◌then◌else◌}
 use Rattle.std.specs.Str.{bytes_eq}
 use Rattle.std.specs.Ordering.{nat_cmp}
 use Rattle.std.specs.Cmp.Lexicographic.{slice_cmp}
@@ -26,6 +26,11 @@ with_found (Some v) rest = v ∷ rest
 abbrev pub chosen : List Version → List ℕ → List Version
 chosen log [] = []
 chosen log (place ∷ places) = with_found (slice_get log place) (chosen log places)
+
+-- the versions at the places of these entries
+abbrev pub all_chosen : List Version → List (List ℕ × KeyEntry) → List Version
+all_chosen log [] = []
+all_chosen log (e ∷ es) = chosen log e.1.places ++ all_chosen log es
 
 -- whether each place is below n
 abbrev pub are_below : ℕ → List ℕ → Bool

@@ -1,3 +1,4 @@
 pub mod Causes
 pub mod Indexed
+pub mod KeyOrder
 pub mod Tried

@@ -3,7 +3,9 @@
 //! they were written, and as the cutoff from which its reads are right.
 #![tactic(auto)]
 
+mod copies;
 mod index;
+mod order;
 mod plain;
 mod store;
 #[cfg(test)]

@@ -1,10 +1,12 @@
-ghost use Rattle.std.specs.Prelude.{ℕ, List, [], length, ◌≡◌, ◌≤◌, ◌<◌, IfOk, OnOk, MatchResult};
-ghost use Rattle.row_values.specs.Store.{Version, read_of, written, Below};
+ghost use Rattle.std.specs.Prelude.{ℕ, List, [], length, max, ◌≡◌, ◌≤◌, ◌<◌, IfOk, OnOk, MatchResult};
+ghost use Rattle.row_values.specs.Store.{Version, read_of, written, frozen, part_of, Below};
 ghost use Rattle.row_values.specs.Batches.{FitsStore};
 ghost use Rattle.versions.specs.Causes.{RefusedFor};
 
+use crate::version::Version;
 use hybrid_time::HybridTime;
-use row_values::{Batch, Key, NoMemory, Row};
+use partition_codes::Range;
+use row_values::{Batch, Key, NoMemory, Records, Row};
 use std::alloc::Global;
 
 /// Why a read gives no row.
@@ -61,4 +63,24 @@ pub trait VersionStore: Drop {
         ensures row { IfOk result (λ row. row ≡ read_of (versions self.now) key.now x) }
         ensures right { IfOk result (λ _. cutoff self.now ≤ x) }
         ensures cause { MatchResult result (λ _. Unit {0}) (RefusedFor x (cutoff self.now)) };
+
+    /// All versions, by key and then in the order of writing.
+    fn all_versions(&self) -> Result<Records<Version>, NoMemory>
+        ensures all { IfOk result (λ all. all ≡ versions self.now) };
+
+    /// Raises the time from which reads are right; a time below it changes nothing.
+    fn raise_cutoff(&mut self, to: HybridTime)
+        ensures versions { versions self.new ≡ versions self.old }
+        ensures cutoff { cutoff self.new ≡ max (cutoff self.old) to }
+        ensures room { room self.new ≡ room self.old };
+
+    /// A store of the versions that are stamped at or before a time.
+    fn frozen(&self, at: HybridTime) -> Result<Self, NoMemory>
+        ensures versions { IfOk result (λ s. versions s ≡ frozen at (versions self.now)) }
+        ensures cutoff { IfOk result (λ s. cutoff s ≡ cutoff self.now) };
+
+    /// A store of the versions whose partition code is in a range.
+    fn part_of(&self, range: Range) -> Result<Self, NoMemory>
+        ensures versions { IfOk result (λ s. versions s ≡ part_of range.low range.high (versions self.now)) }
+        ensures cutoff { IfOk result (λ s. cutoff s ≡ cutoff self.now) };
 }

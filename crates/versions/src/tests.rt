@@ -5,6 +5,7 @@ ghost use Rattle.versions.specs.Tried.{number_item};
 use crate::plain::PlainStore;
 use crate::store::{ReadRefused, VersionStore};
 use hybrid_time::HybridTime;
+use partition_codes::Range;
 use row_values::{Batch, Bytes, Cell, Cells, Item, Key, NoMemory, Records, Row, RowOp, Value};
 use std::alloc::Global;
 use std::test::Fail;
@@ -78,6 +79,70 @@ fn a_key_is_read_at_each_time_from_the_cutoff_on(rt: HostRuntime) -> Result<(), 
         let other = key_of(alloc, b"y")?;
         let answer = store.read_at(&other, HybridTime { value: 9 });
         assert_eq!(rt; shown(&answer), -1);
+    }
+    Ok(())
+}
+
+// What each version is: the first byte of its key, its stamp, and the number that it puts, -1 for a
+// delete.
+fn told(alloc: Global, store: &PlainStore) -> Result<Vec<(u8, u64, i64)>, NoMemory> {
+    let all = store.all_versions()?;
+    let mut told = Vec::new(alloc);
+    for version in all.as_slice() {
+        let letter = version.key.get(0).copied().unwrap_or(0);
+        told.push((letter, version.stamp.value, number_of(&version.op)))?;
+    }
+    Ok(told)
+}
+
+fn number_of(op: &RowOp) -> i64 {
+    match op {
+        RowOp::Delete => -1,
+        RowOp::Upsert(cells) => match cells.get(0) {
+            Some(cell) => match &cell.value {
+                Value::Int(number) => *number,
+                _ => -3,
+            },
+            None => -2,
+        },
+    }
+}
+
+// y at 2, x at 3 and 4; the last put is in no index yet.
+fn three_puts(alloc: Global) -> Result<PlainStore, NoMemory> {
+    let mut store = PlainStore::empty(alloc, HybridTime { value: 0 })?;
+    let first = put_of(alloc, b"y", 7)?;
+    store.prepare_add(&first)?;
+    store.add(first, HybridTime { value: 2 });
+    let second = put_of(alloc, b"x", 1)?;
+    store.prepare_add(&second)?;
+    store.add(second, HybridTime { value: 3 });
+    let third = put_of(alloc, b"x", 2)?;
+    store.prepare_add(&third)?;
+    store.add(third, HybridTime { value: 4 });
+    Ok(store)
+}
+
+#[test]
+fn versions_are_told_by_key_and_chosen_by_stamp_and_code(rt: HostRuntime) -> Result<(), Fail> {
+    let alloc = rt.alloc();
+    let mut store = three_puts(alloc)?;
+    assert_eq!(rt;
+        told(alloc, &store)?.as_slice(),
+        &[(b'x', 3u64, 1i64), (b'x', 4, 2), (b'y', 2, 7)][..]
+    );
+    let frozen = store.frozen(HybridTime { value: 3 })?;
+    assert_eq!(rt;
+        told(alloc, &frozen)?.as_slice(),
+        &[(b'x', 3u64, 1i64), (b'y', 2, 7)][..]
+    );
+    for (low, high, count) in [(0u32, 100u32, 0u64), (120, 121, 2), (121, 65536, 1)] {
+        let part = store.part_of(Range { low, high })?;
+        assert_eq!(rt; part.len(), count, "codes from {low}");
+    }
+    for (to, cutoff) in [(4u64, 4u64), (2, 4)] {
+        store.raise_cutoff(HybridTime { value: to });
+        assert_eq!(rt; store.cutoff().value, cutoff);
     }
     Ok(())
 }

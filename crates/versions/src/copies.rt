@@ -1,0 +1,54 @@
+ghost use Rattle.std.specs.Prelude.{◌≡◌, map, IfOk};
+ghost use Rattle.row_values.specs.Store.{frozen, part_of};
+
+use crate::version::Version;
+use hybrid_time::HybridTime;
+use partition_codes::{Range, code};
+use row_values::{Copied, NoMemory, Records};
+use std::alloc::Global;
+
+/// Copies of these versions.
+pub fn copies(alloc: Global, versions: &[&Version]) -> Result<Records<Version>, NoMemory>
+    ensures { IfOk result (λ all. all ≡ map (λ v. v.now) versions.now) }
+{
+    let mut all = Records::new(alloc);
+    for version in versions {
+        all.push(version.copy()?)?;
+    }
+    Ok(all)
+}
+
+/// Copies of the versions that are stamped at or before a time.
+pub fn frozen_copies(
+    alloc: Global,
+    versions: &[Version],
+    at: HybridTime,
+) -> Result<Vec<Version>, NoMemory>
+    ensures { IfOk result (λ copies. copies.items ≡ frozen at versions.now) }
+{
+    let mut copies = Vec::new(alloc);
+    for version in versions {
+        if version.stamp.number() <= at.number() {
+            copies.push(version.copy()?)?;
+        }
+    }
+    Ok(copies)
+}
+
+/// Copies of the versions whose partition code is in a range.
+pub fn part_copies(
+    alloc: Global,
+    versions: &[Version],
+    range: Range,
+) -> Result<Vec<Version>, NoMemory>
+    ensures { IfOk result (λ copies. copies.items ≡ part_of range.low range.high versions.now) }
+{
+    let mut copies = Vec::new(alloc);
+    for version in versions {
+        let code = u32::from(code(&version.key));
+        if range.low <= code && code < range.high {
+            copies.push(version.copy()?)?;
+        }
+    }
+    Ok(copies)
+}

@@ -4,7 +4,7 @@ use Rattle.std.specs.Fmt.{decimal}
 use Rattle.row_values.specs.declared.rows.KeyedRow.{KeyedRow}
 use Rattle.row_values.specs.Schema.{Column}
 use Rattle.model.specs.Times.{end_of_time}
-use Rattle.model.specs.Acts.{Act, Look, Event}
+use Rattle.model.specs.Acts.{Act, Look, Event, Reply}
 use Rattle.model.specs.Entries.{Entry, touches, log_of, stamp_of}
 use Rattle.model.specs.History.{replay, held, most_entries, entry_of}
 use Rattle.model.specs.Settling.{event_of}
@@ -105,6 +105,10 @@ rows_or text (FoundTargets targets) other = other
 rows_or text (FoundRows rows) other = text rows
 rows_or text FoundNothing other = other
 
+-- the text of the reply to a read
+abbrev pub read_text : (List KeyedRow → List ℕ) → ℕ → Reply → List ℕ
+read_text text n reply = rows_or text (found_by reply) (told_text n reply)
+
 -- the text of the newest reply; rows show the columns that the look before it placed
 abbrev pub newest_reply : List Entry → List ℕ
 newest_reply [] = []
@@ -112,7 +116,7 @@ newest_reply (e ∷ earlier) = told_text e.stamp e.reply
 
 abbrev pub newest_rows : (List Column → List KeyedRow → List ℕ) → List Entry → List ℕ
 newest_rows text [] = []
-newest_rows text (e ∷ earlier) = rows_or (text (columns_before earlier)) (found_by e.reply) (told_text e.stamp e.reply)
+newest_rows text (e ∷ earlier) = read_text (text (columns_before earlier)) e.stamp e.reply
 
 -- `<n> events`
 abbrev pub events_text : ℕ → List ℕ

@@ -2,4 +2,5 @@ pub mod Computed
 pub mod FirstRead
 pub mod Runs
 pub mod Scripts
+pub mod ScriptLines
 pub mod UndoneRestore

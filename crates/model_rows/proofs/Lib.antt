@@ -21,5 +21,8 @@ pub mod Histories
 mod RightWindows
 mod RightClones
 mod Covers
-mod ScriptTexts
+mod WrittenCatalogs
+mod WrittenHours
+mod WrittenRestores
+mod WrittenWork
 mod Settled

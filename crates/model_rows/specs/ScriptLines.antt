@@ -12,18 +12,20 @@ abbrev pub numbered_from : ℕ → List ScriptCommand → List Numbered
 numbered_from line [] = []
 numbered_from line (c ∷ cs) = record { line = line; command = c } ∷ numbered_from (line + 1) cs
 
--- what a script writes in a cluster of 64 slots
+-- what a script writes in a cluster of so many slots, and in one of 64
+abbrev pub written_in : ℕ → List ScriptCommand → List ℕ
+written_in slots commands = (run_of slots (numbered_from 1 commands)).text
+
 abbrev pub written_by : List ScriptCommand → List ℕ
-written_by commands = (run_of 64 (numbered_from 1 commands)).text
+written_by commands = written_in 64 commands
 
 -- lines that end with a line feed
 abbrev pub lines : List (List ℕ) → List ℕ
 lines ls = flat_map (λ l. l ++ 10 ∷ []) ls
 
--- a text with an identifier behind it, whose number has one digit
-abbrev pub with_id : List ℕ → Id → List ℕ
-with_id text id =
-    text ++ codes " 0000000" ++ decimal (kind_digit id.kind) ++ codes "-0000-4000-8000-00000000000" ++ decimal id.number
+-- an identifier behind a space, whose number has one digit
+abbrev pub uuid : Id → List ℕ
+uuid id = codes " 0000000" ++ decimal (kind_digit id.kind) ++ codes "-0000-4000-8000-00000000000" ++ decimal id.number
 
 -- Commands on the table t of the namespace a
 
@@ -51,10 +53,10 @@ abbrev pub first_lines : List ScriptCommand
 first_lines = Tick 1000000 ∷ CreateNamespace a ∷ CreateTable a t 1 (new_int v ∷ []) ∷ []
 
 abbrev pub first_written : List (List ℕ)
-first_written = with_id (codes "2: ok 1000000.0") (N 1) ∷ with_id (codes "3: ok 1000000.2") (T 1) ∷ []
+first_written = (codes "2: ok 1000000.0" ++ uuid (N 1)) ∷ (codes "3: ok 1000000.2" ++ uuid (T 1)) ∷ []
 
 abbrev pub prelude : List ScriptCommand
 prelude = first_lines ++ CreateSchedule 1 10 a ∷ []
 
 abbrev pub prelude_written : List (List ℕ)
-prelude_written = first_written ++ with_id (codes "4: ok 1000000.3") (S 1) ∷ []
+prelude_written = first_written ++ (codes "4: ok 1000000.3" ++ uuid (S 1)) ∷ []

@@ -22,6 +22,7 @@ mod RightWindows
 mod RightClones
 mod Covers
 mod WrittenCatalogs
+mod WrittenHistories
 mod WrittenHours
 mod WrittenRestores
 mod WrittenWork

@@ -1,4 +1,4 @@
--- What scripts write: an ordinary hour, and what becomes of nothing.
+-- What a script of an ordinary hour writes.
 use Rattle.std.proofs.Common.{◌≡◌, [], ◌∷◌, ◌++◌, None, codes, refl}
 use Rattle.row_values.specs.declared.value.Value.TheVariants.{Text}
 use Rattle.model.specs.Acts.{NamedUpsert, NamedDelete}

@@ -31,7 +31,7 @@ use Rattle.yb_script.specs.declared.event.Reply.TheVariants as replies
 use Rattle.yb_script.specs.declared.script.Names.{Names}
 use Rattle.yb_script.specs.declared.script.ScriptCommand.TheVariants as script
 use Rattle.yb_script.proofs.ShownParts.{empty_at, named_at, tabled_at, serving_at}
-use Rattle.yb_script.proofs.ShownActs.{the_place, self_eq, either_way, table_planned, keys_told}
+use Rattle.yb_script.proofs.ShownActs.{self_eq, either_way, table_planned, keys_told}
 use Rattle.yb_script.proofs.ShownTexts.{nothing_made, namespace_made, table_made, refused, newest_line, read_shown}
 use Rattle.yb_script.proofs.ShownEvents.{Shows, Does, made_entry, with_newest, performs, shows_next}
 use Rattle.yb_script.proofs.ShownDoings.{does_look, does_namespace, does_table, does_write, does_read}

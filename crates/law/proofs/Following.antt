@@ -11,21 +11,24 @@ use Rattle.row_values.specs.Schema.{Column}
 use Rattle.model.specs.Catalog.{TableRecord, namespace_named}
 use Rattle.model.specs.Activity.{Interval, active_at}
 use Rattle.model.specs.Journal.{Change as Made}
-use Rattle.model.specs.Acts.{NamedOp, NamedUpsert, NamedDelete, NamedItem, Command, CreateTable, AddColumn, DropColumn, DropTable, Split, Ask, AskPlan, AskKeys, AskTable, Place, Act, Look, Reply, Ok, Placed}
+use Rattle.model.specs.Acts as acts
+use Rattle.model.specs.Acts.{NamedOp, NamedUpsert, NamedDelete, NamedItem, Command, Ask, AskPlan, AskKeys, AskTable, AskPresent, Place, Act, Look, Cutoff, Compact, Reply, Placed}
 use Rattle.model.specs.Parts.{Master, Parts}
-use Rattle.model.specs.Looks.{look_plan, plan_of, least_slots, free_slots, family, slots_of_table, family_of, table_of, holding, active_in, place_of}
-use Rattle.model.specs.Entries.{IsSlot, IsName, IsNamedOp, IsNamedBatch, IsTime, ActAsked}
+use Rattle.row_values.specs.Slots.{rising}
+use Rattle.model.specs.Looks.{look_plan, look_present, plan_of, least_slots, free_slots, family, slots_of_table, family_of, table_of, holding, active_in, place_of}
+use Rattle.model.specs.Entries.{IsSlot, IsName, IsNamedOp, IsNamedBatch, IsTime, ActAsked, CommandAsked}
 use Rattle.row_values.specs.Batches.{IsKey, IsValue, IsOp, IsBatch}
 use Rattle.model.specs.History.{look}
 use Rattle.model.specs.Replies.{ReplyRight}
 use Rattle.model.specs.Right.{IsActivePlace, PlacesRight, holds_keys}
-use Rattle.model.specs.Scripts.{Time, Micros, MinusMinutes, MinusSeconds, Exact, ToMaster, WriteRows, ReadRow, ReadTable, asked_at, key_alone, at_place, cell_by_id, op_by_id, item_by_id, write_at, acts_after, TimeAsked, ScriptAsked}
+use Rattle.model.specs.Scripts.{ScriptCommand, Tick, Lag, CreateNamespace, DropNamespace, CreateTable, AddColumn, DropColumn, RenameTable, DropTable, WriteRows, ReadRow, ReadTable, Split, CreateSchedule, DeleteSchedule, TakeSnapshot, Restore, CloneNamespace, ListSchedules, ListSnapshots, ListRestorations, ListClones, ListTablets, RaiseCutoffs, CompactTablets, CleanUp, Coordinate, Settle, RestartMaster, RestartTablet, ShowStats, ShowHistory, Found, found_by, Course, SetReading, SetLag, Perform, LookFor, WorkOff, ShowEntries, tell, plan_and_tell, course_of, time_at, asked_at, key_alone, at_place, cell_by_id, op_by_id, item_by_id, write_at, write_into, change_under, read_from, at_each, CourseAsked}
 use Rattle.law_invariants.specs.Invariant.{Inv}
-use Rattle.law_invariants.proofs.Finding.{both_pass, passes_both, same_equal, find_is, filter_in}
+use Rattle.law_invariants.proofs.Finding.{both_pass, passes_both, same_equal, find_is, filter_in, in_mapped}
 use Rattle.law_invariants.proofs.Overlap.{code_below, holder_there}
 use Rattle.law_invariants.proofs.Remembering.{still_kept}
 use Rattle.law.specs.Covering.{CommandCovered, ActCovered}
-use Rattle.law_changes.proofs.Plans.{has_in, planned_active}
+use Rattle.law.specs.Scripts.{ScriptCovered}
+use Rattle.law_changes.proofs.Plans.{has_in, in_has, rising_has, planned_active}
 use Rattle.law_changes.proofs.Free.{least_free}
 
 -- what an act of a run meets
@@ -44,6 +47,19 @@ pub record IsAnswer (slots : ℕ) (ask : Ask) (reply : Reply) : Type 0 where
   pub inv : Inv parts activity changes
   pub is : reply ≡ (look ask stamp parts.master).reply
   pub right : ReplyRight (Look ask) reply stamp parts changes
+
+-- the acts that follow a look are fit, whatever it answers
+abbrev pub Follows : ℕ → Ask → (Found → List Act) → Type 0
+Follows slots ask follow = (reply : Reply) → IsAnswer slots ask reply → AllOf (IsFit slots) (follow (found_by reply))
+
+-- what a covered command begins with is fit
+abbrev pub CourseFits : ℕ → Course → Type 0
+CourseFits slots (SetReading micros) = micros < 2 ^ 50
+CourseFits slots (SetLag slot micros) = Unit {0}
+CourseFits slots (Perform act) = IsFit slots act
+CourseFits slots (LookFor ask follow showing) = IsFit slots (Look ask) × Follows slots ask follow
+CourseFits slots (WorkOff work) = ⊥
+CourseFits slots ShowEntries = Unit {0}
 
 -- Lists
 
@@ -95,12 +111,12 @@ family_to (Some t) m code slot all isin = parent_to (holding m t.id code) m t.id
 
 plan_to : (command : Command) (m : Master) (slot : ℕ) → WithinSlots m → In slot (plan_of command m) → slot ≤ m.slots
 unfolding plan_of
-plan_to (CreateTable namespace table tablets columns) m slot all isin =
+plan_to (acts.CreateTable namespace table tablets columns) m slot all isin =
     cond_both (is_some (namespace_named m.catalog.namespaces namespace)) (least_slots tablets (free_slots m)) [] (λ l. In slot l → slot ≤ m.slots) (λ _ h. least_to m tablets slot h) (λ _ h. absurd h) isin
-plan_to (AddColumn namespace table name kind) m slot all isin = table_to (table_of m namespace table) m slot all isin
-plan_to (DropColumn namespace table name) m slot all isin = table_to (table_of m namespace table) m slot all isin
-plan_to (DropTable namespace table) m slot all isin = table_to (table_of m namespace table) m slot all isin
-plan_to (Split namespace table code) m slot all isin = family_to (table_of m namespace table) m code slot all isin
+plan_to (acts.AddColumn namespace table name kind) m slot all isin = table_to (table_of m namespace table) m slot all isin
+plan_to (acts.DropColumn namespace table name) m slot all isin = table_to (table_of m namespace table) m slot all isin
+plan_to (acts.DropTable namespace table) m slot all isin = table_to (table_of m namespace table) m slot all isin
+plan_to (acts.Split namespace table code) m slot all isin = family_to (table_of m namespace table) m code slot all isin
 plan_to _ m slot all isin = absurd isin
 
 -- The places of a look
@@ -152,26 +168,13 @@ batch_is columns batch h =
       ),
     )
 
-pub alone_is : (key : List ℕ) → IsKey key → IsNamedBatch (key_alone key)
-alone_is key is = (omega arith, omega arith, ((is, (omega arith, tt)), tt))
-
--- Times
-
-pub time_is : (reading : ℕ) (at : Option Time) → reading < 2 ^ 50 → TimeAsked at → IsTime (asked_at reading at)
-time_is reading None less asked = tt
-time_is reading (Some (Micros micros)) less asked = omega (arith, asked)
-time_is reading (Some (MinusMinutes minutes)) less asked = omega arith
-time_is reading (Some (MinusSeconds seconds)) less asked = omega arith
-time_is reading (Some (Exact time)) less asked = asked
-
 -- What follows
 
-pub plan_follows : (command : Command) (slots reading : ℕ) (reply : Reply) → ScriptAsked (ToMaster command) → CommandCovered command → IsAnswer slots (AskPlan command) reply
-    → AllOf (IsFit slots) (acts_after reading (ToMaster command) reply)
+plan_follows : (command : Command) (slots : ℕ) → CommandAsked command → CommandCovered command → Follows slots (AskPlan command) (change_under command)
 unfolding look_plan
-plan_follows command slots reading reply asked covered a =
+plan_follows command slots asked covered reply a =
     let m = a.parts.master in
-    subst (λ k. AllOf (IsFit slots) (acts_after reading (ToMaster command) k)) (sym a.is) (
+    subst (λ k. AllOf (IsFit slots) (change_under command (found_by k))) (sym a.is) (
       record {
         asked = (asked, all_of (λ slot. slot ≤ slots) (plan_of command m) (λ slot isin. subst (λ k. slot ≤ k) a.count (plan_to command m slot (within a.parts a.activity a.changes a.inv) isin)));
         covered = covered;
@@ -183,39 +186,94 @@ write_follows : (places : List Place) (slots version : ℕ) (batch : List Item) 
 write_follows [] slots version batch is each = tt
 write_follows (place ∷ places) slots version batch is each = (record { asked = (each place (inl refl), is); covered = tt }, tt)
 
-pub rows_follow : (reply : Reply) (namespace table : List ℕ) (batch : List NamedItem) (slots reading : ℕ) → ScriptAsked (WriteRows namespace table batch) → IsAnswer slots (AskKeys namespace table batch None) reply
-    → AllOf (IsFit slots) (acts_after reading (WriteRows namespace table batch) reply)
-rows_follow (Placed places version columns) namespace table batch slots reading asked a =
+rows_follow : (namespace table : List ℕ) (batch : List NamedItem) (slots : ℕ) → IsNamedBatch batch → Follows slots (AskKeys namespace table batch None) (write_into batch)
+rows_follow namespace table batch slots asked (Placed places version columns) a =
     let right = a.right.1 in
-    write_follows places slots version (map (item_by_id columns) batch) (batch_is columns batch asked.2)
+    write_follows places slots version (map (item_by_id columns) batch) (batch_is columns batch asked)
     (λ place isin. place_in slots a.parts a.activity a.changes a.stamp right.found.id batch place a.count a.inv (right.each place isin))
-rows_follow (Ok made) namespace table batch slots reading asked a = tt
-rows_follow _ namespace table batch slots reading asked a = tt
+rows_follow namespace table batch slots asked _ a = tt
 
-pub row_follows : (reply : Reply) (namespace table key : List ℕ) (at : Option Time) (slots reading : ℕ) → reading < 2 ^ 50 → ScriptAsked (ReadRow namespace table key at)
-    → IsAnswer slots (AskKeys namespace table (key_alone key) (asked_at reading at)) reply → AllOf (IsFit slots) (acts_after reading (ReadRow namespace table key at) reply)
-row_follows (Placed places version columns) namespace table key at slots reading less asked a =
+row_follows : (namespace table key : List ℕ) (at : Option ℕ) (slots : ℕ) → IsKey key → IsTime at → Follows slots (AskKeys namespace table (key_alone key) at) (read_from (Some key) at)
+row_follows namespace table key at slots is time (Placed places version columns) a =
     let right = a.right.1 in
     let some = some_place a.parts a.activity a.changes _ a.stamp namespace table (key_alone key) (code_of key) places a.later a.inv (code_below key) (λ i h. passes_both _ _ h refl) right in (
       record {
-        asked = (subst (λ k. 1 ≤ k) (sym (length-map places at_place)) some, places_in slots a.parts a.activity a.changes _ a.stamp namespace table (key_alone key) places a.count a.inv right, asked.2, time_is reading at less asked.3);
+        asked = (subst (λ k. 1 ≤ k) (sym (length-map places at_place)) some, places_in slots a.parts a.activity a.changes _ a.stamp namespace table (key_alone key) places a.count a.inv right, is, time);
         covered = tt;
       },
       tt,
     )
-row_follows (Ok made) namespace table key at slots reading less asked a = tt
-row_follows _ namespace table key at slots reading less asked a = tt
+row_follows namespace table key at slots is time _ a = tt
 
-pub table_follows : (reply : Reply) (namespace table : List ℕ) (at : Option Time) (slots reading : ℕ) → reading < 2 ^ 50 → ScriptAsked (ReadTable namespace table at)
-    → IsAnswer slots (AskTable namespace table (asked_at reading at)) reply → AllOf (IsFit slots) (acts_after reading (ReadTable namespace table at) reply)
-table_follows (Placed places version columns) namespace table at slots reading less asked a =
+table_follows : (namespace table : List ℕ) (at : Option ℕ) (slots : ℕ) → IsTime at → Follows slots (AskTable namespace table at) (read_from None at)
+table_follows namespace table at slots time (Placed places version columns) a =
     let right = a.right.1 in
     let some = some_place a.parts a.activity a.changes _ a.stamp namespace table [] 0 places a.later a.inv (omega arith) (λ i h. refl) right in (
       record {
-        asked = (subst (λ k. 1 ≤ k) (sym (length-map places at_place)) some, places_in slots a.parts a.activity a.changes _ a.stamp namespace table [] places a.count a.inv right, tt, time_is reading at less asked.2);
+        asked = (subst (λ k. 1 ≤ k) (sym (length-map places at_place)) some, places_in slots a.parts a.activity a.changes _ a.stamp namespace table [] places a.count a.inv right, tt, time);
         covered = tt;
       },
       tt,
     )
-table_follows (Ok made) namespace table at slots reading less asked a = tt
-table_follows _ namespace table at slots reading less asked a = tt
+table_follows namespace table at slots time _ a = tt
+
+-- an act for each present slot
+
+slot_is : (slots : ℕ) (ps : Parts) (activity : List Interval) (changes : List Made) (slot : ℕ) → ps.master.slots ≡ slots → Inv ps activity changes
+    → In slot (rising (map (λ i. i.slot) ps.master.activity)) → IsSlot slots slot
+slot_is slots ps activity changes slot count inv isin =
+    let all = map {A = Interval} (λ i. i.slot) ps.master.activity in
+    in_mapped {A = Interval} (λ i. i.slot) (IsSlot slots) ps.master.activity
+    (λ i there. let good = (inv.slots i.slot).each i there refl in (good.slot_from, subst (λ k. i.slot ≤ k) count good.slot_to))
+    slot (in_has all slot (rising_has all slot (has_in (rising all) slot isin)))
+
+each_follows : (act : ℕ → Act) (slots : ℕ) → ((slot : ℕ) → IsSlot slots slot → IsFit slots (act slot)) → Follows slots AskPresent (at_each act)
+unfolding look_present
+each_follows act slots fit reply a =
+    let ps = a.parts in
+    let present = rising (map {A = Interval} (λ i. i.slot) ps.master.activity) in
+    subst (λ k. AllOf (IsFit slots) (at_each act (found_by k))) (sym a.is)
+    (all_mapped (IsSlot slots) (IsFit slots) act present fit (all_of (IsSlot slots) present (λ slot isin. slot_is slots ps a.activity a.changes slot a.count a.inv isin)))
+
+-- Commands
+
+tell_fits : (command : Command) (slots : ℕ) → CourseAsked slots (tell command) → CommandCovered command → CourseFits slots (tell command)
+tell_fits command slots asked covered = record { asked = asked; covered = covered }
+
+plan_fits : (command : Command) (slots : ℕ) → CourseAsked slots (plan_and_tell command) → CommandCovered command → CourseFits slots (plan_and_tell command)
+plan_fits command slots asked covered = (record { asked = asked; covered = tt }, plan_follows command slots asked covered)
+
+pub course_fits : (c : ScriptCommand) (slots reading : ℕ) → CourseAsked slots (course_of reading c) → ScriptCovered c → CourseFits slots (course_of reading c)
+course_fits (Tick micros) slots reading asked covered = asked
+course_fits (Lag slot micros) slots reading asked covered = tt
+course_fits (CreateNamespace name) slots reading asked covered = tell_fits (acts.CreateNamespace name) slots asked tt
+course_fits (DropNamespace name) slots reading asked covered = tell_fits (acts.DropNamespace name) slots asked tt
+course_fits (CreateTable namespace table tablets columns) slots reading asked covered = plan_fits (acts.CreateTable namespace table tablets columns) slots asked tt
+course_fits (AddColumn namespace table name kind) slots reading asked covered = plan_fits (acts.AddColumn namespace table name kind) slots asked tt
+course_fits (DropColumn namespace table name) slots reading asked covered = plan_fits (acts.DropColumn namespace table name) slots asked tt
+course_fits (RenameTable namespace table name) slots reading asked covered = tell_fits (acts.RenameTable namespace table name) slots asked tt
+course_fits (DropTable namespace table) slots reading asked covered = plan_fits (acts.DropTable namespace table) slots asked tt
+course_fits (WriteRows namespace table batch) slots reading asked covered = (record { asked = asked; covered = tt }, rows_follow namespace table batch slots asked.2)
+course_fits (ReadRow namespace table key at) slots reading asked covered =
+    (record { asked = asked; covered = tt }, row_follows namespace table key (asked_at reading at) slots asked.2.2.0.0 asked.3)
+course_fits (ReadTable namespace table at) slots reading asked covered = (record { asked = asked; covered = tt }, table_follows namespace table (asked_at reading at) slots asked.2)
+course_fits (Split namespace table code) slots reading asked covered = plan_fits (acts.Split namespace table code) slots asked tt
+course_fits (CreateSchedule interval retention namespace) slots reading asked covered = tell_fits (acts.CreateSchedule interval retention namespace) slots asked tt
+course_fits (DeleteSchedule schedule) slots reading asked covered = tell_fits (acts.DeleteSchedule schedule) slots asked tt
+course_fits (TakeSnapshot schedule) slots reading asked covered = tell_fits (acts.TakeSnapshot schedule) slots asked tt
+course_fits (Restore schedule to) slots reading asked covered = tell_fits (acts.Restore schedule (time_at reading to)) slots asked tt
+course_fits (CloneNamespace source target to) slots reading asked covered = absurd covered
+course_fits ListSchedules slots reading asked covered = tell_fits acts.ListSchedules slots asked tt
+course_fits ListSnapshots slots reading asked covered = tell_fits acts.ListSnapshots slots asked tt
+course_fits ListRestorations slots reading asked covered = tell_fits acts.ListRestorations slots asked tt
+course_fits ListClones slots reading asked covered = tell_fits acts.ListClones slots asked tt
+course_fits (ListTablets namespace) slots reading asked covered = tell_fits (acts.ListTablets namespace) slots asked tt
+course_fits RaiseCutoffs slots reading asked covered = (record { asked = asked; covered = tt }, each_follows Cutoff slots (λ slot is. record { asked = is; covered = tt }))
+course_fits CompactTablets slots reading asked covered = (record { asked = asked; covered = tt }, each_follows Compact slots (λ slot is. record { asked = is; covered = tt }))
+course_fits CleanUp slots reading asked covered = absurd covered
+course_fits (Coordinate count) slots reading asked covered = absurd covered
+course_fits Settle slots reading asked covered = absurd covered
+course_fits RestartMaster slots reading asked covered = record { asked = asked; covered = tt }
+course_fits (RestartTablet slot) slots reading asked covered = record { asked = asked; covered = tt }
+course_fits (ShowStats slot) slots reading asked covered = record { asked = asked; covered = tt }
+course_fits ShowHistory slots reading asked covered = tt

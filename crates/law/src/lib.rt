@@ -42,8 +42,8 @@ pub fn plans_are_named()
 /// before any of its entries, as of a part of it that was kept. A program whose history is that of the
 /// book's run cites this.
 pub fn runs_are_right()
-    ensures legal { (slots : ℕ) (commands : List Numbered) → AllOf (λ c. ScriptAsked c.command) commands → AllOf (λ c. ScriptCovered c.command) commands → Legal slots (run_of slots commands).history }
-    ensures right { (slots : ℕ) (commands : List Numbered) → AllOf (λ c. ScriptAsked c.command) commands → AllOf (λ c. ScriptCovered c.command) commands → Right slots (run_of slots commands).history }
+    ensures legal { (slots : ℕ) (commands : List Numbered) → AllOf (λ c. ScriptAsked slots c.command) commands → AllOf (λ c. ScriptCovered c.command) commands → Legal slots (run_of slots commands).history }
+    ensures right { (slots : ℕ) (commands : List Numbered) → AllOf (λ c. ScriptAsked slots c.command) commands → AllOf (λ c. ScriptCovered c.command) commands → Right slots (run_of slots commands).history }
     ensures legal_before { (slots : ℕ) (later earlier : List Entry) → Legal slots (later ++ earlier) → Legal slots earlier }
     ensures right_before { (slots : ℕ) (later earlier : List Entry) → Right slots (later ++ earlier) → Right slots earlier }
 {}

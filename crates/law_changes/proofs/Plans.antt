@@ -52,7 +52,7 @@ put_has (r ∷ slots) s slot h = cond_both (ltb s r) (s ∷ r ∷ slots) (cond (
     (λ b. either_passes (eqb s slot) (eqb r slot || has slots slot) (either_passes (eqb r slot) (has slots slot) b)))))
     h
 
-rising_has : (slots : List ℕ) (slot : ℕ) → has (rising slots) slot ≡ true → has slots slot ≡ true
+pub rising_has : (slots : List ℕ) (slot : ℕ) → has (rising slots) slot ≡ true → has slots slot ≡ true
 rising_has [] slot h = h
 rising_has (s ∷ slots) slot h = either_is (eqb s slot) (has (rising slots) slot) (put_has (rising slots) s slot h)
     (λ e. rw e refl)

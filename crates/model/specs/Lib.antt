@@ -33,4 +33,5 @@ pub mod Left
 pub mod Settling
 pub mod Scripts
 pub mod Texts
+pub mod HistoryTexts
 pub mod Running

@@ -1,16 +1,19 @@
--- What a script may say, and the acts that each of its commands makes: a look, and then acts by the look's reply. Commands to
--- restore, to clone and to work off records come with their stage.
-use Rattle.std.specs.Prelude.{ℕ, ◌*◌, ◌-◌, ◌^◌, ◌<◌, Bool, true, false, if◌then◌else◌, List, [], ◌∷◌, map, Option, Some, None, option_map}
+-- What a script may say, and the course that each of its commands takes under the script's reading: what it looks for,
+-- the acts that follow, and what its line shows.
+use Rattle.std.specs.Prelude.{ℕ, ◌*◌, ◌-◌, ◌^◌, ◌<◌, List, [], ◌∷◌, ◌++◌, map, Option, Some, None, option_map}
 use Rattle.row_values.specs.declared.value.Cell.{Cell}
 use Rattle.row_values.specs.declared.value.RowOp.{RowOp}
 use Rattle.row_values.specs.declared.value.RowOp.TheVariants.{Upsert, Delete}
 use Rattle.row_values.specs.declared.value.Item.{Item}
-use Rattle.row_values.specs.Schema.{Column, column_named, column_ids}
-use Rattle.model.specs.Acts.{NamedCell, NamedOp, NamedUpsert, NamedDelete, NamedItem, Command, CreateTable, AddColumn, DropColumn, DropTable, Split, Ask, AskPlan, AskKeys, AskTable, At, Place, Act, Change, Write, Read, Reply, Planned, Placed}
-use Rattle.model.specs.Times.{end_of_time}
-use Rattle.model.specs.Entries.{CommandAsked, IsName, IsNamedBatch}
-use Rattle.row_values.specs.Batches.{IsKey}
+use Rattle.row_values.specs.declared.rows.KeyedRow.{KeyedRow}
+use Rattle.row_values.specs.Ids.{Id}
+use Rattle.row_values.specs.Schema.{Column, ColumnKind, NewColumn, column_named, column_ids}
+use Rattle.model.specs.Acts as acts
+use Rattle.model.specs.Acts.{NamedCell, NamedOp, NamedUpsert, NamedDelete, NamedItem, Command, Ask, AskPlan, AskKeys, AskTable, AskRemovable, AskPresent, At, Place, Removal, Act, Change, Write, Read, Cutoff, Compact, Remove, Prune, Restart, Stats, Reply}
+use Rattle.model.specs.Parts.{Parts}
+use Rattle.model.specs.Entries.{IsSlot, ActAsked, AskAsked}
 use Rattle.model.specs.History.{id_of_column}
+use Rattle.model.specs.Settling.{coordinated, settle}
 
 -- a time as a script writes it: microseconds, so much before the script's reading, or a hybrid time
 pub data Time : Type 0 where
@@ -26,47 +29,92 @@ time_at reading (MinusMinutes minutes) = (reading - minutes * 60000000) * 4096
 time_at reading (MinusSeconds seconds) = (reading - seconds * 1000000) * 4096
 time_at reading (Exact time) = time
 
--- a command of a script: the reading is set, the master is told something, rows are written, or rows are read
+abbrev pub asked_at : ℕ → Option Time → Option ℕ
+asked_at reading at = option_map (time_at reading) at
+
+-- a command of a script. A put, a delete and a batch write rows; a get reads a row and a scan a table, now or at a time
 pub data ScriptCommand : Type 0 where
   Tick : (micros : ℕ) → ScriptCommand
-  ToMaster : (command : Command) → ScriptCommand
+  Lag : (slot micros : ℕ) → ScriptCommand
+  CreateNamespace : (name : List ℕ) → ScriptCommand
+  DropNamespace : (name : List ℕ) → ScriptCommand
+  CreateTable : (namespace table : List ℕ) (tablets : ℕ) (columns : List NewColumn) → ScriptCommand
+  AddColumn : (namespace table name : List ℕ) (kind : ColumnKind) → ScriptCommand
+  DropColumn : (namespace table name : List ℕ) → ScriptCommand
+  RenameTable : (namespace table name : List ℕ) → ScriptCommand
+  DropTable : (namespace table : List ℕ) → ScriptCommand
   WriteRows : (namespace table : List ℕ) (batch : List NamedItem) → ScriptCommand
   ReadRow : (namespace table key : List ℕ) (at : Option Time) → ScriptCommand
   ReadTable : (namespace table : List ℕ) (at : Option Time) → ScriptCommand
+  Split : (namespace table : List ℕ) (code : ℕ) → ScriptCommand
+  CreateSchedule : (interval retention : ℕ) (namespace : List ℕ) → ScriptCommand
+  DeleteSchedule : (schedule : Id) → ScriptCommand
+  TakeSnapshot : (schedule : Id) → ScriptCommand
+  Restore : (schedule : Id) (to : Time) → ScriptCommand
+  CloneNamespace : (source target : List ℕ) (to : Option Time) → ScriptCommand
+  ListSchedules : ScriptCommand
+  ListSnapshots : ScriptCommand
+  ListRestorations : ScriptCommand
+  ListClones : ScriptCommand
+  ListTablets : (namespace : List ℕ) → ScriptCommand
+  RaiseCutoffs : ScriptCommand
+  CompactTablets : ScriptCommand
+  CleanUp : ScriptCommand
+  Coordinate : (count : ℕ) → ScriptCommand
+  Settle : ScriptCommand
+  RestartMaster : ScriptCommand
+  RestartTablet : (slot : ℕ) → ScriptCommand
+  ShowStats : (slot : ℕ) → ScriptCommand
+  ShowHistory : ScriptCommand
 
 -- a command with the number of its line
 pub record Numbered : Type 0 where
   pub line : ℕ
   pub command : ScriptCommand
 
--- whether a command to the master touches slots, so that a look for its plan comes first
-abbrev pub has_plan : Command → Bool
-has_plan (CreateTable namespace table tablets columns) = true
-has_plan (AddColumn namespace table name kind) = true
-has_plan (DropColumn namespace table name) = true
-has_plan (DropTable namespace table) = true
-has_plan (Split namespace table code) = true
-has_plan _ = false
+-- What a look or a read answers
 
-abbrev pub asked_at : ℕ → Option Time → Option ℕ
-asked_at reading at = option_map (time_at reading) at
+pub data Found : Type 0 where
+  FoundSlots : (slots : List ℕ) → Found
+  FoundPlaces : (places : List Place) (version : ℕ) (columns : List Column) → Found
+  FoundTargets : (targets : List Removal) → Found
+  FoundRows : (rows : List KeyedRow) → Found
+  FoundNothing : Found
 
--- a key without cells, as a look for a read names it
-abbrev pub key_alone : List ℕ → List NamedItem
-key_alone key = record { key = key; op = NamedUpsert [] } ∷ []
+abbrev pub found_by : Reply → Found
+found_by (acts.Ok made) = FoundNothing
+found_by (acts.Planned slots) = FoundSlots slots
+found_by (acts.Placed places version columns) = FoundPlaces places version columns
+found_by (acts.Work item) = FoundNothing
+found_by (acts.Removable targets) = FoundTargets targets
+found_by (acts.Present slots) = FoundSlots slots
+found_by (acts.Rows rows) = FoundRows rows
+found_by (acts.CutoffAt cutoff) = FoundNothing
+found_by (acts.Compacted before after) = FoundNothing
+found_by acts.SentTo = FoundNothing
+found_by (acts.Done operation kind) = FoundNothing
+found_by acts.Acked = FoundNothing
+found_by (acts.Advanced state) = FoundNothing
+found_by acts.Removed = FoundNothing
+found_by (acts.Pruned count) = FoundNothing
+found_by (acts.Counts cutoff versions frozen inbox) = FoundNothing
+found_by acts.NoTablet = FoundNothing
+found_by (acts.Schedules lines) = FoundNothing
+found_by (acts.Snapshots lines) = FoundNothing
+found_by (acts.Restorations lines) = FoundNothing
+found_by (acts.Clones lines) = FoundNothing
+found_by (acts.Tablets lines) = FoundNothing
+found_by (acts.Refused why) = FoundNothing
 
--- the look of a command, under the script's reading
-abbrev pub look_of : ℕ → ScriptCommand → Option Ask
-look_of reading (Tick micros) = None
-look_of reading (ToMaster command) = if has_plan command then Some (AskPlan command) else None
-look_of reading (WriteRows namespace table batch) = Some (AskKeys namespace table batch None)
-look_of reading (ReadRow namespace table key at) = Some (AskKeys namespace table (key_alone key) (asked_at reading at))
-look_of reading (ReadTable namespace table at) = Some (AskTable namespace table (asked_at reading at))
+-- The acts that follow a look: none where it found nothing
 
--- the acts of a command that looks for nothing
-abbrev pub acts_of : ScriptCommand → List Act
-acts_of (ToMaster command) = Change command [] ∷ []
-acts_of _ = []
+-- a command under its plan
+abbrev pub change_under : Command → Found → List Act
+change_under command (FoundSlots slots) = Change command slots ∷ []
+change_under command (FoundPlaces places version columns) = []
+change_under command (FoundTargets targets) = []
+change_under command (FoundRows rows) = []
+change_under command FoundNothing = []
 
 abbrev pub at_place : Place → At
 at_place place = record { slot = place.slot; tablet = place.tablet }
@@ -87,29 +135,119 @@ abbrev pub write_at : List Place → ℕ → List Item → List Act
 write_at [] version batch = []
 write_at (place ∷ places) version batch = Write (at_place place) version batch ∷ []
 
-abbrev pub read_from : List Place → ℕ → Option (List ℕ) → Option ℕ → List Column → List Act
-read_from places version key at columns = Read (map at_place places) version key at (column_ids columns) ∷ []
+abbrev pub write_into : List NamedItem → Found → List Act
+write_into batch (FoundSlots slots) = []
+write_into batch (FoundPlaces places version columns) = write_at places version (map (item_by_id columns) batch)
+write_into batch (FoundTargets targets) = []
+write_into batch (FoundRows rows) = []
+write_into batch FoundNothing = []
 
--- the acts that follow a look, by its reply; none follows where it was refused
-abbrev pub acts_after : ℕ → ScriptCommand → Reply → List Act
-acts_after reading (ToMaster command) (Planned slots) = Change command slots ∷ []
-acts_after reading (WriteRows namespace table batch) (Placed places version columns) = write_at places version (map (item_by_id columns) batch)
-acts_after reading (ReadRow namespace table key at) (Placed places version columns) = read_from places version (Some key) (asked_at reading at) columns
-acts_after reading (ReadTable namespace table at) (Placed places version columns) = read_from places version None (asked_at reading at) columns
-acts_after reading _ _ = []
+-- a read of a key, or of all rows, shows all columns
+abbrev pub read_from : Option (List ℕ) → Option ℕ → Found → List Act
+read_from key at (FoundSlots slots) = []
+read_from key at (FoundPlaces places version columns) =
+    Read (map at_place places) version key at (column_ids columns) ∷ []
+read_from key at (FoundTargets targets) = []
+read_from key at (FoundRows rows) = []
+read_from key at FoundNothing = []
 
--- what a command of a script must meet
+-- an act for each slot
+abbrev pub at_each : (ℕ → Act) → Found → List Act
+at_each act (FoundSlots slots) = map act slots
+at_each act (FoundPlaces places version columns) = []
+at_each act (FoundTargets targets) = []
+at_each act (FoundRows rows) = []
+at_each act FoundNothing = []
 
-abbrev pub TimeAsked : Option Time → Type 0
-TimeAsked None = Unit {0}
-TimeAsked (Some (Micros micros)) = micros < 2 ^ 50
-TimeAsked (Some (MinusMinutes minutes)) = Unit {0}
-TimeAsked (Some (MinusSeconds seconds)) = Unit {0}
-TimeAsked (Some (Exact time)) = time < end_of_time
+-- a removal of each target, and then a prune
+abbrev pub remove_each : Found → List Act
+remove_each (FoundSlots slots) = []
+remove_each (FoundPlaces places version columns) = []
+remove_each (FoundTargets targets) = map {A = Removal} (λ r. Remove r.target r.slots) targets ++ Prune ∷ []
+remove_each (FoundRows rows) = []
+remove_each FoundNothing = []
 
-abbrev pub ScriptAsked : ScriptCommand → Type 0
-ScriptAsked (Tick micros) = micros < 2 ^ 50
-ScriptAsked (ToMaster command) = CommandAsked command
-ScriptAsked (WriteRows namespace table batch) = IsName namespace × IsName table × IsNamedBatch batch
-ScriptAsked (ReadRow namespace table key at) = IsName namespace × IsName table × IsKey key × TimeAsked at
-ScriptAsked (ReadTable namespace table at) = IsName namespace × IsName table × TimeAsked at
+-- Courses
+
+-- what a command's line shows: its last reply, the row of a key, the rows of a table, or how many events it made
+pub data Showing : Type 0 where
+  ShowReply : Showing
+  ShowRow : Showing
+  ShowTable : Showing
+  ShowCount : Showing
+
+-- a command sets the script's reading or the lag of a slot, performs an act, looks and performs the acts that follow,
+-- performs the acts that work records off, or shows all entries
+pub data Course : Type 0 where
+  SetReading : (micros : ℕ) → Course
+  SetLag : (slot micros : ℕ) → Course
+  Perform : (act : Act) → Course
+  LookFor : (ask : Ask) (follow : Found → List Act) (showing : Showing) → Course
+  WorkOff : (work : Parts → List Act) → Course
+  ShowEntries : Course
+
+-- the master is told a command that touches no tablet
+abbrev pub tell : Command → Course
+tell command = Perform (Change command [])
+
+-- the master is told a command under the plan that a look finds
+abbrev pub plan_and_tell : Command → Course
+plan_and_tell command = LookFor (AskPlan command) (change_under command) ShowReply
+
+-- a key without cells, as a look for a read names it
+abbrev pub key_alone : List ℕ → List NamedItem
+key_alone key = record { key = key; op = NamedUpsert [] } ∷ []
+
+-- the course of a command under the script's reading
+abbrev pub course_of : ℕ → ScriptCommand → Course
+course_of reading (Tick micros) = SetReading micros
+course_of reading (Lag slot micros) = SetLag slot micros
+course_of reading (CreateNamespace name) = tell (acts.CreateNamespace name)
+course_of reading (DropNamespace name) = tell (acts.DropNamespace name)
+course_of reading (CreateTable namespace table tablets columns) =
+    plan_and_tell (acts.CreateTable namespace table tablets columns)
+course_of reading (AddColumn namespace table name kind) = plan_and_tell (acts.AddColumn namespace table name kind)
+course_of reading (DropColumn namespace table name) = plan_and_tell (acts.DropColumn namespace table name)
+course_of reading (RenameTable namespace table name) = tell (acts.RenameTable namespace table name)
+course_of reading (DropTable namespace table) = plan_and_tell (acts.DropTable namespace table)
+course_of reading (WriteRows namespace table batch) =
+    LookFor (AskKeys namespace table batch None) (write_into batch) ShowReply
+course_of reading (ReadRow namespace table key at) =
+    let at = asked_at reading at in
+    LookFor (AskKeys namespace table (key_alone key) at) (read_from (Some key) at) ShowRow
+course_of reading (ReadTable namespace table at) =
+    let at = asked_at reading at in LookFor (AskTable namespace table at) (read_from None at) ShowTable
+course_of reading (Split namespace table code) = plan_and_tell (acts.Split namespace table code)
+course_of reading (CreateSchedule interval retention namespace) =
+    tell (acts.CreateSchedule interval retention namespace)
+course_of reading (DeleteSchedule schedule) = tell (acts.DeleteSchedule schedule)
+course_of reading (TakeSnapshot schedule) = tell (acts.TakeSnapshot schedule)
+course_of reading (Restore schedule to) = tell (acts.Restore schedule (time_at reading to))
+course_of reading (CloneNamespace source target to) = tell (acts.CloneNamespace source target (asked_at reading to))
+course_of reading ListSchedules = tell acts.ListSchedules
+course_of reading ListSnapshots = tell acts.ListSnapshots
+course_of reading ListRestorations = tell acts.ListRestorations
+course_of reading ListClones = tell acts.ListClones
+course_of reading (ListTablets namespace) = tell (acts.ListTablets namespace)
+course_of reading RaiseCutoffs = LookFor AskPresent (at_each Cutoff) ShowCount
+course_of reading CompactTablets = LookFor AskPresent (at_each Compact) ShowCount
+course_of reading CleanUp = LookFor AskRemovable remove_each ShowCount
+course_of reading (Coordinate count) = WorkOff (coordinated count reading)
+course_of reading Settle = WorkOff (settle reading)
+course_of reading RestartMaster = Perform (Restart 0)
+course_of reading (RestartTablet slot) = Perform (Restart slot)
+course_of reading (ShowStats slot) = Perform (Stats slot)
+course_of reading ShowHistory = ShowEntries
+
+-- what a step asks of what a command begins with
+abbrev pub CourseAsked : ℕ → Course → Type 0
+CourseAsked slots (SetReading micros) = micros < 2 ^ 50
+CourseAsked slots (SetLag slot micros) = IsSlot slots slot
+CourseAsked slots (Perform act) = ActAsked slots act
+CourseAsked slots (LookFor ask follow showing) = AskAsked ask
+CourseAsked slots (WorkOff work) = Unit {0}
+CourseAsked slots ShowEntries = Unit {0}
+
+-- what a command of a script must meet in a cluster of so many slots, whatever the script's reading is
+abbrev pub ScriptAsked : ℕ → ScriptCommand → Type 0
+ScriptAsked slots c = (reading : ℕ) → reading < 2 ^ 50 → CourseAsked slots (course_of reading c)

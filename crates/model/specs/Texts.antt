@@ -1,16 +1,18 @@
--- The text of a reply. A reply begins with the number of its line; further lines of it begin with two spaces.
-use Rattle.std.specs.Prelude.{ℕ, zero, suc, ◌+◌, ◌/◌, ◌%◌, nat_lt, if◌then◌else◌, List, [], ◌∷◌, ◌++◌, length, Option, Some, None, codes}
+-- The texts of replies, on the line of a command and in a history. Further lines of a command begin with two spaces; a
+-- history has what they say behind ` | `.
+use Rattle.std.specs.Prelude.{ℕ, zero, suc, ◌+◌, ◌/◌, ◌%◌, nat_lt, if◌then◌else◌, List, [], ◌∷◌, ◌++◌, length, Option, Some, None, codes, flat_map}
 use Rattle.std.specs.Fmt.{decimal, signed_decimal}
+use Rattle.std.specs.List.{join_by}
 use Rattle.row_values.specs.declared.rows.KeyedRow.{KeyedRow}
 use Rattle.row_values.specs.declared.value.Value.{Value}
 use Rattle.row_values.specs.declared.value.Value.TheVariants.{Int, Text, Null}
 use Rattle.row_values.specs.declared.value.Cell.{Cell}
 use Rattle.row_values.specs.Ids.{Id, kind_digit}
-use Rattle.row_values.specs.Schema.{Column}
-use Rattle.model.specs.Tablets.{Standing, Empty, Serving, Hidden}
+use Rattle.row_values.specs.Schema.{Column, ColumnKind, IntColumn, TextColumn}
+use Rattle.model.specs.Tablets.{Standing, Empty, Serving, Hidden, BodyKind, FenceKind, FreezeKind, RestoreFromKind, HideKind, CopyKind, ReleaseKind}
 use Rattle.model.specs.Records.{State, IsCreating, IsComplete, IsFencing, IsSnapshot, IsSwitching, IsRestoring, IsReleasing, IsRestored, IsAccepted, IsCopying}
 use Rattle.model.specs.Acts as acts
-use Rattle.model.specs.Acts.{Refusal, Reply, ScheduleLine, SnapshotLine, RestorationLine, CloneLine, TabletLine}
+use Rattle.model.specs.Acts.{Place, WorkItem, SendWork, CollectWork, AdvanceWork, Removal, Refusal, Reply, ScheduleLine, SnapshotLine, RestorationLine, CloneLine, TabletLine}
 
 -- Words
 
@@ -37,8 +39,7 @@ abbrev pub id_word : Id → List ℕ
 id_word id = word (id_text id)
 
 abbrev pub id_words : List Id → List ℕ
-id_words [] = []
-id_words (id ∷ ids) = id_word id ++ id_words ids
+id_words ids = flat_map id_word ids
 
 -- `<micros>.<logical>`
 abbrev pub time_text : ℕ → List ℕ
@@ -51,14 +52,17 @@ time_word time = word (time_text time)
 abbrev pub range_word : ℕ → ℕ → List ℕ
 range_word low high = word (decimal low ++ codes ".." ++ decimal high)
 
-abbrev pub slots_rest : List ℕ → List ℕ
-slots_rest [] = codes "]"
-slots_rest (slot ∷ slots) = codes "," ++ decimal slot ++ slots_rest slots
+-- numbers with commas between them
+abbrev pub numbers_text : List ℕ → List ℕ
+numbers_text numbers = join_by decimal (codes ",") numbers
 
 -- `[1,2]`
-abbrev pub slots_text : List ℕ → List ℕ
-slots_text [] = codes "[]"
-slots_text (slot ∷ slots) = codes "[" ++ decimal slot ++ slots_rest slots
+abbrev pub slots_word : List ℕ → List ℕ
+slots_word slots = word (codes "[" ++ numbers_text slots ++ codes "]")
+
+-- `v<version>`
+abbrev pub version_word : ℕ → List ℕ
+version_word version = word (codes "v" ++ decimal version)
 
 -- Rows
 
@@ -72,25 +76,28 @@ abbrev pub name_in : List Column → ℕ → List ℕ
 name_in [] id = []
 name_in (c ∷ cs) id = if nat_lt c.id id then name_in cs id else if nat_lt id c.id then name_in cs id else c.name
 
-abbrev pub cell_words : List Column → List Cell → List ℕ
-cell_words columns [] = []
-cell_words columns (c ∷ cs) = word (name_in columns c.column ++ codes "=" ++ value_text c.value) ++ cell_words columns cs
+-- ` <column>=<value>` for each cell, its column as it is told
+abbrev pub cell_words : (ℕ → List ℕ) → List Cell → List ℕ
+cell_words column cells = flat_map {X = Cell} (λ c. word (column c.column ++ codes "=" ++ value_text c.value)) cells
 
 -- the row of one key, whose columns are these
 abbrev pub row_text : List Column → List KeyedRow → List ℕ
 row_text columns [] = codes "none"
-row_text columns (r ∷ rs) = codes "row" ++ cell_words columns r.row.cells
+row_text columns (r ∷ rs) = codes "row" ++ cell_words (name_in columns) r.row.cells
 
--- a further line of a reply
-abbrev pub line_text : List ℕ → List ℕ
-line_text text = 10 ∷ codes "  " ++ text
+-- rows behind a gap each, by key
+abbrev pub row_parts : List ℕ → (ℕ → List ℕ) → List KeyedRow → List ℕ
+row_parts gap column rows = flat_map {X = KeyedRow} (λ r. gap ++ r.key ++ cell_words column r.row.cells) rows
 
-abbrev pub row_lines : List Column → List KeyedRow → List ℕ
-row_lines columns [] = []
-row_lines columns (r ∷ rs) = line_text (r.key ++ cell_words columns r.row.cells) ++ row_lines columns rs
+-- what a line goes on with on a further line, and a history in its one line
+abbrev pub line_gap : List ℕ
+line_gap = 10 ∷ codes "  "
+
+abbrev pub history_gap : List ℕ
+history_gap = codes " | "
 
 abbrev pub rows_text : List Column → List KeyedRow → List ℕ
-rows_text columns rows = decimal (length rows) ++ codes " rows" ++ row_lines columns rows
+rows_text columns rows = decimal (length rows) ++ codes " rows" ++ row_parts line_gap (name_in columns) rows
 
 -- Refusals
 
@@ -121,7 +128,7 @@ refusal_text (acts.Busy operation) = codes "busy" ++ id_word operation
 refusal_text (acts.Fenced operation) = codes "fenced" ++ id_word operation
 refusal_text (acts.Moved slot standing) = codes "moved" ++ number_word slot ++ word (standing_text standing)
 refusal_text (acts.StaleSchema kept) = codes "stale_schema" ++ number_word kept
-refusal_text (acts.StalePlan kept) = codes "stale_plan" ++ word (slots_text kept)
+refusal_text (acts.StalePlan kept) = codes "stale_plan" ++ slots_word kept
 refusal_text (acts.CrossTablet first other) = codes "cross_tablet" ++ number_word first ++ number_word other
 refusal_text (acts.TooNarrow low) = codes "too_narrow" ++ number_word low
 refusal_text (acts.TooOld asked cutoff) = codes "too_old" ++ time_word asked ++ time_word cutoff
@@ -159,40 +166,95 @@ end_word None = word (codes "active")
 end_word (Some ended) = word (codes "hidden") ++ time_word ended
 
 abbrev pub schedule_text : ScheduleLine → List ℕ
-schedule_text s = id_text s.id ++ word s.namespace ++ codes " interval" ++ number_word s.interval ++ codes " retention" ++ number_word s.retention ++ codes " low" ++ time_word s.low
+schedule_text s =
+    id_text s.id ++ word s.namespace ++ codes " interval" ++ number_word s.interval
+    ++ codes " retention" ++ number_word s.retention ++ codes " low" ++ time_word s.low
 
 abbrev pub snapshot_text : SnapshotLine → List ℕ
-snapshot_text s = id_text s.id ++ id_word s.schedule ++ word (state_text s.state) ++ codes " after" ++ time_word s.after ++ codes " at" ++ time_word s.at
+snapshot_text s =
+    id_text s.id ++ id_word s.schedule ++ word (state_text s.state)
+    ++ codes " after" ++ time_word s.after ++ codes " at" ++ time_word s.at
 
 abbrev pub restoration_text : RestorationLine → List ℕ
-restoration_text r = id_text r.id ++ id_word r.schedule ++ word (state_text r.state) ++ codes " to" ++ time_word r.to ++ codes " at" ++ point_word r.point
+restoration_text r =
+    id_text r.id ++ id_word r.schedule ++ word (state_text r.state)
+    ++ codes " to" ++ time_word r.to ++ codes " at" ++ point_word r.point
 
 abbrev pub clone_text : CloneLine → List ℕ
-clone_text c = id_text c.id ++ word c.source ++ word c.target ++ word (state_text c.state) ++ codes " to" ++ time_word c.to
+clone_text c =
+    id_text c.id ++ word c.source ++ word c.target ++ word (state_text c.state) ++ codes " to" ++ time_word c.to
 
 abbrev pub tablet_text : TabletLine → List ℕ
-tablet_text t = id_text t.tablet ++ id_word t.table ++ codes " slot" ++ number_word t.slot ++ range_word t.low t.high ++ end_word t.ended
+tablet_text t =
+    id_text t.tablet ++ id_word t.table ++ codes " slot" ++ number_word t.slot
+    ++ range_word t.low t.high ++ end_word t.ended
 
-abbrev pub lines_text : {A : Type 0} → (A → List ℕ) → List A → List ℕ
-lines_text text [] = []
-lines_text text (x ∷ xs) = line_text (text x) ++ lines_text text xs
+-- `<n> <things>`, and a part for each behind a gap
+abbrev pub list_text : {A : Type 0} → List ℕ → List ℕ → (A → List ℕ) → List A → List ℕ
+list_text gap things text xs = decimal (length xs) ++ word things ++ flat_map (λ x. gap ++ text x) xs
 
--- `<n> <things>`, and a line for each
-abbrev pub list_text : {A : Type 0} → List ℕ → (A → List ℕ) → List A → List ℕ
-list_text things text xs = decimal (length xs) ++ word things ++ lines_text text xs
+-- Looks and acts
+
+abbrev pub column_kind_text : ColumnKind → List ℕ
+column_kind_text IntColumn = codes "int"
+column_kind_text TextColumn = codes "text"
+
+-- `<id>:<name>:<kind>`
+abbrev pub column_word : Column → List ℕ
+column_word c = word (decimal c.id ++ codes ":" ++ c.name ++ codes ":" ++ column_kind_text c.kind)
+
+abbrev pub place_words : Place → List ℕ
+place_words p = number_word p.slot ++ id_word p.tablet ++ range_word p.low p.high
+
+abbrev pub work_text : Option WorkItem → List ℕ
+work_text None = codes "none"
+work_text (Some (SendWork operation slot)) = codes "send" ++ id_word operation ++ number_word slot
+work_text (Some (CollectWork operation slot other)) =
+    codes "collect" ++ id_word operation ++ number_word slot ++ number_word other
+work_text (Some (AdvanceWork operation)) = codes "advance" ++ id_word operation
+
+abbrev pub removal_words : Removal → List ℕ
+removal_words r = id_word r.target ++ slots_word r.slots
+
+abbrev pub body_text : BodyKind → List ℕ
+body_text FenceKind = codes "fence"
+body_text FreezeKind = codes "freeze"
+body_text RestoreFromKind = codes "restore_from"
+body_text HideKind = codes "hide"
+body_text CopyKind = codes "copy"
+body_text ReleaseKind = codes "release"
 
 -- Replies
 
--- the reply of an entry with this stamp. A reply that is never the last of a command has no text, and rows have theirs by the command
-abbrev pub reply_text : ℕ → Reply → List ℕ
-reply_text n (acts.Ok made) = codes "ok" ++ time_word n ++ id_words made
-reply_text n (acts.Counts cutoff versions frozen inbox) =
-    codes "stats cutoff" ++ time_word cutoff ++ codes " versions" ++ number_word versions ++ codes " frozen" ++ number_word frozen ++ codes " inbox" ++ number_word inbox
-reply_text n acts.NoTablet = codes "empty"
-reply_text n (acts.Schedules lines) = list_text (codes "schedules") schedule_text lines
-reply_text n (acts.Snapshots lines) = list_text (codes "snapshots") snapshot_text lines
-reply_text n (acts.Restorations lines) = list_text (codes "restorations") restoration_text lines
-reply_text n (acts.Clones lines) = list_text (codes "clones") clone_text lines
-reply_text n (acts.Tablets lines) = list_text (codes "tablets") tablet_text lines
-reply_text n (acts.Refused why) = codes "refused " ++ refusal_text why
-reply_text n _ = []
+-- a reply, its parts behind a gap each; an accepted one says when, if that is to be told
+abbrev pub reply_text : List ℕ → List ℕ → Reply → List ℕ
+reply_text gap when (acts.Ok made) = codes "ok" ++ when ++ id_words made
+reply_text gap when (acts.Planned slots) = codes "planned" ++ slots_word slots
+reply_text gap when (acts.Placed places version columns) =
+    codes "placed" ++ flat_map place_words places ++ version_word version ++ flat_map column_word columns
+reply_text gap when (acts.Work item) = codes "work " ++ work_text item
+reply_text gap when (acts.Removable targets) = codes "removable" ++ flat_map removal_words targets
+reply_text gap when (acts.Present slots) = codes "present" ++ slots_word slots
+reply_text gap when (acts.Rows rows) = codes "rows" ++ number_word (length rows) ++ row_parts gap decimal rows
+reply_text gap when (acts.CutoffAt cutoff) = codes "cutoff_at" ++ time_word cutoff
+reply_text gap when (acts.Compacted before after) = codes "compacted" ++ number_word before ++ number_word after
+reply_text gap when acts.SentTo = codes "sent"
+reply_text gap when (acts.Done operation kind) = codes "done" ++ id_word operation ++ word (body_text kind)
+reply_text gap when acts.Acked = codes "acked"
+reply_text gap when (acts.Advanced state) = codes "advanced" ++ word (state_text state)
+reply_text gap when acts.Removed = codes "removed"
+reply_text gap when (acts.Pruned count) = codes "pruned" ++ number_word count
+reply_text gap when (acts.Counts cutoff versions frozen inbox) =
+    codes "stats cutoff" ++ time_word cutoff ++ codes " versions" ++ number_word versions
+    ++ codes " frozen" ++ number_word frozen ++ codes " inbox" ++ number_word inbox
+reply_text gap when acts.NoTablet = codes "empty"
+reply_text gap when (acts.Schedules lines) = list_text gap (codes "schedules") schedule_text lines
+reply_text gap when (acts.Snapshots lines) = list_text gap (codes "snapshots") snapshot_text lines
+reply_text gap when (acts.Restorations lines) = list_text gap (codes "restorations") restoration_text lines
+reply_text gap when (acts.Clones lines) = list_text gap (codes "clones") clone_text lines
+reply_text gap when (acts.Tablets lines) = list_text gap (codes "tablets") tablet_text lines
+reply_text gap when (acts.Refused why) = codes "refused " ++ refusal_text why
+
+-- the reply of an entry with this stamp, on the line of a command
+abbrev pub told_text : ℕ → Reply → List ℕ
+told_text n reply = reply_text line_gap (time_word n) reply

@@ -25,7 +25,11 @@ pub mod Turns
 mod RightWindows
 mod RightClones
 mod Covers
-mod ScriptTexts
+mod WrittenCatalogs
+mod WrittenHistories
+mod WrittenHours
+mod WrittenRestores
+mod WrittenWork
 mod Settled
 mod KeptVersions
 mod Limits

@@ -3,4 +3,5 @@ pub mod FirstRead
 pub mod Runs
 pub mod Scripts
 pub mod Turns
+pub mod ScriptLines
 pub mod UndoneRestore

@@ -3,24 +3,21 @@ use Rattle.std.proofs.Common.{◌≡◌, ℕ, ◌+◌, List, [], ◌++◌, lengt
 use Rattle.std.specs.Prelude.{Option, Some, None, Result, Ok, Err}
 use Rattle.std.proofs.lemmas.List.{reverse-reverse, reverse-append}
 use Rattle.std.proofs.Math.Path.{fun_ext}
-use Rattle.model.specs.Acts.{CreateNamespace, CreateTable}
 use Rattle.model.specs.Entries.{Entry}
 use Rattle.row_values.specs.Elements.{AllOf}
 use Rattle.model.specs.History.{Legal}
 use Rattle.model.specs.Replies.{Right}
-use Rattle.model.specs.Scripts.{Numbered, ScriptAsked, ToMaster}
-use Rattle.model.specs.Scripts as scripts
+use Rattle.model.specs.Scripts.{Numbered, ScriptAsked}
 use Rattle.model.specs.Running.{run_of}
 use Rattle.law.specs.Scripts.{ScriptCovered}
 use Rattle.yb_script.specs.Script.{read_script, no_names}
 use Rattle.yb_script.specs.Seen.{slot_count, numbered_of}
-use Rattle.yb_script.specs.Shown.{IsMaking}
 use Rattle.yb_script.specs.Endings.{IsWhole, IsCut, IsBroken, IsRun, IsWriteFault, IsMemoryFault, IsRight, OfTold, entries_of_run, text_of_run, made_by, told_by}
 use Rattle.yb_script.specs.declared.script.ScriptCommand.{ScriptCommand}
 use Rattle.yb_script.proofs.Ordering.{IsScript}
 use Rattle.yb_script.proofs.Running.{appends-nothing}
 use Rattle.yb_script.proofs.ShownRuns.{runs_agree-take, numbered-take}
-use Rattle.yb_script.proofs.ShownAsked.{asked_of, making_of}
+use Rattle.yb_script.proofs.ShownAsked.{asked_of, covered_of}
 
 entries_are : (cs : List ScriptCommand) → IsScript cs → (k : ℕ) → made_by cs k ≡ entries_of_run cs k
 entries_are cs is k = (runs_agree-take k cs is.order is.within is.few).history ∙ ap (λ ns. reverse (run_of slot_count ns).history) (numbered-take k 0 no_names cs)
@@ -63,8 +60,8 @@ nothing_told (Some bytes) history count old none at_first = nothing_done (read_s
 
 -- what the law of runs says
 pub record RunsAreRight : Type 0 where
-  pub legal : (slots : ℕ) (commands : List Numbered) → AllOf (λ c. ScriptAsked c.command) commands → AllOf (λ c. ScriptCovered c.command) commands → Legal slots (run_of slots commands).history
-  pub right : (slots : ℕ) (commands : List Numbered) → AllOf (λ c. ScriptAsked c.command) commands → AllOf (λ c. ScriptCovered c.command) commands → Right slots (run_of slots commands).history
+  pub legal : (slots : ℕ) (commands : List Numbered) → AllOf (λ c. ScriptAsked slots c.command) commands → AllOf (λ c. ScriptCovered c.command) commands → Legal slots (run_of slots commands).history
+  pub right : (slots : ℕ) (commands : List Numbered) → AllOf (λ c. ScriptAsked slots c.command) commands → AllOf (λ c. ScriptCovered c.command) commands → Right slots (run_of slots commands).history
   pub legal_before : (slots : ℕ) (later earlier : List Entry) → Legal slots (later ++ earlier) → Legal slots earlier
   pub right_before : (slots : ℕ) (later earlier : List Entry) → Right slots (later ++ earlier) → Right slots earlier
 
@@ -72,19 +69,6 @@ first_all : (P : Numbered → Type 0) (k : ℕ) (cs : List Numbered) → AllOf P
 first_all P zero cs all = tt
 first_all P (suc k) [] all = tt
 first_all P (suc k) (c ∷ cs) all = (all.0, first_all P k cs all.1)
-
-covered : (c : scripts.ScriptCommand) → IsMaking c → ScriptCovered c
-covered (scripts.Tick micros) is = tt
-covered (scripts.ToMaster (CreateNamespace name)) is = tt
-covered (scripts.ToMaster (CreateTable namespace table tablets columns)) is = tt
-covered (scripts.ToMaster _) is = absurd is
-covered (scripts.WriteRows namespace table batch) is = tt
-covered (scripts.ReadRow namespace table key at) is = tt
-covered (scripts.ReadTable namespace table at) is = tt
-
-all_covered : (cs : List Numbered) → AllOf (λ c. IsMaking c.command) cs → AllOf (λ c. ScriptCovered c.command) cs
-all_covered [] all = tt
-all_covered (c ∷ cs) all = (covered c.command all.0, all_covered cs all.1)
 
 no_history : IsRight []
 no_history = record { legal = tt; right = tt }
@@ -94,8 +78,8 @@ right_none history none = rw none no_history
 
 first_right : RunsAreRight → (cs : List ScriptCommand) → IsScript cs → (k : ℕ) → IsRight (entries_of_run cs k)
 first_right law cs is k =
-    let asked_ = first_all (λ c. ScriptAsked c.command) k (numbered_of cs) (asked_of cs is.order is.within) in
-    let covers = all_covered (take k (numbered_of cs)) (first_all (λ c. IsMaking c.command) k (numbered_of cs) (making_of cs is.order is.within)) in
+    let asked_ = first_all (λ c. ScriptAsked slot_count c.command) k (numbered_of cs) (asked_of cs is.order is.within) in
+    let covers = first_all (λ c. ScriptCovered c.command) k (numbered_of cs) (covered_of cs is.order is.within) in
     let back = reverse-reverse (run_of slot_count (take k (numbered_of cs))).history in
     record {
       legal = subst (Legal slot_count) (sym back) (law.legal slot_count (take k (numbered_of cs)) asked_ covers);

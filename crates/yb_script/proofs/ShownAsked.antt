@@ -2,13 +2,14 @@
 use Rattle.std.proofs.Common.{◌≡◌, ℕ, ◌+◌, ◌^◌, ◌<◌, ◌≤◌, true, List, [], ◌∷◌, All, arith}
 use Rattle.std.proofs.lemmas.List.Elements.{All-head, All-tail}
 use Rattle.row_values.specs.Elements.{AllOf}
-use Rattle.model.specs.Entries.{IsName}
+use Rattle.row_values.specs.Batches.{IsKey}
+use Rattle.model.specs.Entries.{IsName, IsNamedBatch}
 use Rattle.model.specs.Scripts as scripts
-use Rattle.model.specs.Scripts.{ScriptAsked}
-use Rattle.yb_script.specs.Seen.{spoken, numbered_from, numbered_of}
+use Rattle.model.specs.Scripts.{ScriptAsked, key_alone}
+use Rattle.yb_script.specs.Seen.{slot_count, spoken, numbered_from, numbered_of}
 use Rattle.yb_script.specs.Script.{no_names, heard}
 use Rattle.yb_script.specs.Ordered.{InOrder, IsAsked, is_later}
-use Rattle.yb_script.specs.Shown.{IsMaking}
+use Rattle.law.specs.Scripts.{ScriptCovered}
 use Rattle.yb_script.specs.declared.script.Names.{Names}
 use Rattle.yb_script.specs.declared.script.ScriptCommand.{ScriptCommand}
 use Rattle.yb_script.specs.declared.script.ScriptCommand.TheVariants as script
@@ -20,18 +21,22 @@ record AreNames (names : Names) : Type 0 where
   table : IsName names.table
   column : IsName names.column
 
--- what a command of a script meets, and what it tells the master
+-- what a command of a script meets, and that the law covers it
 abbrev Meets : scripts.Numbered → Type 0
-Meets c = ScriptAsked c.command × IsMaking c.command
+Meets c = ScriptAsked slot_count c.command × ScriptCovered c.command
 
-later_meets : (names : Names) (c : ScriptCommand) → is_later c ≡ true → IsAsked c → AreNames names → ScriptAsked (spoken names c) × IsMaking (spoken names c)
-later_meets names (script.Tick micros) later asked are = (omega (arith, asked), tt {0})
+-- a read looks for its key alone
+alone : (key : List ℕ) → IsKey key → IsNamedBatch (key_alone key)
+alone key is = (omega arith, omega arith, ((is, (omega arith, tt {0})), tt {0}))
+
+later_meets : (names : Names) (c : ScriptCommand) → is_later c ≡ true → IsAsked c → AreNames names → ScriptAsked slot_count (spoken names c) × ScriptCovered (spoken names c)
+later_meets names (script.Tick micros) later asked are = (λ reading less. omega (arith, asked), tt {0})
 later_meets names (script.CreateNamespace name) later asked are = absurd cc
 later_meets names (script.CreateTable table column) later asked are = absurd cc
 later_meets names (script.Put key number) later asked are =
-    ((are.namespace, are.table, (omega arith, omega arith, ((asked, (omega arith, ((are.column, tt {0}), tt {0}))), tt {0}))), tt {0})
-later_meets names (script.Get key) later asked are = ((are.namespace, are.table, asked, tt {0}), tt {0})
-later_meets names (script.GetAt key at) later asked are = ((are.namespace, are.table, asked.0, asked.1), tt {0})
+    (λ reading less. (are.namespace, are.table, (omega arith, omega arith, ((asked, (omega arith, ((are.column, tt {0}), tt {0}))), tt {0})), tt {0}), tt {0})
+later_meets names (script.Get key) later asked are = (λ reading less. (are.namespace, are.table, alone key asked, tt {0}), tt {0})
+later_meets names (script.GetAt key at) later asked are = (λ reading less. (are.namespace, are.table, alone key asked.0, asked.1), tt {0})
 
 later_heard : (names : Names) (c : ScriptCommand) → is_later c ≡ true → AreNames names → AreNames (heard names c)
 later_heard names (script.Tick micros) later are = are
@@ -54,7 +59,7 @@ from_table line names [] ordered asked is = tt {0}
 from_table line names (script.CreateTable table column ∷ cs) ordered asked is =
     let c : ScriptCommand = script.CreateTable table column in
     let limits : IsName table × IsName column = All-head IsAsked c cs asked in (
-      ((is, limits.0, (omega arith, omega arith), (omega arith, omega arith), (limits.1, tt {0}), (tt {0}, tt {0})), tt {0}),
+      (λ reading less. (is, limits.0, (omega arith, omega arith), (omega arith, omega arith), (limits.1, tt {0}), (tt {0}, tt {0})), tt {0}),
       all_later 3 (line + 1) (heard names c) cs (omega arith) ordered.1 (All-tail IsAsked c cs asked) (record { namespace = is; table = limits.0; column = limits.1 }),
     )
 from_table line names (_ ∷ cs) ordered asked is = absurd (let no_ = ordered.0 in cc)
@@ -64,7 +69,7 @@ from_namespace line names [] ordered asked = tt {0}
 from_namespace line names (script.CreateNamespace name ∷ cs) ordered asked =
     let c : ScriptCommand = script.CreateNamespace name in
     let is : IsName name = All-head IsAsked c cs asked in
-    ((is, tt {0}), from_table (line + 1) (heard names c) cs ordered.1 (All-tail IsAsked c cs asked) is)
+    ((λ reading less. (is, tt {0}), tt {0}), from_table (line + 1) (heard names c) cs ordered.1 (All-tail IsAsked c cs asked) is)
 from_namespace line names (_ ∷ cs) ordered asked = absurd (let no_ = ordered.0 in cc)
 
 from_tick : (line : ℕ) (names : Names) (cs : List ScriptCommand) → InOrder 0 cs → All IsAsked cs → AllOf Meets (numbered_from line names cs)
@@ -72,7 +77,7 @@ from_tick line names [] ordered asked = tt {0}
 from_tick line names (script.Tick micros ∷ cs) ordered asked =
     let c : ScriptCommand = script.Tick micros in
     let soon : micros < 2 ^ 49 = All-head IsAsked c cs asked in
-    ((omega (arith, soon), tt {0}), from_namespace (line + 1) (heard names c) cs ordered.1 (All-tail IsAsked c cs asked))
+    ((λ reading less. omega (arith, soon), tt {0}), from_namespace (line + 1) (heard names c) cs ordered.1 (All-tail IsAsked c cs asked))
 from_tick line names (_ ∷ cs) ordered asked = absurd (let no_ = ordered.0 in cc)
 
 each : {A : Type 0} (P Q : A → Type 0) → ((x : A) → P x → Q x) → (xs : List A) → AllOf P xs → AllOf Q xs
@@ -80,9 +85,9 @@ each P Q gives [] all = tt {0}
 each P Q gives (x ∷ xs) all = (gives x all.0, each P Q gives xs all.1)
 
 -- the book's limits hold of each command
-pub asked_of : (commands : List ScriptCommand) → InOrder 0 commands → All IsAsked commands → AllOf (λ c. ScriptAsked c.command) (numbered_of commands)
-asked_of commands ordered asked = each Meets (λ c. ScriptAsked c.command) (λ c meets. meets.0) (numbered_of commands) (from_tick 0 no_names commands ordered asked)
+pub asked_of : (commands : List ScriptCommand) → InOrder 0 commands → All IsAsked commands → AllOf (λ c. ScriptAsked slot_count c.command) (numbered_of commands)
+asked_of commands ordered asked = each Meets (λ c. ScriptAsked slot_count c.command) (λ c meets. meets.0) (numbered_of commands) (from_tick 0 no_names commands ordered asked)
 
--- the master is told to make a namespace or a table, and nothing else
-pub making_of : (commands : List ScriptCommand) → InOrder 0 commands → All IsAsked commands → AllOf (λ c. IsMaking c.command) (numbered_of commands)
-making_of commands ordered asked = each Meets (λ c. IsMaking c.command) (λ c meets. meets.1) (numbered_of commands) (from_tick 0 no_names commands ordered asked)
+-- the law covers each command
+pub covered_of : (commands : List ScriptCommand) → InOrder 0 commands → All IsAsked commands → AllOf (λ c. ScriptCovered c.command) (numbered_of commands)
+covered_of commands ordered asked = each Meets (λ c. ScriptCovered c.command) (λ c meets. meets.1) (numbered_of commands) (from_tick 0 no_names commands ordered asked)

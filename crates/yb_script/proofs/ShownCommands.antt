@@ -6,17 +6,17 @@ use Rattle.row_values.specs.declared.value.Value.TheVariants.{Int}
 use Rattle.model.specs.Acts as acts
 use Rattle.model.specs.Looks.{cells_fault}
 use Rattle.model.specs.Parts.{Master}
-use Rattle.model.specs.Running as running
+use Rattle.model.specs.Texts.{row_text}
 use Rattle.row_values.specs.Store.{written}
 use Rattle.row_values.specs.Stamps as rule
-use Rattle.model.specs.Running.{Run, made_by, ran, with_text, line_of, performed, performed_all, last_text, columns_before, columns_placed}
+use Rattle.model.specs.Running.{Run, made_by, ran, with_text, text_of as text_told, performed, performed_all, followed, read_text, columns_before, columns_in}
 use Rattle.model.specs.Scripts as scripts
-use Rattle.model.specs.Scripts.{Time, asked_at, acts_after, key_alone}
+use Rattle.model.specs.Scripts.{Time, asked_at, found_by, change_under, write_into, read_from, key_alone}
 use Rattle.model.specs.Tablets.{Tablet, emptied}
 use Rattle.yb_script.specs.Runs.{State, Catalog, done, named, tabled, looked, wrote, read, got, keyed, keys_ask, keys_answer, read_answer, placed, is_placed, at_tablet, number_batch, number_cell, master_stamp, tablet_stamp, table_command}
 use Rattle.yb_script.specs.Texts as texts
 use Rattle.yb_script.specs.Texts.{text_of, reply_text}
-use Rattle.yb_script.specs.Seen.{slot_count, new_column, columns_of, reply_of, entry_of, ask_of, cell_of, act_of, batch_of, spoken}
+use Rattle.yb_script.specs.Seen.{slot_count, command_of, new_column, columns_of, reply_of, entry_of, ask_of, cell_of, act_of, batch_of, spoken}
 use Rattle.yb_script.specs.declared.event.Act.{Act}
 use Rattle.yb_script.specs.declared.event.Act.TheVariants.{Look, Change, Write, Read}
 use Rattle.yb_script.specs.declared.event.Ask.TheVariants.{Plan}
@@ -31,7 +31,7 @@ use Rattle.yb_script.specs.declared.event.Reply.TheVariants as replies
 use Rattle.yb_script.specs.declared.script.Names.{Names}
 use Rattle.yb_script.specs.declared.script.ScriptCommand.TheVariants as script
 use Rattle.yb_script.proofs.ShownParts.{empty_at, named_at, tabled_at, serving_at}
-use Rattle.yb_script.proofs.ShownActs.{the_place, self_eq, either_way, table_planned, keys_told}
+use Rattle.yb_script.proofs.ShownActs.{self_eq, either_way, table_planned, keys_told}
 use Rattle.yb_script.proofs.ShownTexts.{nothing_made, namespace_made, table_made, refused, newest_line, read_shown}
 use Rattle.yb_script.proofs.ShownEvents.{Shows, Does, made_entry, with_newest, performs, shows_next}
 use Rattle.yb_script.proofs.ShownDoings.{does_look, does_namespace, does_table, does_write, does_read}
@@ -43,21 +43,21 @@ pub record Goes (line : ℕ) (c : scripts.ScriptCommand) (told : List ℕ) (m : 
   pub done : (ran slot_count (record { line = line; command = c }) r).done ≡ r.done + 1
   pub few : length (ran slot_count (record { line = line; command = c }) r).history ≤ length r.history + 2
 
-text_is : (line : ℕ) (c : scripts.ScriptCommand) (after : Run) → after.stopped ≡ false
-    → with_text slot_count (record { line = line; command = c }) after ≡ record after { text = after.text ++ line_of line c after.history; done = after.done + 1 }
-text_is line c after still = rw still
+text_is : (text : List ℕ) (after : Run) → after.stopped ≡ false → with_text text after ≡ record after { text = after.text ++ text; done = after.done + 1 }
+text_is text after still = rw still
 
 ran_is : (line : ℕ) (c : scripts.ScriptCommand) (r after : Run) → r.stopped ≡ false → made_by slot_count c r ≡ after → after.stopped ≡ false
-    → ran slot_count (record { line = line; command = c }) r ≡ record after { text = after.text ++ line_of line c after.history; done = after.done + 1 }
+    → ran slot_count (record { line = line; command = c }) r ≡ record after { text = after.text ++ text_told line c r after.history; done = after.done + 1 }
 ran_is line c r after going is still =
-    ap (λ stops. if stops then r else with_text slot_count (record { line = line; command = c }) (made_by slot_count c r)) going
-    ∙ (ap (with_text slot_count (record { line = line; command = c })) is ∙ text_is line c after still)
+    ap (λ stops. if stops then r else with_text (text_told line c r (made_by slot_count c r).history) (made_by slot_count c r)) going
+    ∙ (ap (λ after. with_text (text_told line c r after.history) after) is ∙ text_is (text_told line c r after.history) after still)
 
 goes : (line : ℕ) (c : scripts.ScriptCommand) (told : List ℕ) (m : Master) (t : Tablet) (reading : ℕ) (made : List Entry) (r after : Run) → r.stopped ≡ false → made_by slot_count c r ≡ after
-    → Shows m t reading made after → after.text ≡ r.text → after.done ≡ r.done → line_of line c after.history ≡ told → length after.history ≤ length r.history + 2
+    → Shows m t reading made after → after.text ≡ r.text → after.done ≡ r.done → text_told line c r after.history ≡ told → length after.history ≤ length r.history + 2
     → Goes line c told m t reading made r
-goes line c told m t reading made r after going is h text done line_is few =
-    let whole : ran slot_count (record { line = line; command = c }) r ≡ record after { text = after.text ++ line_of line c after.history; done = after.done + 1 } =
+goes line c told m t reading made r after going is h text done told_is few =
+    let more : List ℕ = text_told line c r after.history in
+    let whole : ran slot_count (record { line = line; command = c }) r ≡ record after { text = after.text ++ more; done = after.done + 1 } =
     ran_is line c r after going is h.going in
     record {
       shows = subst (λ run. Shows m t reading made run) (sym whole)
@@ -65,6 +65,7 @@ goes line c told m t reading made r after going is h text done line_is few =
             going = h.going;
             read = h.read;
             soon = h.soon;
+            lag = h.lag;
             entries = h.entries;
             count = h.count;
             parts_master = h.parts_master;
@@ -72,7 +73,7 @@ goes line c told m t reading made r after going is h text done line_is few =
             master_low = h.master_low;
             tablet_low = h.tablet_low;
           });
-      text = ap (λ run. run.text) whole ∙ ap (λ front. front ++ line_of line c after.history) text ∙ ap (λ back. r.text ++ back) line_is;
+      text = ap (λ run. run.text) whole ∙ ap (λ front. front ++ more) text ∙ ap (λ back. r.text ++ back) told_is;
       done = ap (λ run. run.done) whole ∙ ap (λ n. n + 1) done;
       few = subst (λ run. length run.history ≤ length r.history + 2) (sym whole) few;
     }
@@ -81,13 +82,14 @@ goes line c told m t reading made r after going is h text done line_is few =
 
 pub goes_tick : (line micros : ℕ) (m : Master) (t : Tablet) (reading : ℕ) (made : List Entry) (r : Run) → micros < 2 ^ 49 → Shows m t reading made r
     → Goes line (scripts.Tick micros) [] m t micros made r
-unfolding made_by line_of
+unfolding made_by text_told
 goes_tick line micros m t reading made r soon h =
     goes line (scripts.Tick micros) [] m t micros made r (record r { reading = micros }) h.going refl
     (record {
       going = h.going;
       read = refl;
       soon = soon;
+      lag = h.lag;
       entries = h.entries;
       count = h.count;
       parts_master = h.parts_master;
@@ -100,9 +102,9 @@ goes_tick line micros m t reading made r soon h =
 -- The namespace
 
 pub goes_namespace : (line : ℕ) (name : List ℕ) (s : State) (t : Tablet) (r : Run) → Shows (empty_at s.clocks.master) t s.clocks.reading s.entries r → length r.history < 1000000
-    → Goes line (scripts.ToMaster (acts.CreateNamespace name)) (text_of line (named s name) (script.CreateNamespace name))
+    → Goes line (scripts.CreateNamespace name) (text_of line (named s name) (script.CreateNamespace name))
     (named_at (named s name).clocks.master (named s name).catalog.namespace (named s name).catalog.kept_from) t (named s name).clocks.reading (named s name).entries r
-unfolding made_by line_of named
+unfolding made_by text_told named
 goes_namespace line name s t r h few =
     let n : ℕ = master_stamp s.clocks in
     let act : Act = Change (commands.CreateNamespace name) [] in
@@ -111,7 +113,7 @@ goes_namespace line name s t r h few =
     let x : Entry = made_entry s.entries reading act n reply in
     let d : Does (act_of act) reading n (empty_at s.clocks.master) t (named_at n name n) t (reply_of reply) = does_namespace reading n s.clocks.master name t refl in
     let after : Run = with_newest (entry_of x) r in
-    goes line (scripts.ToMaster (acts.CreateNamespace name)) (texts.last_text line s.catalog.column (s.entries ++ x ∷ [])) (named_at n name n) t reading (s.entries ++ x ∷ []) r after
+    goes line (scripts.CreateNamespace name) (texts.last_text line s.catalog.column (s.entries ++ x ∷ [])) (named_at n name n) t reading (s.entries ++ x ∷ []) r after
     h.going (performs act n _ _ t t reading s.entries reply r h d few)
     (shows_next act n _ _ t t reading s.entries reply r h d)
     refl refl (newest_line line s.catalog.column s.entries x _ (namespace_made s.catalog.column n)) (omega arith)
@@ -120,11 +122,11 @@ goes_namespace line name s t r h few =
 
 pub goes_table : (line : ℕ) (table column : List ℕ) (s : State) (r : Run) → Shows (named_at s.clocks.master s.catalog.namespace s.catalog.kept_from) (emptied s.clocks.tablet) s.clocks.reading s.entries r
     → length r.history + 1 < 1000000
-    → Goes line (scripts.ToMaster (acts.CreateTable s.catalog.namespace table 1 (new_column column))) (text_of line (done s (script.CreateTable table column)) (script.CreateTable table column))
+    → Goes line (scripts.CreateTable s.catalog.namespace table 1 (new_column column)) (text_of line (done s (script.CreateTable table column)) (script.CreateTable table column))
     (tabled_at (done s (script.CreateTable table column)).clocks.master (done s (script.CreateTable table column)).catalog)
     (serving_at (done s (script.CreateTable table column)).clocks.tablet (done s (script.CreateTable table column)).catalog.made_at (done s (script.CreateTable table column)).versions)
     (done s (script.CreateTable table column)).clocks.reading (done s (script.CreateTable table column)).entries r
-unfolding made_by line_of looked tabled
+unfolding made_by text_told looked tabled
 goes_table line table column s r h few =
     let command = table_command s table column in
     let reading : ℕ = s.clocks.reading in
@@ -146,10 +148,10 @@ goes_table line table column s r h few =
     let does : Does (act_of act) reading last asked t (tabled_at last made) (serving_at last last []) (reply_of reply) =
     does_table reading last n s.catalog.kept_from s.catalog.namespace table column t refl in
     let x : Entry = made_entry (s.entries ++ look ∷ []) reading act last reply in
-    let c : scripts.ScriptCommand = scripts.ToMaster (acts.CreateTable s.catalog.namespace table 1 (new_column column)) in
+    let c : scripts.ScriptCommand = scripts.CreateTable s.catalog.namespace table 1 (new_column column) in
     goes line c (texts.last_text line column (s.entries ++ look ∷ [] ++ x ∷ [])) (tabled_at last made) (serving_at last last []) reading (s.entries ++ look ∷ [] ++ x ∷ []) r
     (with_newest (entry_of x) between) h.going
-    (ap (running.looked slot_count c) (performs ask n m asked t t reading s.entries plan r h d (omega (arith, few)))
+    (ap (followed slot_count (change_under (command_of command))) (performs ask n m asked t t reading s.entries plan r h d (omega (arith, few)))
     ∙ performs act last asked (tabled_at last made) t (serving_at last last []) reading (s.entries ++ look ∷ []) reply between after_look does (omega (arith, few)))
     (shows_next act last asked (tabled_at last made) t (serving_at last last []) reading (s.entries ++ look ∷ []) reply between after_look does)
     refl refl (newest_line line column (s.entries ++ look ∷ []) x _ (table_made column last)) (omega arith)
@@ -196,13 +198,13 @@ number_right : (c : Catalog) (number : ℤ) → cells_fault (columns_of c.column
 number_right c number = rw (self_eq c.column)
 
 -- the one write that follows the look
-write_follows : (c : Catalog) (reading : ℕ) (key : List ℕ) (number : ℤ)
-    → acts_after reading (scripts.WriteRows c.namespace c.table (batch_of (names_of c) key (Int number))) (reply_of (placed c)) ≡ act_of (Write at_tablet 1 (number_batch key number)) ∷ []
-write_follows c reading key number = rw (self_eq c.column)
+write_follows : (c : Catalog) (key : List ℕ) (number : ℤ)
+    → write_into (batch_of (names_of c) key (Int number)) (found_by (reply_of (placed c))) ≡ act_of (Write at_tablet 1 (number_batch key number)) ∷ []
+write_follows c key number = rw (self_eq c.column)
 
 pub goes_put : (line : ℕ) (key : List ℕ) (number : ℤ) (s : State) (r : Run) → ShowsTable s r → length r.history + 1 < 1000000
     → GoesTo line (spoken (names_of s.catalog) (script.Put key number)) (text_of line (done s (script.Put key number)) (script.Put key number)) (done s (script.Put key number)) r
-unfolding made_by line_of looked wrote
+unfolding made_by text_told looked wrote
 goes_put line key number s r h few =
     let cells : List NamedCell = number_cell s.catalog number in
     let right = number_right s.catalog number in
@@ -222,8 +224,8 @@ goes_put line key number s r h few =
     let x : Entry = made_entry (s.entries ++ look ∷ []) reading act n reply in
     let c : scripts.ScriptCommand = spoken (names_of s.catalog) (script.Put key number) in
     goes line c (texts.last_text line s.catalog.column (s.entries ++ look ∷ [] ++ x ∷ [])) m next_t reading (s.entries ++ look ∷ [] ++ x ∷ []) r (with_newest (entry_of x) between) h.going
-    (ap (running.looked slot_count c) (performs_keys s key cells None r right h (omega (arith, few)))
-    ∙ ap (λ acts. performed_all slot_count acts between) (write_follows s.catalog r.reading key number)
+    (ap (followed slot_count (write_into (batch_of (names_of s.catalog) key (Int number)))) (performs_keys s key cells None r right h (omega (arith, few)))
+    ∙ ap (λ acts. performed_all slot_count acts between) (write_follows s.catalog key number)
     ∙ performs act n m m t next_t reading (s.entries ++ look ∷ []) reply between after_look does (omega (arith, few)))
     (shows_next act n m m t next_t reading (s.entries ++ look ∷ []) reply between after_look does)
     refl refl (newest_line line s.catalog.column (s.entries ++ look ∷ []) x _ (nothing_made s.catalog.column n)) (omega arith)
@@ -248,10 +250,10 @@ reading_of s key time = scripts.ReadRow s.catalog.namespace s.catalog.table key 
 
 -- the read begins with its look
 begins_read : (s : State) (key : List ℕ) (time : Option Time) (at : Option ℕ) (r : Run) → ((reading : ℕ) → asked_at reading time ≡ at)
-    → made_by slot_count (reading_of s key time) r ≡ running.looked slot_count (reading_of s key time) (performed slot_count (acts.Look (ask_of (keys_ask s.catalog key [] at))) r)
+    → made_by slot_count (reading_of s key time) r ≡ followed slot_count (read_from (Some key) at) (performed slot_count (acts.Look (ask_of (keys_ask s.catalog key [] at))) r)
 unfolding made_by
 begins_read s key time at r is =
-    ap (λ asked. running.looked slot_count (reading_of s key time) (performed slot_count (acts.Look (acts.AskKeys s.catalog.namespace s.catalog.table (key_alone key) asked)) r)) (is r.reading)
+    ap (λ asked. followed slot_count (read_from (Some key) asked) (performed slot_count (acts.Look (acts.AskKeys s.catalog.namespace s.catalog.table (key_alone key) asked)) r)) (is r.reading)
 
 -- what a read tells, by the state that it leaves
 abbrev last_of : ℕ → State → List ℕ
@@ -260,26 +262,26 @@ last_of line s = texts.last_text line s.catalog.column s.entries
 goes_refused : (line : ℕ) (key : List ℕ) (time : Option Time) (at : Option ℕ) (s : State) (r : Run) (why : Refusal) → ((reading : ℕ) → asked_at reading time ≡ at)
     → keys_answer s.catalog at (master_stamp s.clocks) ≡ replies.Refused why → ShowsTable s r → length r.history + 1 < 1000000
     → GoesTo line (reading_of s key time) (last_of line (keyed s key [] at)) (keyed s key [] at) r
-unfolding line_of looked
+unfolding text_told looked
 goes_refused line key time at s r why is answer h few =
     let look : Entry = keys_entry s key [] at in
     let n : ℕ = master_stamp s.clocks in
     let between : Run = with_newest (entry_of look) r in
     let c : scripts.ScriptCommand = reading_of s key time in
-    let text : last_text c n (reply_of (keys_answer s.catalog at n)) (columns_before r.history) ≡ reply_text s.catalog.column n (keys_answer s.catalog at n) =
-    ap (λ reply. last_text c n (reply_of reply) (columns_before r.history)) answer ∙ refused s.catalog.column n why ∙ sym (ap (reply_text s.catalog.column n) answer) in
+    let text : read_text (row_text (columns_before r.history)) n (reply_of (keys_answer s.catalog at n)) ≡ reply_text s.catalog.column n (keys_answer s.catalog at n) =
+    ap (λ reply. read_text (row_text (columns_before r.history)) n (reply_of reply)) answer ∙ refused s.catalog.column n why ∙ sym (ap (reply_text s.catalog.column n) answer) in
     goes line c (texts.last_text line s.catalog.column (s.entries ++ look ∷ [])) (tabled_at n s.catalog) (serving_at s.clocks.tablet s.catalog.made_at s.versions) s.clocks.reading
     (s.entries ++ look ∷ []) r between h.going
     (begins_read s key time at r is
-    ∙ ap (running.looked slot_count c) (performs_keys s key [] at r refl h (omega (arith, few)))
-    ∙ ap (λ reply. performed_all slot_count (acts_after r.reading c (reply_of reply)) between) answer)
+    ∙ ap (followed slot_count (read_from (Some key) at)) (performs_keys s key [] at r refl h (omega (arith, few)))
+    ∙ ap (λ reply. performed_all slot_count (read_from (Some key) at (found_by (reply_of reply))) between) answer)
     (shows_keys s key [] at r refl h)
     refl refl (newest_line line s.catalog.column s.entries look _ text) (omega arith)
 
 goes_read : (line : ℕ) (key : List ℕ) (time : Option Time) (at : Option ℕ) (s : State) (r : Run) → ((reading : ℕ) → asked_at reading time ≡ at)
     → keys_answer s.catalog at (master_stamp s.clocks) ≡ placed s.catalog → ShowsTable s r → s.catalog.made_at ≤ s.clocks.tablet → length r.history + 1 < 1000000
     → GoesTo line (reading_of s key time) (last_of line (read (keyed s key [] at) key at)) (read (keyed s key [] at) key at) r
-unfolding line_of looked read
+unfolding text_told looked read
 goes_read line key time at s r is answer h made few =
     let next : State = keyed s key [] at in
     let look : Entry = keys_entry s key [] at in
@@ -295,14 +297,13 @@ goes_read line key time at s r is answer h made few =
     let does : Does (act_of act) reading n m t m next_t (reply_of reply) = does_read next n key at m refl (omega (arith, made)) in
     let x : Entry = made_entry (s.entries ++ look ∷ []) reading act n reply in
     let c : scripts.ScriptCommand = reading_of s key time in
-    let text : last_text c n (reply_of reply) (columns_before (entry_of look ∷ r.history)) ≡ reply_text s.catalog.column n reply =
-    ap (λ placed. last_text c n (reply_of reply) (columns_placed (reply_of placed))) answer
-    ∙ read_shown next key at n s.catalog.column s.catalog.namespace s.catalog.table time in
+    let text : read_text (row_text (columns_before (entry_of look ∷ r.history))) n (reply_of reply) ≡ reply_text s.catalog.column n reply =
+    ap (λ placed. read_text (row_text (columns_in (found_by (reply_of placed)))) n (reply_of reply)) answer
+    ∙ read_shown next key at n s.catalog.column in
     goes line c (texts.last_text line s.catalog.column (s.entries ++ look ∷ [] ++ x ∷ [])) m next_t reading (s.entries ++ look ∷ [] ++ x ∷ []) r (with_newest (entry_of x) between) h.going
     (begins_read s key time at r is
-    ∙ ap (running.looked slot_count c) (performs_keys s key [] at r refl h (omega (arith, few)))
-    ∙ ap (λ reply. performed_all slot_count (acts_after r.reading c (reply_of reply)) between) answer
-    ∙ ap (λ asked. performed slot_count (acts.Read (the_place ∷ []) 1 (Some key) asked (1 ∷ [])) between) (is r.reading)
+    ∙ ap (followed slot_count (read_from (Some key) at)) (performs_keys s key [] at r refl h (omega (arith, few)))
+    ∙ ap (λ reply. performed_all slot_count (read_from (Some key) at (found_by (reply_of reply))) between) answer
     ∙ performs act n m m t next_t reading (s.entries ++ look ∷ []) reply between after_look does (omega (arith, few)))
     (shows_next act n m m t next_t reading (s.entries ++ look ∷ []) reply between after_look does)
     refl refl (newest_line line s.catalog.column (s.entries ++ look ∷ []) x _ text) (omega arith)

@@ -159,6 +159,7 @@ shows_nothing = record {
   going = refl;
   read = refl;
   soon = omega arith;
+  lag = λ slot. refl;
   entries = refl;
   count = refl;
   parts_master = refl;

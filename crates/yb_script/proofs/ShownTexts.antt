@@ -7,9 +7,8 @@ use Rattle.row_values.specs.declared.value.Cell.{Cell}
 use Rattle.row_values.specs.declared.value.Value.{Value}
 use Rattle.row_values.specs.declared.value.Value.TheVariants.{Int, Text, Null}
 use Rattle.row_values.specs.Store.{present, read_of}
-use Rattle.model.specs.Scripts.{Time, ReadRow}
 use Rattle.model.specs.Texts as texts
-use Rattle.model.specs.Running as running
+use Rattle.model.specs.Running.{read_text}
 use Rattle.yb_script.specs.Runs.{State, rows_answer, read_answer}
 use Rattle.yb_script.specs.Texts.{time_text, value_text, rows_text, reply_text, last_text, entry_text}
 use Rattle.yb_script.specs.Seen.{reply_of, columns_of}
@@ -26,16 +25,16 @@ value_same (Text text) = refl
 value_same Null = refl
 
 -- the texts of replies
-pub nothing_made : (column : List ℕ) (n : ℕ) → texts.reply_text n (reply_of (replies.Ok None)) ≡ reply_text column n (replies.Ok None)
+pub nothing_made : (column : List ℕ) (n : ℕ) → texts.told_text n (reply_of (replies.Ok None)) ≡ reply_text column n (replies.Ok None)
 nothing_made column n = refl
 
-pub namespace_made : (column : List ℕ) (n : ℕ) → texts.reply_text n (reply_of (replies.Ok (Some idents.Namespace))) ≡ reply_text column n (replies.Ok (Some idents.Namespace))
+pub namespace_made : (column : List ℕ) (n : ℕ) → texts.told_text n (reply_of (replies.Ok (Some idents.Namespace))) ≡ reply_text column n (replies.Ok (Some idents.Namespace))
 namespace_made column n = refl
 
-pub table_made : (column : List ℕ) (n : ℕ) → texts.reply_text n (reply_of (replies.Ok (Some idents.Table))) ≡ reply_text column n (replies.Ok (Some idents.Table))
+pub table_made : (column : List ℕ) (n : ℕ) → texts.told_text n (reply_of (replies.Ok (Some idents.Table))) ≡ reply_text column n (replies.Ok (Some idents.Table))
 table_made column n = refl
 
-pub refused : (column : List ℕ) (n : ℕ) (why : Refusal) → texts.reply_text n (reply_of (replies.Refused why)) ≡ reply_text column n (replies.Refused why)
+pub refused : (column : List ℕ) (n : ℕ) (why : Refusal) → texts.told_text n (reply_of (replies.Refused why)) ≡ reply_text column n (replies.Refused why)
 refused column n UnknownTable = refl
 refused column n (Future now) = refl
 refused column n (TooOld asked cutoff) = ap (λ text. codes "refused too_old " ++ text) (sym (append_assoc (time_text asked) (codes " ") (time_text cutoff)))
@@ -65,18 +64,18 @@ pub newest_line : (line : ℕ) (column : List ℕ) (es : List Entry) (x : Entry)
     → decimal line ++ codes ": " ++ text ++ 10 ∷ [] ≡ last_text line column (es ++ x ∷ [])
 newest_line line column es x text is = ap (λ t. decimal line ++ codes ": " ++ t ++ 10 ∷ []) is ∙ sym (last_line line column es x)
 
-rows_shown : (s : State) (key : List ℕ) (x n : ℕ) (column namespace table : List ℕ) (time : Option Time)
-    → running.last_text (ReadRow namespace table key time) n (reply_of (rows_answer s key x)) (columns_of column) ≡ reply_text column n (rows_answer s key x)
-rows_shown s key x n column namespace table time =
+rows_shown : (s : State) (key : List ℕ) (x n : ℕ) (column : List ℕ)
+    → read_text (texts.row_text (columns_of column)) n (reply_of (rows_answer s key x)) ≡ reply_text column n (rows_answer s key x)
+rows_shown s key x n column =
     either_way (nat_lt x s.catalog.made_at)
     (λ old. rw old (refused column n (TooOld x s.catalog.made_at)))
     (λ kept. rw kept (row_shown column key (read_of s.versions key x)))
 
 -- the text of what a read answers
-pub read_shown : (s : State) (key : List ℕ) (at : Option ℕ) (n : ℕ) (column namespace table : List ℕ) (time : Option Time)
-    → running.last_text (ReadRow namespace table key time) n (reply_of (read_answer s key at n)) (columns_of column) ≡ reply_text column n (read_answer s key at n)
-read_shown s key None n column namespace table time = rows_shown s key n n column namespace table time
-read_shown s key (Some x) n column namespace table time =
+pub read_shown : (s : State) (key : List ℕ) (at : Option ℕ) (n : ℕ) (column : List ℕ)
+    → read_text (texts.row_text (columns_of column)) n (reply_of (read_answer s key at n)) ≡ reply_text column n (read_answer s key at n)
+read_shown s key None n column = rows_shown s key n n column
+read_shown s key (Some x) n column =
     either_way (nat_le n x)
     (λ late. rw late (refused column n (Future n)))
-    (λ soon. rw soon (rows_shown s key x n column namespace table time))
+    (λ soon. rw soon (rows_shown s key x n column))

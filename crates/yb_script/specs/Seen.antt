@@ -102,8 +102,8 @@ batch_of names key value = record { key = key; op = acts.NamedUpsert (record { c
 -- a command, by the names that stand before it
 abbrev pub spoken : Names → ScriptCommand → scripts.ScriptCommand
 spoken names (script.Tick micros) = scripts.Tick micros
-spoken names (script.CreateNamespace name) = scripts.ToMaster (acts.CreateNamespace name)
-spoken names (script.CreateTable table column) = scripts.ToMaster (acts.CreateTable names.namespace table 1 (new_column column))
+spoken names (script.CreateNamespace name) = scripts.CreateNamespace name
+spoken names (script.CreateTable table column) = scripts.CreateTable names.namespace table 1 (new_column column)
 spoken names (script.Put key number) = scripts.WriteRows names.namespace names.table (batch_of names key (Int number))
 spoken names (script.Get key) = scripts.ReadRow names.namespace names.table key None
 spoken names (script.GetAt key at) = scripts.ReadRow names.namespace names.table key (Some (scripts.Exact at))

@@ -23,8 +23,11 @@ pub mod Right
 pub mod Entries
 pub mod History
 pub mod Drawn
+pub mod Answers
+pub mod Windows
 pub mod Replies
 pub mod Stands
+pub mod Strict
 pub mod Retained
 pub mod Left
 pub mod Settling

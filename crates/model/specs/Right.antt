@@ -124,9 +124,16 @@ is_of ns (NamespaceCloned source target name to tables) table_before = same targ
 
 -- whether a change is a restore of the namespace to T, or a clone of it at T
 abbrev pub fixes : ChangeAct → Id → ℕ → Bool
+fixes (NamespaceMade namespace name) ns t = false
+fixes (NamespaceDropped namespace) ns t = false
+fixes (TableMade table namespace name columns) ns t = false
+fixes (TableRenamed table name) ns t = false
+fixes (TableDropped table) ns t = false
+fixes (ColumnAdded table column) ns t = false
+fixes (ColumnDropped table column) ns t = false
+fixes (RowChanged table key op) ns t = false
 fixes (NamespaceRestored namespace to) ns t = same namespace ns && (to == t)
 fixes (NamespaceCloned source target name to tables) ns t = same source ns && (to == t)
-fixes _ ns t = false
 
 -- whether the journal has such a change
 abbrev pub is_fixed : List Change → Id → ℕ → Bool

@@ -10,7 +10,7 @@ mod Restarts
 mod RetainedReads
 mod Returns
 mod RightEntries
-mod RightReads
+pub mod RightReads
 mod RightRestores
 mod Splits
 mod StandingReads
@@ -23,3 +23,6 @@ mod RightClones
 mod Covers
 mod ScriptTexts
 mod Settled
+mod Taken
+mod WrongWindows
+mod WrongLooks

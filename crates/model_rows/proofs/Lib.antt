@@ -9,7 +9,7 @@ mod Refusals
 mod Restarts
 mod RetainedReads
 mod Returns
-mod RightEntries
+pub mod RightEntries
 pub mod RightReads
 mod RightRestores
 mod Splits
@@ -26,3 +26,6 @@ mod Settled
 mod Taken
 mod WrongWindows
 mod WrongLooks
+pub mod StrictEntries
+pub mod StrictReads
+mod StrictRestores

@@ -1,5 +1,6 @@
--- How looks at a table and reads are answered: each reply with its cause, by the views at the stamp and at the asked time. What a
--- journal doesn't have is the master's: how far the catalog of a namespace is kept, and which tablets are active.
+-- How looks at a table and reads are answered: each reply with its cause, by the views at the stamp and at the asked
+-- time. What a journal doesn't have is the master's: how far the catalog of a namespace is kept, and which tablets are
+-- active.
 use Rattle.std.specs.Prelude.{◌≡◌, ℕ, ◌<◌, true, false, List, [], ◌∷◌, Option, Some, None, nat_le, if◌then◌else◌}
 use Rattle.row_values.specs.declared.rows.KeyedRow.{KeyedRow}
 use Rattle.row_values.specs.Ids.{Id}
@@ -16,14 +17,17 @@ use Rattle.model.specs.Drawn.{version_after}
 use Rattle.model.specs.Looks.{batch_fault, first_code, code_outside, place_of}
 use Rattle.model.specs.Right.{NamespaceFound, TableFound, IsActivePlace, RowsRight}
 
--- the version of a table's schema in the view at x: 1, the columns that were added and dropped, and the restores that made the table
--- current
+-- the version of a table's schema in the view at x: 1, the columns that were added and dropped, and the restores that
+-- made the table current
 abbrev pub version_at : List Change → ℕ → Id → ℕ
 version_at [] x id = 0
-version_at (c ∷ earlier) x id = if nat_le c.stamp x then version_after c.act id (version_at earlier x id) (table_at earlier) else version_at earlier x id
+version_at (c ∷ earlier) x id =
+    if nat_le c.stamp x
+    then version_after c.act id (version_at earlier x id) (table_at earlier)
+    else version_at earlier x id
 
--- a look at the table of a name at a stamp, now or at an asked time, and what it goes by: the journal before it, how far each
--- namespace's catalog is kept, and the tablets' activity
+-- a look at the table of a name at a stamp, now or at an asked time, and what it goes by: the journal before it, how
+-- far each namespace's catalog is kept, and the tablets' activity
 pub record TableLook : Type 0 where
   pub namespace : List ℕ
   pub table : List ℕ
@@ -49,7 +53,8 @@ pub record InReach (q : TableLook) (ns : Id) : Type 0 where
 -- the refusals that both looks begin with, in their order
 pub data LookRefused (q : TableLook) : Refusal → Type 0 where
   NoNamespace : (missing : HasNamespace q → ⊥) → LookRefused q UnknownNamespace
-  NotYet : (now : ℕ) (ns : HasNamespace q) (later : is_future q.at q.now ≡ true) (now_is : now ≡ q.now) → LookRefused q (Future now)
+  NotYet : (now : ℕ) (ns : HasNamespace q) (later : is_future q.at q.now ≡ true) (now_is : now ≡ q.now)
+      → LookRefused q (Future now)
   NotKept : (asked cutoff : ℕ) (ns : HasNamespace q) (over : is_future q.at q.now ≡ false)
       (below : is_below q.at (kept_from q.marks ns.id) ≡ true) (asked_is : asked ≡ time_of q.at q.now)
       (cutoff_is : cutoff ≡ kept_from q.marks ns.id) → LookRefused q (TooOld asked cutoff)
@@ -91,11 +96,12 @@ pub record HomeOf (activity : List Interval) (now : ℕ) (table : Id) (code : �
   pub active : active_at now interval ≡ true
   pub holds : in_range interval.low interval.high code ≡ true
 
--- how a look for the tablet of a batch's keys is answered. The first faulty cell decides, and then the first key that is in another
--- tablet than the first one
+-- how a look for the tablet of a batch's keys is answered. The first faulty cell decides, and then the first key that
+-- is in another tablet than the first one
 pub data KeysAnswer (q : TableLook) (batch : List NamedItem) : Reply → Type 0 where
   KeysRefused : (why : Refusal) (refused : LookRefused q why) → KeysAnswer q batch (Refused why)
-  Faulty : (why : Refusal) (table : Reached q) (fault : batch_fault table.found.view.columns batch ≡ Some why) → KeysAnswer q batch (Refused why)
+  Faulty : (why : Refusal) (table : Reached q) (fault : batch_fault table.found.view.columns batch ≡ Some why)
+      → KeysAnswer q batch (Refused why)
   Apart : (first other : ℕ) (table : Reached q) (sound : batch_fault table.found.view.columns batch ≡ None)
       (home : HomeOf q.activity q.now table.found.id (first_code batch)) (first_is : first ≡ first_code batch)
       (outside : code_outside home.interval batch ≡ Some other) → KeysAnswer q batch (Refused (CrossTablet first other))
@@ -105,12 +111,13 @@ pub data KeysAnswer (q : TableLook) (batch : List NamedItem) : Reply → Type 0 
       (placed : places ≡ place_of home.interval ∷ []) → KeysAnswer q batch (Placed places version columns)
 
 -- how a read is answered: with the rows of the tablets that it names, each of which serves in its slot
-pub data ReadAnswer (changes : List Change) (places : List At) (key : Option (List ℕ)) (at : Option ℕ) (columns : List ℕ) (now : ℕ)
-    (tablets : ℕ → Tablet) : Reply → Type 0 where
+pub data ReadAnswer (changes : List Change) (places : List At) (key : Option (List ℕ)) (at : Option ℕ)
+    (columns : List ℕ) (now : ℕ) (tablets : ℕ → Tablet) : Reply → Type 0 where
   GivesRows : (rows : List KeyedRow) (served : AllOf (λ place. serves (tablets place.slot) place.tablet ≡ true) places)
       (over : is_future at now ≡ false) (right : RowsRight changes (time_of at now) key columns tablets places rows)
       → ReadAnswer changes places key at columns now tablets (Rows rows)
-  ReadMoved : (slot : ℕ) (standing : Standing) → ReadAnswer changes places key at columns now tablets (Refused (Moved slot standing))
+  ReadMoved : (slot : ℕ) (standing : Standing)
+      → ReadAnswer changes places key at columns now tablets (Refused (Moved slot standing))
   ReadFenced : (operation : Id) → ReadAnswer changes places key at columns now tablets (Refused (Fenced operation))
   ReadStale : (kept : ℕ) → ReadAnswer changes places key at columns now tablets (Refused (StaleSchema kept))
   ReadNotYet : (end : ℕ) → ReadAnswer changes places key at columns now tablets (Refused (Future end))

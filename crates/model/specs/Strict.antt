@@ -1,5 +1,5 @@
--- Strictly right histories: each reply is one that its act can have, and where it speaks of the past it has its cause; what a restore or a
--- clone took stays as it was, and no change of its namespace comes too late for it.
+-- Strictly right histories: each reply is one that its act can have, and where it speaks of the past it has its cause;
+-- what a restore or a clone took stays as it was, and no change of its namespace comes too late for it.
 use Rattle.std.specs.Prelude.{◌≡◌, ◌≢◌, ◌⊎◌, ℕ, ◌≤◌, ◌<◌, true, Bool, List, [], ◌∷◌, Option}
 use Rattle.row_values.specs.Ids.{Id, same}
 use Rattle.row_values.specs.Elements.{In}
@@ -36,7 +36,8 @@ is_change_of ns (RowChanged table key op) owner = is_owned_by (owner table) ns
 is_change_of ns (NamespaceRestored namespace to) owner = same namespace ns
 is_change_of ns (NamespaceCloned source target name to tables) owner = same target ns
 
--- no change of a namespace is stamped at or before the time of a restore of it, or of a clone, that the journal has before it
+-- no change of a namespace is stamped at or before the time of a restore of it, or of a clone, that the journal has
+-- before it
 abbrev pub NoneLate : List made.Change → Type 0
 NoneLate [] = Unit {0}
 NoneLate (c ∷ earlier) = NoneLate earlier
@@ -94,9 +95,11 @@ CommandAnswer (CreateNamespace name) reply n ps changes =
     MakesOne reply ⊎ RefusedAs (λ why. IsNameTaken why ⊎ (why ≡ TooMany most_namespaces)) reply
 CommandAnswer (DropNamespace name) reply n ps changes =
     MakesNone reply
-    ⊎ RefusedAs (λ why. IsClosed why ⊎ ((table : Id) × (why ≡ NotEmpty table)) ⊎ ((schedule : Id) × (why ≡ UnderSchedule schedule))) reply
+    ⊎ RefusedAs (λ why. IsClosed why ⊎ ((table : Id) × (why ≡ NotEmpty table))
+    ⊎ ((schedule : Id) × (why ≡ UnderSchedule schedule))) reply
 CommandAnswer (CreateTable namespace table tablets columns) reply n ps changes =
-    MakesOne reply ⊎ RefusedAs (λ why. IsClosed why ⊎ IsNameTaken why ⊎ (why ≡ TooMany most_tables) ⊎ IsSlotsFull tablets why) reply
+    MakesOne reply
+    ⊎ RefusedAs (λ why. IsClosed why ⊎ IsNameTaken why ⊎ (why ≡ TooMany most_tables) ⊎ IsSlotsFull tablets why) reply
 CommandAnswer (AddColumn namespace table name kind) reply n ps changes =
     MakesNone reply ⊎ RefusedAs (λ why. IsTableClosed why ⊎ IsNameTaken why ⊎ (why ≡ TooMany most_columns)) reply
 CommandAnswer (DropColumn namespace table name) reply n ps changes =
@@ -108,10 +111,12 @@ CommandAnswer (Split namespace table code) reply n ps changes =
     MakesTwo reply ⊎ RefusedAs (λ why. IsTableClosed why ⊎ (why ≡ TooNarrow code) ⊎ IsSlotsFull 2 why) reply
 CommandAnswer (CreateSchedule interval retention namespace) reply n ps changes =
     MakesOne reply
-    ⊎ RefusedAs (λ why. IsClosed why ⊎ ((schedule : Id) × (why ≡ ScheduleExists schedule)) ⊎ (why ≡ BadPeriod interval retention)) reply
+    ⊎ RefusedAs (λ why. IsClosed why ⊎ ((schedule : Id) × (why ≡ ScheduleExists schedule))
+    ⊎ (why ≡ BadPeriod interval retention)) reply
 CommandAnswer (DeleteSchedule schedule) reply n ps changes = MakesNone reply ⊎ RefusedAs IsScheduleClosed reply
 CommandAnswer (TakeSnapshot schedule) reply n ps changes =
-    MakesOne reply ⊎ RefusedAs (λ why. IsScheduleClosed why ⊎ ((next_due : ℕ) × ((why ≡ NotDue next_due) × (n < next_due)))) reply
+    MakesOne reply
+    ⊎ RefusedAs (λ why. IsScheduleClosed why ⊎ ((next_due : ℕ) × ((why ≡ NotDue next_due) × (n < next_due)))) reply
 CommandAnswer (Restore schedule to) reply n ps changes = RestoreAnswer schedule to n ps.master reply
 CommandAnswer (CloneNamespace source target at) reply n ps changes =
     CloneAnswer (record { source = source; target = target; at = at; now = n; changes = changes; master = ps.master }) reply
@@ -141,8 +146,10 @@ look_at namespace table at n ps changes = record {
 
 abbrev pub LookAnswer : Ask → Reply → ℕ → Parts → List made.Change → Type 0
 LookAnswer (AskPlan command) reply n ps changes = reply ≡ Planned (plan_of command ps.master)
-LookAnswer (AskKeys namespace table batch at) reply n ps changes = KeysAnswer (look_at namespace table at n ps changes) batch reply
-LookAnswer (AskTable namespace table at) reply n ps changes = TableAnswer (look_at namespace table at n ps changes) reply
+LookAnswer (AskKeys namespace table batch at) reply n ps changes =
+    KeysAnswer (look_at namespace table at n ps changes) batch reply
+LookAnswer (AskTable namespace table at) reply n ps changes =
+    TableAnswer (look_at namespace table at n ps changes) reply
 LookAnswer AskWork reply n ps changes = (item : Option WorkItem) × (reply ≡ Work item)
 LookAnswer AskRemovable reply n ps changes = (targets : List Removal) × (reply ≡ Removable targets)
 LookAnswer AskPresent reply n ps changes = (slots : List ℕ) × (reply ≡ Present slots)
@@ -154,17 +161,22 @@ AnswerRight (Change command slots) reply n ps changes = ChangeAnswer command slo
 AnswerRight (Write place version batch) reply n ps changes =
     MakesNone reply
     ⊎ RefusedAs
-    (λ why. IsMoved place.slot why ⊎ ((operation : Id) × (why ≡ Fenced operation)) ⊎ ((kept : ℕ) × ((why ≡ StaleSchema kept) × (kept ≢ version))))
+    (λ why. IsMoved place.slot why ⊎ ((operation : Id) × (why ≡ Fenced operation))
+    ⊎ ((kept : ℕ) × ((why ≡ StaleSchema kept) × (kept ≢ version))))
     reply
-AnswerRight (Read places version key at columns) reply n ps changes = ReadAnswer changes places key at columns n ps.tablet reply
-AnswerRight (Cutoff slot) reply n ps changes = ((cutoff : ℕ) × (reply ≡ CutoffAt cutoff)) ⊎ RefusedAs (IsMoved slot) reply
-AnswerRight (Compact slot) reply n ps changes = ((before : ℕ) × (after : ℕ) × (reply ≡ Compacted before after)) ⊎ RefusedAs (IsMoved slot) reply
+AnswerRight (Read places version key at columns) reply n ps changes =
+    ReadAnswer changes places key at columns n ps.tablet reply
+AnswerRight (Cutoff slot) reply n ps changes =
+    ((cutoff : ℕ) × (reply ≡ CutoffAt cutoff)) ⊎ RefusedAs (IsMoved slot) reply
+AnswerRight (Compact slot) reply n ps changes =
+    ((before : ℕ) × (after : ℕ) × (reply ≡ Compacted before after)) ⊎ RefusedAs (IsMoved slot) reply
 AnswerRight (Send operation slot) reply n ps changes = (reply ≡ SentTo) ⊎ (reply ≡ Refused (NotPending operation))
 AnswerRight (Process slot other) reply n ps changes =
     ((operation : Id) × (kind : BodyKind) × (reply ≡ Done operation kind))
     ⊎ (reply ≡ Refused Idle)
     ⊎ ((wanted : ℕ) × ((reply ≡ Refused (OtherSlot wanted)) × (wanted ≢ other)))
-AnswerRight (Ack operation slot) reply n ps changes = (reply ≡ Acked) ⊎ (reply ≡ Refused (NotPending operation)) ⊎ (reply ≡ Refused NotDone)
+AnswerRight (Ack operation slot) reply n ps changes =
+    (reply ≡ Acked) ⊎ (reply ≡ Refused (NotPending operation)) ⊎ (reply ≡ Refused NotDone)
 AnswerRight (Advance operation) reply n ps changes =
     ((state : State) × (reply ≡ Advanced state))
     ⊎ (reply ≡ Refused (NotPending operation))
@@ -181,7 +193,8 @@ AnswerRight (Remove target slots) reply n ps changes =
 AnswerRight Prune reply n ps changes = (count : ℕ) × (reply ≡ Pruned count)
 AnswerRight (Restart slot) reply n ps changes = MakesNone reply
 AnswerRight (Stats slot) reply n ps changes =
-    ((cutoff : ℕ) × (versions : ℕ) × (frozen : ℕ) × (inbox : ℕ) × (reply ≡ Counts cutoff versions frozen inbox)) ⊎ (reply ≡ NoTablet)
+    ((cutoff : ℕ) × (versions : ℕ) × (frozen : ℕ) × (inbox : ℕ) × (reply ≡ Counts cutoff versions frozen inbox))
+    ⊎ (reply ≡ NoTablet)
 
 -- Strictly right histories
 
@@ -189,7 +202,8 @@ AnswerRight (Stats slot) reply n ps changes =
 abbrev pub StrictlyRight : ℕ → List Entry → Type 0
 StrictlyRight slots [] = Unit {0}
 StrictlyRight slots (e ∷ earlier) = StrictlyRight slots earlier
-    × (AnswerRight e.event.act e.reply e.stamp (replay slots earlier) (journal_of slots earlier) × TakenStays (journal_of slots (e ∷ earlier)))
+    × (AnswerRight e.event.act e.reply e.stamp (replay slots earlier) (journal_of slots earlier)
+    × TakenStays (journal_of slots (e ∷ earlier)))
 
 -- Codes divided
 

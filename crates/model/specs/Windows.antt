@@ -1,5 +1,6 @@
--- How restores by a schedule and clones are answered: each refusal exactly where its cause holds and no earlier one does, with its
--- values, and else acceptance. What a journal doesn't have is the master's: schedules, unfinished operations, and free slots.
+-- How restores by a schedule and clones are answered: each refusal exactly where its cause holds and no earlier one
+-- does, with its values, and else acceptance. What a journal doesn't have is the master's: schedules, unfinished
+-- operations, and free slots.
 use Rattle.std.specs.Prelude.{◌≡◌, ◌≢◌, ℕ, ◌≤◌, ◌<◌, ◌+◌, ◌-◌, false, not, ◌&&◌, ◌⊎◌, List, [], ◌∷◌, Option, Some, None, length, unwrap_or}
 use Rattle.std.specs.List.{filter}
 use Rattle.row_values.specs.Ids.{Id}
@@ -25,12 +26,15 @@ pub record MayRestore (m : Master) (schedule : Id) : Type 0 where
 
 -- how a restore by a schedule to a time is answered under its plan
 pub data RestoreAnswer (schedule : Id) (to now : ℕ) (m : Master) : Reply → Type 0 where
-  RestoreUnknown : (missing : schedule_with m.schedules schedule ≡ None) → RestoreAnswer schedule to now m (Refused UnknownSchedule)
+  RestoreUnknown : (missing : schedule_with m.schedules schedule ≡ None)
+      → RestoreAnswer schedule to now m (Refused UnknownSchedule)
   RestoreBusy : (operation : Id) (by : Schedule) (known : schedule_with m.schedules schedule ≡ Some by)
       (used : user m by.namespace ≡ Some operation) → RestoreAnswer schedule to now m (Refused (Busy operation))
-  RestoreEarly : (low_end : ℕ) (may : MayRestore m schedule) (low_is : low_end ≡ low may.by now) (below : to < low may.by now)
+  RestoreEarly : (low_end : ℕ) (may : MayRestore m schedule) (low_is : low_end ≡ low may.by now)
+      (below : to < low may.by now)
       → RestoreAnswer schedule to now m (Refused (TooEarly low_end))
-  RestoreLate : (end : ℕ) (may : MayRestore m schedule) (end_is : end ≡ now) (reached : low may.by now ≤ to) (beyond : now ≤ to)
+  RestoreLate : (end : ℕ) (may : MayRestore m schedule) (end_is : end ≡ now) (reached : low may.by now ≤ to)
+      (beyond : now ≤ to)
       → RestoreAnswer schedule to now m (Refused (Future end))
   RestoreAccepted : (made : Id) (may : MayRestore m schedule) (inside : IsInWindow may.by now to)
       → RestoreAnswer schedule to now m (Ok (made ∷ []))
@@ -55,7 +59,8 @@ count_of_names changes now clones = count_at changes now + length (filter (λ c.
 
 -- how many tablets of the namespace were active at a time
 abbrev pub count_active : List Change → List Interval → Id → ℕ → ℕ
-count_active changes activity ns to = length (filter (λ i. active_at to i && is_in ns (table_at changes to i.table)) activity)
+count_active changes activity ns to =
+    length (filter (λ i. active_at to i && is_in ns (table_at changes to i.table)) activity)
 
 -- a clone of a source under a target's name, to a time or without one to just before its stamp, and what it goes by
 pub record CloneLook : Type 0 where
@@ -100,10 +105,12 @@ pub data CloneAnswer (q : CloneLook) : Reply → Type 0 where
       → CloneAnswer q (Refused (NoSchedule namespace))
   CloneNamed : (taken_by : Id) (from : MayTakeFrom q) (has : HasName q.changes q.now q.master.clones q.target taken_by)
       → CloneAnswer q (Refused (NameTaken taken_by))
-  CloneTooMany : (limit : ℕ) (from : MayTakeFrom q) (free : (id : Id) → HasName q.changes q.now q.master.clones q.target id → ⊥)
+  CloneTooMany : (limit : ℕ) (from : MayTakeFrom q)
+      (free : (id : Id) → HasName q.changes q.now q.master.clones q.target id → ⊥)
       (full : count_of_names q.changes q.now q.master.clones ≡ most_namespaces) (limit_is : limit ≡ most_namespaces)
       → CloneAnswer q (Refused (TooMany limit))
-  CloneEarly : (low_end : ℕ) (may : MayClone q) (low_is : low_end ≡ low may.from.by q.now) (below : time_to_clone q < low may.from.by q.now)
+  CloneEarly : (low_end : ℕ) (may : MayClone q) (low_is : low_end ≡ low may.from.by q.now)
+      (below : time_to_clone q < low may.from.by q.now)
       → CloneAnswer q (Refused (TooEarly low_end))
   CloneLate : (end : ℕ) (may : MayClone q) (end_is : end ≡ q.now) (reached : low may.from.by q.now ≤ time_to_clone q)
       (beyond : q.now ≤ time_to_clone q) → CloneAnswer q (Refused (Future end))

@@ -1,5 +1,5 @@
 -- The history of a restore, and of one that undoes it, is strictly right.
-use Rattle.std.proofs.Common.{◌≡◌, ℕ, List, [], ◌∷◌, refl, true, true≢false, sym, inl, inr, subst, arith, ◌<◌}
+use Rattle.std.proofs.Common.{◌≡◌, ℕ, List, [], ◌∷◌, refl, true, true≢false, sym, inl, inr, subst, arith}
 use Rattle.std.proofs.lemmas.Bool.{leb-true, ltb-true}
 use Rattle.std.proofs.lemmas.Bool.Decides.{nat_tests}
 use Rattle.row_values.specs.Ids.{Id}

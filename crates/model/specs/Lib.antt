@@ -23,10 +23,13 @@ pub mod Right
 pub mod Entries
 pub mod History
 pub mod Drawn
+pub mod Answers
+pub mod Windows
 pub mod Replies
 pub mod Stands
 pub mod Entering
 pub mod Once
+pub mod Strict
 pub mod Retained
 pub mod Taking
 pub mod Left

@@ -12,8 +12,8 @@ mod Refusals
 mod Restarts
 mod RetainedReads
 mod Returns
-mod RightEntries
-mod RightReads
+pub mod RightEntries
+pub mod RightReads
 mod RightRestores
 mod Splits
 mod StandingReads
@@ -35,3 +35,9 @@ mod KeptVersions
 mod Limits
 mod Places
 mod Taken
+mod WrongJournals
+mod WrongWindows
+mod WrongLooks
+pub mod StrictEntries
+pub mod StrictReads
+mod StrictRestores

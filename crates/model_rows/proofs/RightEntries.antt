@@ -41,7 +41,7 @@ not_fixed_by (NamespaceRestored namespace then_) n earlier ns to plain before = 
 not_fixed_by (NamespaceCloned source target name then_ tables) n earlier ns to plain before = absurd (true≢false (sym plain))
 not_fixed_by _ n earlier ns to plain before = before
 
-not_fixed : (changes : List Change) (ns : Id) (to : ℕ) → AllPlain changes → is_fixed changes ns to ≡ false
+pub not_fixed : (changes : List Change) (ns : Id) (to : ℕ) → AllPlain changes → is_fixed changes ns to ≡ false
 not_fixed [] ns to plain = refl
 not_fixed (c ∷ earlier) ns to plain = not_fixed_by c.act c.stamp earlier ns to plain.0 (not_fixed earlier ns to plain.1)
 

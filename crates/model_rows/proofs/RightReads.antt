@@ -24,7 +24,7 @@ made_right =
     let named = none_late (namespace_made ∷ []) (refl, tt) in
     (((tt, (tt, named)), (tt, named)), (tt, none_late (table_made ∷ namespace_made ∷ []) (refl, (refl, tt))))
 
-written_right : Right 64 written.entries
+pub written_right : Right 64 written.entries
 unfolding the_book
 written_right =
     let late = none_late (table_made ∷ namespace_made ∷ []) (refl, (refl, tt)) in

@@ -1,5 +1,5 @@
 -- The parts after a first write stand for its journal, and wouldn't without the version that it wrote.
-use Rattle.std.proofs.Common.{◌≡◌, ℕ, false, [], ◌∷◌, refl, arith, ap, sym, subst}
+use Rattle.std.proofs.Common.{◌≡◌, ℕ, false, [], ◌∷◌, List, ◌≤◌, inl, inr, refl, arith, ap, sym, subst}
 use Rattle.std.proofs.lemmas.Bool.{true≢false, leb-true, ltb-true}
 use Rattle.std.proofs.lemmas.Bool.Decides.{nat_tests}
 use Rattle.row_values.specs.Elements.{In}
@@ -7,6 +7,8 @@ use Rattle.model.specs.Journal.{row_at}
 use Rattle.model.specs.Parts.{Parts}
 use Rattle.row_values.specs.Store.{read_of}
 use Rattle.model.specs.Stands.{Stands, LiveStands, Cover}
+use Rattle.model.specs.Activity.{Interval}
+use Rattle.model.specs.Strict.{Divides, IsRange}
 use Rattle.model.specs.Tablets.{FrozenSet, is_empty}
 use Rattle.model_rows.proofs.Numbers.{none_is_not_one}
 use Rattle.model_rows.specs.Computed.{the_book}
@@ -53,3 +55,23 @@ written_covers = λ table code time below there. grind (arith, nat_tests)
 -- ranges that leave codes out don't cover
 gap_in_cover : Cover (record (since 2) { high = 30000 } ∷ []) changes → ⊥
 gap_in_cover covers = none_is_not_one (covers (T 1) 40000 (early 3) (ltb-true _ _ refl) refl)
+
+-- a range that ends beyond the codes covers them, but doesn't divide them
+
+abbrev too_wide : List Interval
+too_wide = record (since 2) { high = 70000 } ∷ []
+
+wide_covers : Cover too_wide changes
+unfolding the_book
+wide_covers = λ table code time below there. grind (arith, nat_tests)
+
+beyond_the_codes : Divides too_wide changes → ⊥
+beyond_the_codes divides = let within : 70000 ≤ 65536 = (divides.ranges (record (since 2) { high = 70000 }) (inl refl)).within in omega arith
+
+written_divides : Divides written.parts.master.activity changes
+unfolding the_book
+written_divides = record { cover = written_covers; ranges = λ i inside. whole i inside }
+  where
+    whole : (i : Interval) → In i (since 2 ∷ []) → IsRange i.low i.high
+    whole i (inl e) = subst (λ j. IsRange j.low j.high) e (record { some = ltb-true _ _ refl; within = leb-true _ _ refl })
+    whole i (inr inside) = absurd inside

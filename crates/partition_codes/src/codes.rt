@@ -1,6 +1,7 @@
-ghost use Rattle.std.specs.Prelude.{◌≡◌, ◌<◌, ◌≤◌, ◌⊎◌, ℕ, Some, [], ◌∷◌, length, slice_get, IfOk, MatchResult};
+ghost use Rattle.std.specs.Prelude.{◌≡◌, ◌<◌, ◌≤◌, ◌+◌, ◌⊎◌, ℕ, Some, [], ◌∷◌, length, slice_get, IfOk, MatchResult};
 ghost use Rattle.row_values.specs.Codes.{code_of};
-ghost use Rattle.partition_codes.specs.Ranges.{Divide, all_codes, share_of};
+ghost use Rattle.row_values.specs.Ranges.{share_from};
+ghost use Rattle.partition_codes.specs.Ranges.{Divide, whole_range};
 
 use crate::range::{Range, TooNarrow};
 use row_values::{Key, NoMemory, Records};
@@ -22,8 +23,8 @@ pub fn shares(alloc: Global, n: u32) -> Result<Records<Range>, NoMemory>
     requires some { 1 ≤ n }
     requires few { n ≤ 64 }
     ensures count { IfOk result (λ r. length r ≡ n) }
-    ensures each { IfOk result (λ r. (i : ℕ) → i < n → slice_get r i ≡ Some (share_of n i)) }
-    ensures cover { IfOk result (λ r. Divide all_codes r) }
+    ensures each { IfOk result (λ r. (i : ℕ) → i < n → slice_get r i ≡ Some (record { low = share_from n i; high = share_from n (i + 1) })) }
+    ensures cover { IfOk result (λ r. Divide whole_range r) }
 {
     let mut shares = Records::new(alloc);
     for i in 0..n {

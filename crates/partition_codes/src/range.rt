@@ -1,10 +1,11 @@
 ghost use Rattle.std.specs.Prelude.{◌≡◌};
-ghost use Rattle.partition_codes.specs.Ranges.{holds};
+ghost use Rattle.row_values.specs.Ranges.{in_range};
 
 use row_values::{Copied, NoMemory};
 use std::marker::Model;
 
 /// The codes from `low` up to and without `high`: at least one code, and none above 65535.
+/// Contracts see it as the book's.
 #[derive(Clone, Copy, Debug, PartialEq, Eq, PartialOrd, Ord, Hash)]
 pub struct Range {
     pub low: u32,
@@ -12,15 +13,15 @@ pub struct Range {
 }
 
 impl Model for Range {
-    ghost use Rattle.partition_codes.specs.Span.{Span, IsRange};
+    ghost use Rattle.row_values.specs.Ranges.{Range, IsRange};
 
-    ghost Value = { Span };
+    ghost Value = { Range };
 
     ghost view = { λ r. record { low = r.low; high = r.high } };
 
     ghost invariant = { λ r. IsRange (record { low = r.low; high = r.high }) };
 
-    ghost inverse = { λ s. record { low = s.low; high = s.high } };
+    ghost inverse = { λ v. record { low = v.low; high = v.high } };
 }
 
 /// A code that is not strictly inside a range, whose low end this is.
@@ -32,7 +33,7 @@ pub struct TooNarrow {
 impl Range {
     /// Whether a code is in the range.
     pub fn holds(self, code: u16) -> bool
-        ensures exact { result ≡ holds code self }
+        ensures exact { result ≡ in_range self.low self.high code }
     {
         let code = u32::from(code);
         self.low <= code && code < self.high

@@ -1,5 +1,6 @@
 -- The commands that change namespaces, tables and columns.
 use Rattle.std.specs.Prelude.{List, [], ◌∷◌, codes}
+use Rattle.table_schema.specs.Seen.{column_kind_from}
 use Rattle.script_places.specs.declared.place.Place.TheVariants.{Tablets, Name, Number, Column, Columns}
 use Rattle.script_places.specs.Places.{Form}
 use Rattle.script_lang.specs.declared.command.ScriptCommand.{ScriptCommand}
@@ -22,7 +23,7 @@ abbrev pub add_column : Form ScriptCommand
 add_column = record {
   word = codes "add_column";
   places = Name ∷ Name ∷ Column ∷ [];
-  makes = λ namespace table column. AddColumn namespace table column.name column.kind;
+  makes = λ namespace table column. AddColumn namespace table column.name (column_kind_from column.kind);
 }
 
 abbrev pub drop_column : Form ScriptCommand

@@ -58,7 +58,7 @@ fn create_table(with: Reading, words: &[Bytes]) -> Result<ScriptCommand, LineErr
     })
 }
 
-#[tactic(auto, unfolding(script_places::specs::Places::read_form))]
+#[tactic(auto, using(table_schema::proofs::SameKinds::column_kind_again), unfolding(script_places::specs::Places::read_form))]
 fn add_column(with: Reading, words: &[Bytes]) -> Result<ScriptCommand, LineError>
     ensures exact { Gives same result (read_form with.slots catalog.add_column words.now) }
 {

@@ -3,9 +3,7 @@ use Rattle.std.proofs.Common.{◌≡◌, ℕ, ◌⊎◌, inl, inr, Bool, true, f
 use Rattle.std.specs.Prelude.{bytes_eq}
 use Rattle.std.specs.List.{AllByRecursion}
 use Rattle.std.proofs.lemmas.List.{append-nil}
-use Rattle.table_schema.specs.declared.kind.Kind.{Kind}
-use Rattle.table_schema.specs.declared.kind.Kind.TheVariants.{Int, Text}
-use Rattle.table_schema.specs.declared.column.NewColumn.{NewColumn}
+use Rattle.row_values.specs.Schema.{ColumnKind, IntColumn, TextColumn, NewColumn}
 use Rattle.script_words.specs.declared.cause.Cause.{Cause}
 use Rattle.script_words.specs.declared.cause.Cause.TheVariants.{BadName, RepeatedColumn}
 use Rattle.script_words.specs.Reading.{◌>>=◌}
@@ -16,20 +14,20 @@ use Rattle.script_places.specs.Spelling.{kind_word, column_word, FitsColumn, Are
 use Rattle.script_places.specs.Grammar.{IsColumn, ColumnsRefused}
 use Rattle.script_places.proofs.Cuts.{same_words, cut_whole, name_cut}
 
-kind_by : (w : Word) (int text : Bool) (kind : Kind) → bytes_eq w (codes "int") ≡ int → bytes_eq w (codes "text") ≡ text
-    → cond int (Some Int) (cond text (Some Text) None) ≡ Some kind → w ≡ kind_word kind
-kind_by w true text kind int is e = let same : Int ≡ kind = cc in subst (λ (k : Kind). w ≡ kind_word k) same (same_words w (codes "int") int)
-kind_by w false true kind int is e = let same : Text ≡ kind = cc in subst (λ (k : Kind). w ≡ kind_word k) same (same_words w (codes "text") is)
+kind_by : (w : Word) (int text : Bool) (kind : ColumnKind) → bytes_eq w (codes "int") ≡ int → bytes_eq w (codes "text") ≡ text
+    → cond int (Some IntColumn) (cond text (Some TextColumn) None) ≡ Some kind → w ≡ kind_word kind
+kind_by w true text kind int is e = let same : IntColumn ≡ kind = cc in subst (λ (k : ColumnKind). w ≡ kind_word k) same (same_words w (codes "int") int)
+kind_by w false true kind int is e = let same : TextColumn ≡ kind = cc in subst (λ (k : ColumnKind). w ≡ kind_word k) same (same_words w (codes "text") is)
 kind_by w false false kind int is e = absurd cc
 
-kind_is : (w : Word) (kind : Kind) → kind_of w ≡ Some kind → w ≡ kind_word kind
+kind_is : (w : Word) (kind : ColumnKind) → kind_of w ≡ Some kind → w ≡ kind_word kind
 unfolding kind_of
 kind_is w kind e = kind_by w (bytes_eq w (codes "int")) (bytes_eq w (codes "text")) kind refl refl e
 
-kind_again : (kind : Kind) → kind_of (kind_word kind) ≡ Some kind
+kind_again : (kind : ColumnKind) → kind_of (kind_word kind) ≡ Some kind
 unfolding kind_of
-kind_again Int = refl
-kind_again Text = refl
+kind_again IntColumn = refl
+kind_again TextColumn = refl
 
 no_kind : kind_of [] ≡ None
 unfolding kind_of
@@ -41,17 +39,17 @@ column_again column fits =
     let cut = name_cut 58 column.name (kind_word column.kind) refl fits in
     rw (cut.0, cut.1, fits, kind_again column.kind) refl
 
-abbrev named : Word → Kind → NewColumn
+abbrev named : Word → ColumnKind → NewColumn
 named w kind = record { name = before 58 w; kind = kind }
 
-abbrev column_by : Word → Bool → Option Kind → Result NewColumn Cause
+abbrev column_by : Word → Bool → Option ColumnKind → Result NewColumn Cause
 column_by w name kind = cond name (wanted BadName kind >>= λ k. Ok (named w k)) (Err BadName)
 
-by_cut : (w : Word) (kind : Kind) → kind_of (behind 58 w) ≡ Some kind → (w ≡ before 58 w ++ (58 ∷ behind 58 w)) ⊎ (behind 58 w ≡ []) → w ≡ before 58 w ++ (58 ∷ kind_word kind)
+by_cut : (w : Word) (kind : ColumnKind) → kind_of (behind 58 w) ≡ Some kind → (w ≡ before 58 w ++ (58 ∷ behind 58 w)) ⊎ (behind 58 w ≡ []) → w ≡ before 58 w ++ (58 ∷ kind_word kind)
 by_cut w kind is (inl whole) = whole ∙ ap (λ (bs : List ℕ). before 58 w ++ (58 ∷ bs)) (kind_is (behind 58 w) kind is)
 by_cut w kind is (inr none) = absurd (let e : None ≡ Some kind = sym no_kind ∙ sym (ap kind_of none) ∙ is in cc)
 
-is_column_by : (w : Word) (name : Bool) (kind : Option Kind) (column : NewColumn) → is_name (before 58 w) ≡ name → kind_of (behind 58 w) ≡ kind
+is_column_by : (w : Word) (name : Bool) (kind : Option ColumnKind) (column : NewColumn) → is_name (before 58 w) ≡ name → kind_of (behind 58 w) ≡ kind
     → column_by w name kind ≡ Ok column → (w ≡ column_word column) × FitsColumn column
 is_column_by w true (Some k) column name kind e =
     let same : named w k ≡ column = cc in
@@ -69,7 +67,7 @@ refused_for cause = Err cause
 same_cause : (c d : Cause) → refused_for c ≡ refused_for d → c ≡ d
 same_cause c d e = cc
 
-cause_by : (w : Word) (name : Bool) (kind : Option Kind) (cause : Cause) → column_by w name kind ≡ Err cause → cause ≡ BadName
+cause_by : (w : Word) (name : Bool) (kind : Option ColumnKind) (cause : Cause) → column_by w name kind ≡ Err cause → cause ≡ BadName
 cause_by w true (Some k) cause e = absurd cc
 cause_by w true None cause e = sym (same_cause BadName cause e)
 cause_by w false kind cause e = sym (same_cause BadName cause e)

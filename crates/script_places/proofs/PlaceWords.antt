@@ -4,7 +4,7 @@ use Rattle.std.specs.Prelude.{nat_le, bytes_eq, decimal}
 use Rattle.std.specs.List.{AllByRecursion, list_all}
 use Rattle.std.proofs.lemmas.Bool.{and_parts, and_from}
 use Rattle.std.proofs.lemmas.List.{append-nil, length-map}
-use Rattle.table_schema.specs.declared.column.NewColumn.{NewColumn}
+use Rattle.row_values.specs.Schema.{NewColumn}
 use Rattle.script_words.specs.declared.cause.Cause.{Cause}
 use Rattle.script_words.specs.declared.cause.Cause.TheVariants.{BadName, BadKey, BadNumber, BadIdentifier, BadTime, NoSuchSlot}
 use Rattle.script_words.specs.Reading.{◌>>=◌}

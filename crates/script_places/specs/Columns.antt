@@ -1,17 +1,15 @@
 -- New columns.
 use Rattle.std.specs.Prelude.{ℕ, Bool, if◌then◌else◌, List, [], ◌∷◌, ◌++◌, Option, Some, None, Result, Ok, Err, codes, bytes_eq}
 use Rattle.std.specs.List.{list_any}
-use Rattle.table_schema.specs.declared.kind.Kind.{Kind}
-use Rattle.table_schema.specs.declared.kind.Kind.TheVariants.{Int, Text}
-use Rattle.table_schema.specs.declared.column.NewColumn.{NewColumn}
+use Rattle.row_values.specs.Schema.{ColumnKind, IntColumn, TextColumn, NewColumn}
 use Rattle.script_words.specs.declared.cause.Cause.{Cause}
 use Rattle.script_words.specs.declared.cause.Cause.TheVariants.{BadName, RepeatedColumn}
 use Rattle.script_words.specs.Reading.{◌>>=◌}
 use Rattle.script_places.specs.Words.{Word, next_of, before, behind, wanted}
 use Rattle.script_places.specs.Names.{is_name}
 
-unfoldable pub kind_of : List ℕ → Option Kind
-kind_of w = if bytes_eq w (codes "int") then Some Int else if bytes_eq w (codes "text") then Some Text else None
+unfoldable pub kind_of : List ℕ → Option ColumnKind
+kind_of w = if bytes_eq w (codes "int") then Some IntColumn else if bytes_eq w (codes "text") then Some TextColumn else None
 
 -- `name:kind`
 unfoldable pub column_of : List ℕ → Result NewColumn Cause

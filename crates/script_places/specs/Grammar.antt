@@ -1,7 +1,7 @@
 -- Which words spell which command, and which is the first wrong one where they spell none.
 use Rattle.std.specs.Prelude.{◌≡◌, ℕ, ◌≤◌, ◌^◌, Bool, true, false, not, ◌&&◌, ◌||◌, nat_lt, List, [], ◌∷◌, ◌++◌, ◌⊎◌, codes, decimal, bytes_eq}
 use Rattle.row_values.specs.declared.value.Value.{Value}
-use Rattle.table_schema.specs.declared.column.NewColumn.{NewColumn}
+use Rattle.row_values.specs.Schema.{NewColumn}
 use Rattle.row_values.specs.Ids.{Kind, Id}
 use Rattle.yb_ident.specs.Seen.{kind_of}
 use Rattle.script_words.specs.declared.cause.Cause.{Cause}

@@ -1,6 +1,6 @@
 -- What the places of a command make of its words, from left to right.
 use Rattle.std.specs.Prelude.{ℕ, if◌then◌else◌, List, [], ◌∷◌, Result, Ok, Err, bytes_eq}
-use Rattle.table_schema.specs.declared.column.NewColumn.{NewColumn}
+use Rattle.row_values.specs.Schema.{NewColumn}
 use Rattle.row_values.specs.Ids.{Id}
 use Rattle.yb_ident.specs.Seen.{kind_of}
 use Rattle.script_words.specs.declared.cause.Cause.{Cause}

@@ -3,9 +3,7 @@ use Rattle.std.specs.Prelude.{◌≡◌, ℕ, ◌≤◌, ◌<◌, ◌^◌, ◌+�
 use Rattle.std.specs.List.{AllByRecursion}
 use Rattle.row_values.specs.declared.value.Value.{Value}
 use Rattle.row_values.specs.declared.value.Value.TheVariants as values
-use Rattle.table_schema.specs.declared.kind.Kind.{Kind}
-use Rattle.table_schema.specs.declared.kind.Kind.TheVariants as kinds
-use Rattle.table_schema.specs.declared.column.NewColumn.{NewColumn}
+use Rattle.row_values.specs.Schema.{ColumnKind, IntColumn, TextColumn, NewColumn}
 use Rattle.row_values.specs.Ids as ids
 use Rattle.yb_ident.specs.Seen.{kind_of}
 use Rattle.yb_ident.specs.Layout.{Reads}
@@ -43,9 +41,9 @@ cell_word cell = cell.column ++ (61 ∷ value_word cell.value)
 abbrev pub FitsCell : NamedCell → Type 0
 FitsCell cell = (is_name cell.column ≡ true) × FitsValue cell.value
 
-abbrev pub kind_word : Kind → Word
-kind_word kinds.Int = codes "int"
-kind_word kinds.Text = codes "text"
+abbrev pub kind_word : ColumnKind → Word
+kind_word IntColumn = codes "int"
+kind_word TextColumn = codes "text"
 
 abbrev pub column_word : NewColumn → Word
 column_word column = column.name ++ (58 ∷ kind_word column.kind)

@@ -1,6 +1,7 @@
 //! New columns.
 
-ghost use Rattle.std.specs.Prelude.{◌≡◌, []};
+ghost use Rattle.std.specs.Prelude.{◌≡◌, [], option_map};
+ghost use Rattle.table_schema.specs.Seen.{column_kind_of};
 ghost use Rattle.script_words.specs.Reading.{Gives, same};
 ghost use Rattle.script_places.specs.Columns.{kind_of, column_of, column_at, has_name, column_behind, columns_from};
 
@@ -13,7 +14,7 @@ use table_schema::{Kind, NewColumn};
 
 #[tactic(auto, unfolding(crate::specs::Columns::kind_of))]
 fn kind(word: &[u8]) -> Option<Kind>
-    ensures exact { result ≡ kind_of word.now }
+    ensures exact { option_map column_kind_of result ≡ kind_of word.now }
 {
     if word == b"int".as_slice() {
         Some(Kind::Int)

@@ -1,15 +1,12 @@
 -- What keeps a schema: its ids below the next one and rising, its names apart.
-use Rattle.std.proofs.Common.{◌≡◌, ◌≢◌, ◌∙◌, ℕ, suc, ◌+◌, ◌<◌, ◌≤◌, Bool, true, false, not, List, [], ◌∷◌, length, find, All, AllPairs, Contains, Option, Some, None, arith, sym, refl, cond, true≢false}
+use Rattle.std.proofs.Common.{◌≡◌, ◌≢◌, ◌∙◌, ℕ, suc, ◌+◌, ◌<◌, ◌≤◌, Bool, true, false, not, List, [], ◌∷◌, length, All, AllPairs, Contains, Option, Some, None, arith, sym, refl, cond, true≢false}
 use Rattle.std.specs.Str.{bytes_eq}
 use Rattle.std.proofs.lemmas.List.Elements.{All-cons, All-nil, All-push, All-filter, All-weaker, All-contains_itself}
 use Rattle.std.proofs.lemmas.List.Kept.{AllPairs-cons, AllPairs-filter}
 use Rattle.std.proofs.lemmas.List.Quantifiers.{all_pairs_push}
 use Rattle.std.proofs.lemmas.Slice.Eq.{bytes_eq-Decides}
-use Rattle.table_schema.specs.declared.column.Column.{Column}
-use Rattle.table_schema.specs.declared.column.NewColumn.{NewColumn}
-use Rattle.table_schema.specs.declared.kind.Kind.{Kind}
-use Rattle.table_schema.specs.SchemaRecord.{SchemaRecord, IsSchema}
-use Rattle.table_schema.specs.Columns.{is_named, column_of, first_schema, with_column, without_column, numbered, NoIdReturns}
+use Rattle.row_values.specs.Schema.{ColumnKind, Column, NewColumn, Schema, column_named, numbered, first_schema, with_column, without_column}
+use Rattle.table_schema.specs.Columns.{IsSchema, NoIdReturns}
 
 abbrev Below : ℕ → Column → Type 0
 Below n c = c.id < n
@@ -23,7 +20,7 @@ Rises c d = c.id < d.id
 abbrev Apart : Column → Column → Type 0
 Apart c d = c.name ≢ d.name
 
-abbrev Stood : SchemaRecord → Column → Type 0
+abbrev Stood : Schema → Column → Type 0
 Stood s c = c.id < s.next → Contains s.columns c
 
 none_found : (b : Bool) (c : Column) (rest : Option Column) → cond b (Some c) rest ≡ None → (b ≡ false) × (rest ≡ None)
@@ -31,16 +28,16 @@ none_found true c rest e = absurd (cc e)
 none_found false c rest e = (refl, e)
 
 -- where no column is found under a name, each has another
-named_by_none : (name : List ℕ) (cs : List Column) → find (is_named name) cs ≡ None → All (λ c. c.name ≢ name) cs
+named_by_none : (name : List ℕ) (cs : List Column) → column_named cs name ≡ None → All (λ c. c.name ≢ name) cs
 named_by_none name [] none = All-nil (λ c. c.name ≢ name)
 named_by_none name (c ∷ cs) none =
-    let passed = none_found (bytes_eq c.name name) c (find (is_named name) cs) none in
+    let passed = none_found (bytes_eq c.name name) c (column_named cs name) none in
     All-cons (λ d. d.name ≢ name) c cs
     (λ same. true≢false (sym ((bytes_eq-Decides c.name name).1 same) ∙ passed.0))
     (named_by_none name cs passed.1)
 
 -- one more column, whose name is free, keeps a schema
-pub schema_with_column : (s : SchemaRecord) (name : List ℕ) (kind : Kind) → IsSchema s → column_of s name ≡ None → IsSchema (with_column s name kind)
+pub schema_with_column : (s : Schema) (name : List ℕ) (kind : ColumnKind) → IsSchema s → column_named s.columns name ≡ None → IsSchema (with_column name kind s)
 schema_with_column s name kind h free =
     let others = named_by_none name s.columns free in
     let one : Column = record { id = s.next; name = name; kind = kind } in
@@ -51,31 +48,31 @@ schema_with_column s name kind h free =
     }
 
 -- a schema that loses columns is one
-pub schema_without_column : (s : SchemaRecord) (name : List ℕ) → IsSchema s → IsSchema (without_column s name)
+pub schema_without_column : (s : Schema) (name : List ℕ) → IsSchema s → IsSchema (without_column name s)
 schema_without_column s name h =
-    let left : Column → Bool = λ c. not (is_named name c) in
+    let left : Column → Bool = λ c. not (bytes_eq c.name name) in
     record {
       below = All-filter left (Below s.next) s.columns h.below;
       rising = AllPairs-filter Rises left s.columns h.rising;
       apart = AllPairs-filter Apart left s.columns h.apart;
     }
 
-all_stood : (s : SchemaRecord) → All (Stood s) s.columns
+all_stood : (s : Schema) → All (Stood s) s.columns
 all_stood s = All-weaker (Contains s.columns) (Stood s) (λ c there lt. there) s.columns (All-contains_itself s.columns)
 
-pub no_id_returns_with : (s : SchemaRecord) (name : List ℕ) (kind : Kind) → NoIdReturns s (with_column s name kind)
+pub no_id_returns_with : (s : Schema) (name : List ℕ) (kind : ColumnKind) → NoIdReturns s (with_column name kind s)
 no_id_returns_with s name kind = record {
   rises = omega arith;
   kept = All-push (Stood s) s.columns (record { id = s.next; name = name; kind = kind }) (all_stood s) (λ lt. absurd (omega (arith, lt)));
 }
 
-pub no_id_returns_without : (s : SchemaRecord) (name : List ℕ) → NoIdReturns s (without_column s name)
+pub no_id_returns_without : (s : Schema) (name : List ℕ) → NoIdReturns s (without_column name s)
 no_id_returns_without s name = record {
   rises = omega arith;
-  kept = All-filter (λ c. not (is_named name c)) (Stood s) s.columns (all_stood s);
+  kept = All-filter (λ c. not (bytes_eq c.name name)) (Stood s) s.columns (all_stood s);
 }
 
-pub no_id_returns_same : (s : SchemaRecord) → NoIdReturns s s
+pub no_id_returns_same : (s : Schema) → NoIdReturns s s
 no_id_returns_same s = record { rises = omega arith; kept = all_stood s }
 
 -- the ids of numbered columns are from the first on, below the end, and rise
@@ -105,7 +102,7 @@ numbered_apart id (c ∷ cs) h = AllPairs-cons Apart (record { id = id; name = c
 -- the schema of a new table whose names differ
 pub schema_first : (cs : List NewColumn) → AllPairs (λ c d. c.name ≢ d.name) cs → IsSchema (first_schema cs)
 schema_first cs apart = record {
-  below = numbered_below 1 cs;
+  below = All-weaker (Below (1 + length cs)) (Below (length cs + 1)) (λ c lt. omega (arith, lt)) (numbered 1 cs) (numbered_below 1 cs);
   rising = numbered_rise 1 cs;
   apart = numbered_apart 1 cs apart;
 }

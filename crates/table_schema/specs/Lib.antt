@@ -1,2 +1,2 @@
-pub mod SchemaRecord
+pub mod Seen
 pub mod Columns

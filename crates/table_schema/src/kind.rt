@@ -1,5 +1,6 @@
 ghost use Rattle.std.specs.Prelude.{◌≡◌};
-ghost use Rattle.table_schema.specs.Columns.{takes};
+ghost use Rattle.row_values.specs.Schema.{is_of_kind};
+ghost use Rattle.table_schema.specs.Seen.{column_kind_of};
 
 use row_values::{Copied, NoMemory, Value};
 
@@ -13,7 +14,7 @@ pub enum Kind {
 impl Kind {
     /// Whether a column of this kind takes the value.
     pub fn takes(self, value: &Value) -> bool
-        ensures exact { result ≡ takes self value.now }
+        ensures exact { result ≡ is_of_kind (column_kind_of self) value.now }
     {
         match (self, value) {
             (_, Value::Null) => true,

@@ -1,7 +1,10 @@
 ghost use Rattle.std.specs.Prelude.{◌≡◌, ◌≢◌, ◌<◌, ◌≤◌, ◌-◌, ◌^◌, None, not, filter, length, AllPairs, IfOk, IfErr, OnOk, OnErr};
+ghost use Rattle.std.specs.Str.{bytes_eq};
 ghost use Rattle.std.specs.Option.{option_copied};
-ghost use Rattle.table_schema.specs.SchemaRecord.{SchemaRecord};
-ghost use Rattle.table_schema.specs.Columns.{is_named, column_of, first_schema, with_column, without_column, add_refusal, Answers, id_of, fitting, NoIdReturns};
+ghost use Rattle.row_values.specs.Schema as book;
+ghost use Rattle.row_values.specs.Schema.{column_named, first_schema, with_column, without_column};
+ghost use Rattle.table_schema.specs.Seen.{column_kind_of};
+ghost use Rattle.table_schema.specs.Columns.{add_refusal, Answers, id_of, fitting, NoIdReturns};
 
 use crate::column::{Column, NewColumn};
 use crate::kind::Kind;
@@ -11,7 +14,7 @@ use std::marker::Model;
 
 const MOST_COLUMNS: u64 = 16;
 
-/// The columns of a table, in order of id, with names that differ.
+/// The columns of a table, in order of id, with names that differ. Contracts see it as the book's.
 #[derive(Debug, Drop, PartialEq, Eq)]
 pub struct Schema {
     /// 1, plus the changes of the columns.
@@ -22,9 +25,10 @@ pub struct Schema {
 }
 
 impl Model for Schema {
-    ghost use Rattle.table_schema.specs.SchemaRecord.{SchemaRecord, IsSchema};
+    ghost use Rattle.row_values.specs.Schema.{Schema};
+    ghost use Rattle.table_schema.specs.Columns.{IsSchema};
 
-    ghost Value = { SchemaRecord };
+    ghost Value = { Schema };
 
     ghost view = { λ s. record { version = s.version; next = s.next; columns = s.columns } };
 
@@ -69,7 +73,7 @@ impl Schema {
 
     /// The column of this name.
     pub fn column(&self, name: &Name) -> Option<&Column>
-        ensures exact { option_copied result ≡ column_of self.now name.now }
+        ensures exact { option_copied result ≡ column_named self.now.columns name.now }
     {
         for column in self.columns.as_slice() {
             if column.name.as_slice() == name.as_slice() {
@@ -86,7 +90,7 @@ impl Schema {
         requires version { self.old.version < 2 ^ 32 - 1 }
         requires next { self.old.next < 2 ^ 32 - 1 }
         ensures id { IfOk result (λ id. id ≡ self.old.next) }
-        ensures added { OnOk result (self.new ≡ with_column self.old name kind) }
+        ensures added { OnOk result (self.new ≡ with_column name (column_kind_of kind) self.old) }
         ensures free { OnOk result (add_refusal self.old name ≡ None) }
         ensures refused { IfErr result (λ why. Answers (add_refusal self.old name) why) }
         ensures kept { OnErr result (self.new ≡ self.old) }
@@ -112,8 +116,8 @@ impl Schema {
     #[tactic(auto, using(crate::proofs::Ids::no_id_returns_same))]
     pub fn remove(&mut self, name: &Name) -> Result<u32, SchemaRefused>
         requires version { self.old.version < 2 ^ 32 - 1 }
-        ensures exact { result ≡ id_of (column_of self.old name.now) }
-        ensures removed { OnOk result (self.new ≡ without_column self.old name.now) }
+        ensures exact { result ≡ id_of (column_named self.old.columns name.now) }
+        ensures removed { OnOk result (self.new ≡ without_column name.now self.old) }
         ensures kept { OnErr result (self.new ≡ self.old) }
         ensures ids { NoIdReturns self.old self.new }
     {
@@ -130,7 +134,7 @@ impl Schema {
 
     /// The id of the column of this name, where it takes the value. It takes no memory.
     pub fn fits(&self, name: &Name, value: &Value) -> Result<u32, SchemaRefused>
-        ensures exact { result ≡ fitting (column_of self.now name.now) value.now }
+        ensures exact { result ≡ fitting (column_named self.now.columns name.now) value.now }
     {
         match self.column(name) {
             None => Err(SchemaRefused::UnknownColumn),
@@ -142,7 +146,7 @@ impl Schema {
 
 // The columns of other names.
 fn without(columns: Records<Column>, name: &Name) -> Records<Column>
-    ensures { result ≡ filter (λ c. not (is_named name.now c)) columns }
+    ensures { result ≡ filter (λ c. not (bytes_eq c.name name.now)) columns }
 {
     let mut columns = columns.into_vec();
     columns.retain(|column| column.name.as_slice() != name.as_slice());
@@ -162,5 +166,5 @@ impl Copied for Schema {
 /// Over any row of changes, of each of which `NoIdReturns` is said, no id of a dropped column comes
 /// back.
 pub fn ids_never_return()
-    ensures law { (a b c : SchemaRecord) → NoIdReturns a b → NoIdReturns b c → NoIdReturns a c }
+    ensures law { (a b c : book.Schema) → NoIdReturns a b → NoIdReturns b c → NoIdReturns a c }
 {}

@@ -1,7 +1,7 @@
 use Rattle.std.proofs.Common.{◌≡◌, ◌≤◌, ◌+◌, ◌*◌, ◌/◌, arith, subst}
 use Rattle.std.proofs.lemmas.Grind.{common_steps}
-use Rattle.partition_codes.specs.Ranges.{Divide, share_of}
-use Rattle.partition_codes.proofs.Covers.{divide_next, each_next}
+use Rattle.partition_codes.specs.Ranges.{Divide}
+use Rattle.partition_codes.proofs.Covers.{share, divide_next, each_next}
 use Rattle.partition_codes.proofs.codes.shares.Goals as goal
 
 pub loop-i-preserved : goal.loop-i-preserved
@@ -11,7 +11,7 @@ loop-i-preserved c =
     let rises : i * 65536 / n ≤ (i + 1) * 65536 / n = grind arith in
     rw c.in_ok-push.ensures.pushed (record {
       count = grind (arith, common_steps, c.loop-i.invariant.count);
-      each = each_next (share_of n) c.loop-i.shares i c.loop-i.invariant.count c.loop-i.invariant.each;
+      each = each_next (share n) c.loop-i.shares i c.loop-i.invariant.count c.loop-i.invariant.each;
       cover = divide_next 0 (i * 65536 / n) ((i + 1) * 65536 / n) c.loop-i.shares (omega arith) rises c.loop-i.invariant.cover;
     })
 

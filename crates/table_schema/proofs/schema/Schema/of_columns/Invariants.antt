@@ -1,5 +1,5 @@
 use Rattle.std.proofs.Common.{◌≡◌, ◌+◌, ◌++◌, drop}
-use Rattle.table_schema.specs.Columns.{numbered}
+use Rattle.row_values.specs.Schema.{numbered}
 use Rattle.table_schema.proofs.schema.Schema.of_columns.Given as goal
 
 abbrev pub invariant-loop-column : goal.invariant-loop-column

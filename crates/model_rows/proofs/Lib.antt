@@ -26,6 +26,7 @@ mod RightWindows
 mod RightClones
 mod Covers
 mod WrittenCatalogs
+mod WrittenEnds
 mod WrittenHistories
 mod WrittenHours
 mod WrittenRestores

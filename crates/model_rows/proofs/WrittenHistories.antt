@@ -1,12 +1,12 @@
 -- What scripts write of their histories: each entry with its act and its reply.
 use Rattle.std.proofs.Common.{◌≡◌, ℕ, List, [], ◌∷◌, ◌++◌, None, Some, codes, refl}
 use Rattle.model.specs.Acts.{NamedUpsert, NamedDelete}
-use Rattle.model.specs.Scripts.{CleanUp, CloneNamespace, CompactTablets, Exact, ListSnapshots, RaiseCutoffs, ReadTable, RestartTablet, Settle, ShowHistory, ShowStats, WriteRows}
+use Rattle.model.specs.Scripts.{CleanUp, CloneNamespace, CompactTablets, Exact, Lag, ListSnapshots, RaiseCutoffs, ReadTable, RestartTablet, Settle, ShowHistory, ShowStats, Tick, WriteRows}
 use Rattle.model_rows.specs.Computed.{the_book}
 use Rattle.model_rows.specs.Scripts.{B, N, P, S, T, a, b, t, v_is, x, zz}
 use Rattle.model_rows.specs.ScriptLines.{first_lines, first_written, get, lines, prelude, prelude_written, put, restore, take_snapshot, uuid, written_by}
 
--- an entry of the reading 1000000 up to a logical counter's digits
+-- an entry of the reading 1000000, by its number and its logical counter
 abbrev entry : List ℕ → List ℕ → List ℕ → List ℕ
 entry number logical text = codes "#" ++ number ++ codes " 0 1000000 1000000." ++ logical ++ codes " " ++ text
 
@@ -94,3 +94,37 @@ work_history : written_by (prelude
     ∷ [])
 unfolding the_book
 work_history = refl
+
+-- a tablet's lag counts for what touches it alone, and not for a coordinator
+lag_history : written_by (prelude
+    ++ Tick 2000000
+    ∷ Lag 1 500000
+    ∷ take_snapshot
+    ∷ Settle
+    ∷ put x (v_is 1)
+    ∷ CompactTablets
+    ∷ RaiseCutoffs
+    ∷ ShowHistory
+    ∷ [])
+    ≡ lines (prelude_written
+    ++ (codes "7: ok 2000000.0" ++ uuid (P 1))
+    ∷ codes "8: 4 events"
+    ∷ codes "9: ok 2000000.4"
+    ∷ codes "10: 1 events"
+    ∷ codes "11: 1 events"
+    ∷ first_entries
+    ++ entry (codes "4") (codes "3") (codes "change [] create_snapshot_schedule 1 10 a => ok" ++ uuid (S 1))
+    ∷ (codes "#5 0 2000000 2000000.0 change [] take_snapshot" ++ uuid (S 1) ++ codes " => ok" ++ uuid (P 1))
+    ∷ (codes "#6 0 2000000 2000000.1 send" ++ uuid (P 1) ++ codes " 1 => sent")
+    ∷ (codes "#7 0 2000000 2000000.2 process 1 1 => done" ++ uuid (P 1) ++ codes " freeze")
+    ∷ (codes "#8 0 2000000 2000000.3 ack" ++ uuid (P 1) ++ codes " 1 => acked")
+    ∷ (codes "#9 0 2000000 2000000.4 advance" ++ uuid (P 1) ++ codes " => advanced COMPLETE")
+    ∷ (codes "#10 0 2000000 2000000.5 look_keys a t x v=1" ++ placed)
+    ∷ (codes "#11 0 1500000 2000000.4 write 1" ++ uuid (B 1) ++ codes " v1 x 1=1 => ok")
+    ∷ codes "#12 0 2000000 2000000.6 look_present => present [1]"
+    ∷ codes "#13 0 1500000 2000000.5 compact 1 => compacted 1 1"
+    ∷ codes "#14 0 2000000 2000000.7 look_present => present [1]"
+    ∷ codes "#15 0 2000000 2000000.8 cutoff 1 => cutoff_at 2000000.1"
+    ∷ [])
+unfolding the_book
+lag_history = refl

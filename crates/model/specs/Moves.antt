@@ -165,7 +165,8 @@ abbrev pub restoration_lists : RestorationState → RestorationRecord → Master
 restoration_lists Fencing r m = []
 restoration_lists (Snapshotting point own) r m = []
 restoration_lists (Switching point serving) r m =
-    switch_list m.catalog.owners m.activity r.namespace r.to point serving (restored_tables m.catalog.tables r.namespace r.to point)
+    let tables = restored_tables m.catalog.tables r.namespace r.to point in
+    switch_list m.catalog.owners m.activity r.namespace r.to point serving tables
 restoration_lists (Restoring point serving) r m = released point (brought_back r.listed)
 restoration_lists (Releasing point serving) r m = []
 restoration_lists (Restored point serving) r m = []

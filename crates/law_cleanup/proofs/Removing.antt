@@ -1,6 +1,6 @@
 -- A tablet that retention doesn't need is removed.
-use Rattle.std.proofs.Common.{ℕ, ◌≡◌, ◌≢◌, ◌≤◌, ◌<◌, List, [], ◌∷◌, Option, Some, None, true, false, cond, inl, inr, refl, sym, ap, subst, ◌∙◌, arith, not, eqb, ltb, le_trans, le_refl, le_of_lt, eqb-true, ltb-false}
-use Rattle.std.specs.Option.{is_some}
+use Rattle.std.proofs.Common.{ℕ, ◌≡◌, ◌≢◌, ◌≤◌, ◌<◌, List, [], ◌∷◌, Option, Some, None, true, false, cond, inl, inr, refl, sym, ap, subst, ◌∙◌, arith, not, eqb, ltb, le_trans, le_refl, le_of_lt, eqb-true, ltb-false, Bool}
+use Rattle.std.specs.Option.{is_some, option_map}
 use Rattle.std.proofs.lemmas.Bool.{true≢false}
 use Rattle.std.proofs.lemmas.Bool.Decides.{nat_tests}
 use Rattle.row_values.specs.Ids.{Id, Tablet as TabletKind, same}
@@ -12,8 +12,8 @@ use Rattle.model.specs.Journal.{Change as Made}
 use Rattle.model.specs.Stands.{awaited_in}
 use Rattle.model.specs.Tablets.{Tablet, Presence, EmptyPart, ServingPart, HiddenPart, Empty, Clear, act_for, effect, emptied, standing, is_hidden}
 use Rattle.model.specs.Acts.{Remove, Refusal, Moved, StalePlan, InWindow, IsListed, Removed}
-use Rattle.model.specs.Parts.{Master, Parts, Outcome, Check, If, Removes, refused, Names}
-use Rattle.model.specs.Cleanup.{floor_of_table, hidden_at, is_hidden_as, lister_of_tablet, removing_unknown, removing_tablet, removed_of}
+use Rattle.model.specs.Parts.{Master, Parts, Outcome, Check, If, Fault, Removes, refused}
+use Rattle.model.specs.Cleanup.{floor_of_table, hidden_at, is_hidden_as, lister_of_tablet, removable_tablet, removing_unknown, removing_tablet, removed_of}
 use Rattle.model.specs.History.{told}
 use Rattle.law_store.proofs.Keys.{either_way}
 use Rattle.model.specs.Records.{is_restored}
@@ -175,27 +175,35 @@ unknown_keeps ps activity changes n target slots why later inv =
     (λ other. refused_keeps (Remove target slots) other n ps activity changes later inv tt refl)
     (λ passes. refused_keeps (Remove target slots) why n ps activity changes later inv tt refl)
 
+-- neither retention nor a record keeps what goes
+pub nothing_keeps : (needed : Bool) (lister : Option Id) (why : Refusal) → cond needed (Some why) (option_map IsListed lister) ≡ None → (needed ≡ false) × (is_some lister ≡ false)
+nothing_keeps true lister why e = absurd (let q = e in grind arith)
+nothing_keeps false None why e = (refl, refl)
+nothing_keeps false (Some by) why e = absurd (let q = e in grind arith)
+
 abbrev pub tablet_checks : Id → Interval → List ℕ → ℕ → Parts → List Check
 tablet_checks target i slots n ps =
     let t = ps.tablet i.slot in
-    let floor = floor_of_table ps.master i.table n in
     If (not (same_slots slots (i.slot ∷ []))) (StalePlan (i.slot ∷ []))
     ∷ If (not (is_hidden_as target t)) (Moved i.slot (standing t))
-    ∷ If (ltb floor (hidden_at t.presence)) (InWindow (hidden_at t.presence) floor)
-    ∷ Names (lister_of_tablet ps.master target) IsListed
+    ∷ Fault (removable_tablet (hidden_at t.presence) (floor_of_table ps.master i.table n) (lister_of_tablet ps.master target))
     ∷ []
 
 pub removing_tablet_keeps : (found : Option Interval) (ps : Parts) (activity : List Interval) (changes : List Made) (n : ℕ) (target : Id) (slots : List ℕ) → last_of ps.master.activity target ≡ found → target.kind ≡ TabletKind → Later (0 ∷ slots) ps n
     → Inv ps activity changes → KeepsAll (Remove target slots) n ps activity changes (removing_tablet found target slots n ps)
 removing_tablet_keeps None ps activity changes n target slots e kind later inv = unknown_keeps ps activity changes n target slots (Moved 0 Empty) later inv
 removing_tablet_keeps (Some i) ps activity changes n target slots e kind later inv =
+    let hidden = hidden_at (ps.tablet i.slot).presence in
+    let floor = floor_of_table ps.master i.table n in
+    let lister = lister_of_tablet ps.master target in
     by_checks (Remove target slots) n ps activity changes (tablet_checks target i slots n ps) (tablet_gone target i.slot)
     (λ why. refused_keeps (Remove target slots) why n ps activity changes later inv tt refl)
     (λ passes.
     let before = master_early slots ps n later in
     let plan : slots ≡ i.slot ∷ [] = slots_equal slots (i.slot ∷ []) (not_false _ passes.0) in
-    let late = ltb-false (floor_of_table ps.master i.table n) (hidden_at (ps.tablet i.slot).presence) passes.1.1.0 in
-    let r = is_removed ps activity changes n target i before inv e (not_false _ passes.1.0) late passes.1.1.1.0 in
+    let unneeded = nothing_keeps (ltb floor hidden) lister (InWindow hidden floor) passes.1.1.0 in
+    let late = ltb-false floor hidden unneeded.0 in
+    let r = is_removed ps activity changes n target i before inv e (not_false _ passes.1.0) late unneeded.1 in
     record {
       right = tt;
       inv = subst (λ ss. Later (0 ∷ ss) ps n → Inv (told (Remove target ss) (tablet_gone target i.slot) n ps) activity changes) (sym plan) (λ early. removed_inv ps activity changes n target i kind early inv r) later;

@@ -10,9 +10,9 @@ use Rattle.model.specs.Journal.{Change as Made}
 use Rattle.model.specs.Tablets.{Tablet, FrozenSet, DropFrozen, effect}
 use Rattle.model.specs.Records.{SnapshotRecord, snapshot_with}
 use Rattle.model.specs.Entries.{IsRemovable, slots_of}
-use Rattle.model.specs.Acts.{Remove, UnknownSnapshot, StalePlan, InWindow, IsListed, Removed}
-use Rattle.model.specs.Parts.{Master, Parts, Outcome, Check, If, Removes, Names}
-use Rattle.model.specs.Cleanup.{floor_of, lister_of_snapshot, snapshot_plan, removing_snapshot, removing, remove, removed_of}
+use Rattle.model.specs.Acts.{Remove, UnknownSnapshot, StalePlan, InWindow, Removed}
+use Rattle.model.specs.Parts.{Master, Parts, Outcome, Check, If, Fault, Removes}
+use Rattle.model.specs.Cleanup.{floor_of, lister_of_snapshot, snapshot_plan, removing_snapshot, removing, remove, removed_of, removable_snapshot}
 use Rattle.model.specs.Changes.{tell}
 use Rattle.model.specs.History.{told, outcome}
 use Rattle.law_invariants.specs.Orders.{RowsPast}
@@ -26,7 +26,7 @@ use Rattle.law_changes.proofs.Quiet.{Follows, slot_follows, master_follows}
 use Rattle.law_cleanup.proofs.Forgetting.{not_false}
 use Rattle.law_cleanup.proofs.Discarding.{IsDiscarded, is_discarded, discarding, operations_discard}
 use Rattle.law_cleanup.proofs.Thinning.{others_of, others_are, all_others, slot_thinned, works_thinned, in_plan}
-use Rattle.law_cleanup.proofs.Removing.{unknown_keeps, removing_tablet_keeps}
+use Rattle.law_cleanup.proofs.Removing.{unknown_keeps, removing_tablet_keeps, nothing_keeps}
 
 abbrev pub snapshot_gone : Id → List ℕ → Outcome
 snapshot_gone target slots = record { master = Removes target; tablets = tell slots (DropFrozen target); reply = Removed }
@@ -94,21 +94,24 @@ discarded_inv ps activity changes n target slots r kind later plan inv d =
 abbrev pub snapshot_checks : SnapshotRecord → List ℕ → ℕ → Master → List Check
 snapshot_checks r slots n m =
     let plan = snapshot_plan m r in
-    let floor = floor_of m r.namespace n in
-    If (not (same_slots slots plan)) (StalePlan plan) ∷ If (leb floor r.at) (InWindow r.at floor) ∷ Names (lister_of_snapshot m r) IsListed ∷ []
+    If (not (same_slots slots plan)) (StalePlan plan) ∷ Fault (removable_snapshot r.at (floor_of m r.namespace n) (lister_of_snapshot m r)) ∷ []
 
 removing_snapshot_keeps : (found : Option SnapshotRecord) (ps : Parts) (activity : List Interval) (changes : List Made) (n : ℕ) (target : Id) (slots : List ℕ) → snapshot_with ps.master.snapshots target ≡ found → target.kind ≡ Snapshot
     → Later (0 ∷ slots) ps n → Inv ps activity changes → KeepsAll (Remove target slots) n ps activity changes (removing_snapshot found target slots n ps)
 removing_snapshot_keeps None ps activity changes n target slots e kind later inv = unknown_keeps ps activity changes n target slots UnknownSnapshot later inv
 removing_snapshot_keeps (Some r) ps activity changes n target slots e kind later inv =
     let m = ps.master in
-    by_checks (Remove target slots) n ps activity changes (snapshot_checks r slots n m) (snapshot_gone target (snapshot_plan m r))
+    let floor = floor_of m r.namespace n in
+    let lister = lister_of_snapshot m r in
+    let gone = snapshot_gone target (snapshot_plan m r) in
+    by_checks (Remove target slots) n ps activity changes (snapshot_checks r slots n m) gone
     (λ why. refused_keeps (Remove target slots) why n ps activity changes later inv tt refl)
     (λ passes.
     let plan : slots ≡ snapshot_plan m r = slots_equal slots (snapshot_plan m r) (not_false _ passes.0) in
-    let late : leb (floor_of m r.namespace n) r.at ≡ false = passes.1.0 in
+    let unneeded = nothing_keeps (leb floor r.at) lister (InWindow r.at floor) passes.1.0 in
+    let late : leb floor r.at ≡ false = unneeded.0 in
     let below : r.at < floor_of m r.namespace n = grind (arith, nat_tests) in
-    let d = is_discarded m n changes target r (master_early slots ps n later) inv.operations e below passes.1.1.0 in
+    let d = is_discarded m n changes target r (master_early slots ps n later) inv.operations e below unneeded.1 in
     record {
       right = tt;
       inv = subst (λ ss. Inv (told (Remove target slots) (snapshot_gone target ss) n ps) activity changes) plan (discarded_inv ps activity changes n target slots r kind later plan inv d);

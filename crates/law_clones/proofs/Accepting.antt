@@ -208,8 +208,8 @@ covers_it ps activity changes ns s target to n d code le may counted inv isin sm
     (λ b. either_way (same e.0.target d.target)
     (λ c. let is = one_target_of (tables_of m ns to) e.0 d apart e.1.0 isin (same_equal e.0.target d.target c) in absurd (true≢false (sym (ap (λ k. same k d.source) (sym source ∙ ap (λ k. k.source) is) ∙ same_self d.source) ∙ b)))
     (λ c. c ∙ sym b)))
-    ∙ ordered_holders _ (tablets_active_at m ns to) d.source code to
-    ∙ filtered_holders (active_at to) (intervals_in m ns) d.source code to
+    ∙ ordered_holders _ (tablets_active_at m.catalog.owners m.activity ns to) d.source code to
+    ∙ filtered_holders (active_at to) (intervals_in m.catalog.owners m.activity ns) d.source code to
     (λ i held. (both_pass (active_at to i) (in_range i.low i.high code) (both_pass (same i.table d.source) (active_at to i && in_range i.low i.high code) held).1).0)
     ∙ filtered_holders (λ i. owns m.catalog.owners ns i.table) m.activity d.source code to
     (λ i held. ap (λ k. owns m.catalog.owners ns k) (same_equal i.table d.source (both_pass (same i.table d.source) (active_at to i && in_range i.low i.high code) held).0) ∙ ap (λ o. is_owned_by o ns) owner ∙ same_self ns)

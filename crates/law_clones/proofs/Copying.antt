@@ -1,6 +1,6 @@
 -- A clone has its target's tablets copy the rows of the snapshot that serves its time; where none does, it makes one first.
 use Rattle.std.proofs.Common.{ℕ, ◌≡◌, ◌≤◌, ◌<◌, ◌+◌, List, [], ◌∷◌, Option, Some, None, Bool, true, false, cond, ◌&&◌, ◌||◌, inl, inr, refl, sym, ap, subst, ◌∙◌, arith, leb, le_refl, le_trans, le_of_lt}
-use Rattle.std.specs.Option.{option_map, unwrap_or, option_and_then, is_some}
+use Rattle.std.specs.Option.{unwrap_or, option_and_then, is_some}
 use Rattle.std.proofs.lemmas.Bool.{true≢false}
 use Rattle.std.proofs.lemmas.Bool.Decides.{nat_tests}
 use Rattle.row_values.specs.Ids.{Id, same}
@@ -14,7 +14,7 @@ use Rattle.model.specs.Records.{Listed, Schedule, SnapshotRecord, TabletPair, Cl
 use Rattle.model.specs.Parts.{Master, Parts}
 use Rattle.model.specs.Lists.{next_snapshot, new_snapshot, with_snapshot}
 use Rattle.model.specs.Schedules.{serving}
-use Rattle.model.specs.Moves.{clone_enters, with_own_snapshot, copies, begins_copying, begins_clone, serving_clone, serving_of, awaited_by_clone, incomplete, is_complete}
+use Rattle.model.specs.Moves.{clone_enters, with_own_snapshot, copies, begins_clone, id_of_snapshot, serving_clone, serving_of, awaited_by_clone, incomplete, is_complete}
 use Rattle.law_store.proofs.Keys.{either_way}
 use Rattle.law_invariants.specs.Operations.{IsCopied, CloneStateGood}
 use Rattle.law_invariants.specs.Orders.{ClonePlace, CloneSlot, ReservedSlot, stage_of_clone}
@@ -81,7 +81,7 @@ copies_of : (r : CloneRecord) (snapshot : Id) (n : ℕ) (P : Listed → Type 0)
 copies_of r snapshot n P go l isin = in_mapped {A = TabletPair} {B = Listed} (λ p. record { tablet = p.target; slot = p.slot; body = Copy p.source_slot snapshot r.to n p.table p.low p.high 1; acked = false }) P r.tablets go l isin
 
 copying_keeps : (ps : Parts) (activity : List Interval) (changes : List Made) (n : ℕ) (r : CloneRecord) (s : SnapshotRecord) → ps.master.clock < n → is_early r.state ≡ true → MayMove ps.master r → serving_clone ps.master r ≡ Some s → Inv ps activity changes
-    → Inv (record { master = begins_copying r s.id n ps.master; tablet = ps.tablet }) activity changes
+    → Inv (record { master = clone_enters r (Copying s.id n) (copies s.id r.to n r.tablets) n ps.master; tablet = ps.tablet }) activity changes
 copying_keeps ps activity changes n r s before early may served inv =
     let m = ps.master in
     let q : Parts = record { master = record m { clock = n }; tablet = ps.tablet } in
@@ -217,5 +217,5 @@ snapshot_moves ps activity changes n r own before e may inv =
     let m = ps.master in
     none_or_some (serving_clone m r)
     (λ none. absurd (own_serves ps activity changes r own e may inv none))
-    (λ s some. subst (λ o. Inv (record { master = begins_copying r (unwrap_or (option_map {T = SnapshotRecord} (λ s. s.id) o) own) n m; tablet = ps.tablet }) activity changes) (sym some)
+    (λ s some. subst (λ o. Inv (record { master = clone_enters r (Copying (unwrap_or (id_of_snapshot o) own) n) (copies (unwrap_or (id_of_snapshot o) own) r.to n r.tablets) n m; tablet = ps.tablet }) activity changes) (sym some)
     (copying_keeps ps activity changes n r s before (ap is_early e) may some inv))

@@ -202,7 +202,7 @@ pub record IsActiveOf (m : Master) (ns : Id) (to : ℕ) (i : Interval) : Type 0 
 
 pub source_then : (m : Master) (ns : Id) (to : ℕ) (i : Interval) → In i (sources m ns to) → IsActiveOf m ns to i
 source_then m ns to i isin =
-    let h = filter_in (intervals_in m ns) (active_at to) i (ordered_only _ (tablets_active_at m ns to) i isin) in
+    let h = filter_in (intervals_in m.catalog.owners m.activity ns) (active_at to) i (ordered_only _ (tablets_active_at m.catalog.owners m.activity ns to) i isin) in
     let k = namespace_only m ns i h.0 in record { kept = k.0; owned = k.1; active = h.1 }
 
 take_all : {A : Type 0} (xs : List A) → take (length xs) xs ≡ xs

@@ -1,6 +1,6 @@
 -- A removal reads the master; that of a tablet reads the tablet's part too, which its plan names.
 use Rattle.std.proofs.Common.{ℕ, ◌≡◌, ◌≤◌, List, [], ◌∷◌, Option, Some, None, true, refl, ap, subst, ◌∙◌}
-use Rattle.row_values.specs.Ids.{Id, Kind, Tablet, Snapshot}
+use Rattle.row_values.specs.Ids.{Id, Kind, Namespace, Table, Tablet, Schedule, Snapshot, Restoration, Clone}
 use Rattle.row_values.specs.Slots.{same_slots, has}
 use Rattle.model.specs.Activity.{Interval, last_of}
 use Rattle.model.specs.Tablets.{Tablet as TabletPart}
@@ -42,7 +42,11 @@ removing_same : (kind : Kind) (target : Id) (slots : List ℕ) (n : ℕ) (p q : 
     → removing kind target slots n p ≡ removing kind target slots n q
 removing_same Tablet target slots n p q named a = tablet_same target slots n p q named a
 removing_same Snapshot target slots n p q named a = snapshot_same target slots n p q (a.master refl)
-removing_same _ target slots n p q named a = snapshot_same target slots n p q (a.master refl)
+removing_same Namespace target slots n p q named a = refl
+removing_same Table target slots n p q named a = refl
+removing_same Schedule target slots n p q named a = refl
+removing_same Restoration target slots n p q named a = refl
+removing_same Clone target slots n p q named a = refl
 
 pub remove_same : (target : Id) (slots : List ℕ) (n : ℕ) (p q : Parts) → PlanNames (Remove target slots) p.master → Agree (0 ∷ slots) p q → remove target slots n p ≡ remove target slots n q
 unfolding remove

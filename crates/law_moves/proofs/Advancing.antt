@@ -1,11 +1,11 @@
 -- An advance: it is refused, or the record that it names moves, of which all that it lists was acked.
-use Rattle.std.proofs.Common.{ℕ, ◌≡◌, List, [], ◌∷◌, Option, Some, None, true, cond, inl, inr, arith, refl, sym, ap, ◌∙◌}
+use Rattle.std.proofs.Common.{ℕ, ◌≡◌, List, [], ◌∷◌, Option, Some, None, true, cond, inl, inr, arith, refl, sym, ap, ◌∙◌, not}
 use Rattle.std.specs.Option.{option_map}
 use Rattle.row_values.specs.Ids.{Restoration, Clone, Id}
 use Rattle.row_values.specs.Elements.{In}
 use Rattle.model.specs.Activity.{Interval}
 use Rattle.model.specs.Journal.{Change as Made}
-use Rattle.model.specs.Records.{Listed, State, first_unacked}
+use Rattle.model.specs.Records.{Listed, State, first_unacked, unacked, first_listed}
 use Rattle.model.specs.Coordination.{unfinished_restoration, unfinished_clone}
 use Rattle.model.specs.Acts.{Advance, Advanced, NotPending, Waiting}
 use Rattle.model.specs.Parts.{Master, Parts, Outcome, Moves}
@@ -20,8 +20,8 @@ use Rattle.law_moves.proofs.Pending.{unfinished_restoration_is, unfinished_clone
 all_acked : (ls : List Listed) → first_unacked ls ≡ None → (l : Listed) → In l ls → l.acked ≡ true
 all_acked [] none l isin = absurd isin
 all_acked (k ∷ ls) none l isin = either_way k.acked
-    (λ b. elim isin [ inl e ↦ ap (λ q. q.acked) (sym e) ∙ b | inr rest ↦ all_acked ls (sym (ap (λ c. cond c (first_unacked ls) (Some k)) b) ∙ none) l rest ])
-    (λ b. absurd (let q : Some k ≡ None = sym (ap (λ c. cond c (first_unacked ls) (Some k)) b) ∙ none in grind arith))
+    (λ b. elim isin [ inl e ↦ ap (λ q. q.acked) (sym e) ∙ b | inr rest ↦ all_acked ls (sym (ap (λ c. first_listed (cond (not c) (k ∷ unacked ls) (unacked ls))) b) ∙ none) l rest ])
+    (λ b. absurd (let q : Some k ≡ None = sym (ap (λ c. first_listed (cond (not c) (k ∷ unacked ls) (unacked ls))) b) ∙ none in grind arith))
 
 abbrev pub moves : Id → State → Outcome
 moves operation next = record { master = Moves operation; tablets = []; reply = Advanced next }

@@ -1,5 +1,5 @@
 -- A snapshot becomes complete.
-use Rattle.std.proofs.Common.{ℕ, ◌≡◌, ◌≤◌, ◌<◌, ◌+◌, ◌-◌, List, [], ◌∷◌, map, Option, Some, None, Bool, true, false, cond, ◌&&◌, ◌||◌, ◌⊎◌, inl, inr, refl, sym, ap, subst, ◌∙◌, arith, not, le_trans, le_refl, le_of_lt, lt_of_lt_of_le}
+use Rattle.std.proofs.Common.{ℕ, ◌≡◌, ◌≤◌, ◌<◌, ◌+◌, ◌-◌, List, [], ◌∷◌, map, Option, Some, None, Bool, true, false, cond, ◌&&◌, ◌⊎◌, inl, inr, refl, sym, ap, subst, ◌∙◌, arith, not, le_trans, le_refl, le_of_lt, lt_of_lt_of_le}
 use Rattle.std.specs.Option.{option_map_or}
 use Rattle.std.proofs.lemmas.Bool.{true≢false}
 use Rattle.row_values.specs.Ids.{Snapshot, Restoration, Clone, Id, same}
@@ -13,7 +13,7 @@ use Rattle.model.specs.Acts.{Advance}
 use Rattle.model.specs.Operations.{time_of_user}
 use Rattle.model.specs.Cleanup.{floor_of}
 use Rattle.model.specs.Parts.{Master, Parts}
-use Rattle.model.specs.Moves.{progress_of, snapshot_progress, anew, completed, moved_of, advance}
+use Rattle.model.specs.Moves.{progress_of, snapshot_progress, anew, completed, moved_of, advance, snapshot_advanced}
 use Rattle.model.specs.History.{with_either}
 use Rattle.law_store.proofs.Keys.{either_way}
 use Rattle.law_invariants.specs.Operations.{IsReached, SnapshotsRise, ScheduleGood}
@@ -29,25 +29,17 @@ use Rattle.law_moves.proofs.Advancing.{moves, advance_by, mapped_some, no_restor
 use Rattle.law_moves.proofs.Pending.{point_is, pending_drawn, pending_unmoved, pending_stays, fence_stays, unfinished_snapshot_is, unacked_is}
 use Rattle.law_moves.proofs.Using.{mapped_is, alone_mapped, mapped_floor}
 
-or_false : (b : Bool) → (b || false) ≡ b
-or_false true = refl
-or_false false = refl
+stays_complete : (b complete : Bool) → complete ≡ true → cond b true complete ≡ true
+stays_complete true complete e = refl
+stays_complete false complete e = e
 
-or_true : (b : Bool) → (b || true) ≡ true
-or_true true = refl
-or_true false = refl
+was_incomplete : (b complete : Bool) → cond b true complete ≡ false → complete ≡ false
+was_incomplete true complete e = absurd (true≢false e)
+was_incomplete false complete e = e
 
-or_left : (a b : Bool) → a ≡ true → (a || b) ≡ true
-or_left true b e = refl
-or_left false b e = absurd (true≢false (sym e))
-
-neither_left : (a b : Bool) → (a || b) ≡ false → a ≡ false
-neither_left true b e = e
-neither_left false b e = refl
-
-neither_right : (a b : Bool) → (a || b) ≡ false → b ≡ false
-neither_right true b e = absurd (true≢false e)
-neither_right false b e = e
+was_another : (b complete : Bool) → cond b true complete ≡ false → b ≡ false
+was_another true complete e = e
+was_another false complete e = refl
 
 -- Snapshots rise, so each has an identifier of its own
 
@@ -61,7 +53,7 @@ one_snapshot (s ∷ rs) q r h (inr a) (inr b) e = one_snapshot rs q r h.1 a b e
 -- The records after the move
 
 abbrev marked : SnapshotRecord → SnapshotRecord → SnapshotRecord
-marked r x = record x { complete = x.complete || same x.id r.id; listed = cond (same x.id r.id) (anew x.listed) x.listed }
+marked r x = record x { complete = cond (same x.id r.id) true x.complete; listed = cond (same x.id r.id) (anew x.listed) x.listed }
 
 abbrev timed : SnapshotRecord → Schedule → Schedule
 timed r s = record s { complete = cond (same s.id r.schedule) (Some r.at) s.complete }
@@ -76,18 +68,15 @@ finished r n m = record {
   drawn = m.drawn;
 }
 
-abbrev done : SnapshotRecord → SnapshotRecord
-done r = record r { complete = true; listed = anew r.listed }
-
-marked_done : (r : SnapshotRecord) → marked r r ≡ done r
+marked_done : (r : SnapshotRecord) → marked r r ≡ snapshot_advanced r
 marked_done r =
     let with_it : Bool → List Listed → SnapshotRecord = λ b ls. record r { complete = b; listed = ls } in
-    ap (λ b. with_it (r.complete || b) (cond b (anew r.listed) r.listed)) (same_self r.id) ∙ ap (λ b. with_it b (anew r.listed)) (or_true r.complete)
+    ap (λ b. with_it (cond b true r.complete) (cond b (anew r.listed) r.listed)) (same_self r.id)
 
 marked_same : (r x : SnapshotRecord) → same x.id r.id ≡ false → marked r x ≡ x
 marked_same r x other =
     let with_it : Bool → List Listed → SnapshotRecord = λ b ls. record x { complete = b; listed = ls } in
-    ap (λ b. with_it (x.complete || b) (cond b (anew x.listed) x.listed)) other ∙ ap (λ b. with_it b x.listed) (or_false x.complete)
+    ap (λ b. with_it (cond b true x.complete) (cond b (anew x.listed) x.listed)) other
 
 complete_same : (at : Option ℕ) (s t : Schedule) → s.kept_low ≡ t.kept_low → complete_to at s ≡ complete_to at t
 complete_same None s t e = ap (λ x. x - 1) e
@@ -144,11 +133,11 @@ marked_on r x = record {
   namespace_is = refl;
   after_is = refl;
   at_is = refl;
-  complete = λ e. or_left x.complete (same x.id r.id) e;
+  complete = λ e. stays_complete (same x.id r.id) x.complete e;
   lines = λ l isin. lines_marked (same x.id r.id) x.listed l isin;
 }
 
-done_on : (r : SnapshotRecord) → SnapshotOn r (done r)
+done_on : (r : SnapshotRecord) → SnapshotOn r (snapshot_advanced r)
 done_on r = record {
   id_is = refl;
   schedule_is = refl;
@@ -171,17 +160,17 @@ found_still (x ∷ rs) r id q e other = either_way (same x.id id && not x.comple
     (λ b.
     let k : unfinished_snapshot rs id ≡ Some q = rw b at e in
     let rest = found_still rs r id q k other in
-    let fails : (same x.id id && not (x.complete || same x.id r.id)) ≡ false = still (same x.id id) x.complete (same x.id r.id) b in
+    let fails : (same x.id id && not (cond (same x.id r.id) true x.complete)) ≡ false = still (same x.id id) x.complete (same x.id r.id) b in
     ap (λ c. cond c (Some (marked r x)) (unfinished_snapshot (map (marked r) rs) id)) fails ∙ rest)
   where
-    still : (a c d : Bool) → (a && not c) ≡ false → (a && not (c || d)) ≡ false
+    still : (a c d : Bool) → (a && not c) ≡ false → (a && not (cond d true c)) ≡ false
     still false c d e = refl
-    still true true d e = refl
+    still true true d e = ap not (stays_complete d true refl)
     still true false d e = absurd (true≢false e)
 
 -- the snapshot that is complete now
 finished_came : (ps : Parts) (activity : List Interval) (changes : List Made) (n : ℕ) (r : SnapshotRecord) → ps.master.clock < n → In r ps.master.snapshots → ((l : Listed) → In l r.listed → l.acked ≡ true) → Inv ps activity changes
-    → SnapshotCame ps.master (finished r n ps.master) (done r)
+    → SnapshotCame ps.master (finished r n ps.master) (snapshot_advanced r)
 finished_came ps activity changes n r before there acked inv =
     let m = ps.master in
     let w = finished r n m in
@@ -210,7 +199,7 @@ finished_came ps activity changes n r before there acked inv =
             record { line = record k.line { acked = false }; listed = anew_has r.listed k.line k.listed; tablet_is = k.tablet_is; slot_is = k.slot_is });
         reached = elim h.reached [
           | inl l ↦ inl (lt_of_lt_of_le l (finished_floors m n r r.namespace (le_of_lt before)))
-          | inr q ↦ inr (marked r q.0, (map_in {A = SnapshotRecord} {B = SnapshotRecord} (marked r) m.snapshots q.0 q.1.0, (q.1.1.0, (q.1.1.1.0, or_left q.0.complete (same q.0.id r.id) q.1.1.1.1))))
+          | inr q ↦ inr (marked r q.0, (map_in {A = SnapshotRecord} {B = SnapshotRecord} (marked r) m.snapshots q.0 q.1.0, (q.1.1.0, (q.1.1.1.0, stays_complete (same q.0.id r.id) q.0.complete q.1.1.1.1))))
         ];
         of_schedule = in_mapped {A = Schedule} {B = Schedule} (timed r) (λ s. s.id ≡ r.schedule → s.namespace ≡ r.namespace) m.schedules (λ s isin is. h.of_schedule s isin is);
         same_namespace = in_mapped {A = SnapshotRecord} {B = SnapshotRecord} (marked r) (λ q. q.schedule ≡ r.schedule → q.namespace ≡ r.namespace) m.snapshots (λ q isin is. h.same_namespace q isin is);
@@ -240,7 +229,7 @@ finished_onto ps activity changes n r before there acked inv =
             let x = mapped_is {A = SnapshotRecord} (marked r) m.snapshots q in_q in
             let y = mapped_is {A = SnapshotRecord} (marked r) m.snapshots s in_s in
             let one = a.one_snapshot x.0 y.0 x.1.0 y.1.0
-            (neither_left x.0.complete (same x.0.id r.id) (ap (λ k. k.complete) x.1.1 ∙ open_q)) (neither_left y.0.complete (same y.0.id r.id) (ap (λ k. k.complete) y.1.1 ∙ open_s))
+            (was_incomplete (same x.0.id r.id) x.0.complete (ap (λ k. k.complete) x.1.1 ∙ open_q)) (was_incomplete (same y.0.id r.id) y.0.complete (ap (λ k. k.complete) y.1.1 ∙ open_s))
             (ap (λ k. k.schedule) x.1.1 ∙ e ∙ sym (ap (λ k. k.schedule) y.1.1)) in
             sym x.1.1 ∙ ap (marked r) one ∙ y.1.1);
         restoration_ids = a.restoration_ids;
@@ -280,7 +269,7 @@ finished_onto ps activity changes n r before there acked inv =
           either_way (same x.0.id r.id)
           (λ b.
           let one : x.0 ≡ r = one_snapshot m.snapshots x.0 r a.snapshots_rise x.1.0 there (same_equal x.0.id r.id b) in
-          let is : q ≡ done r = sym x.1.1 ∙ ap (marked r) one ∙ marked_done r in
+          let is : q ≡ snapshot_advanced r = sym x.1.1 ∙ ap (marked r) one ∙ marked_done r in
           inr (subst (SnapshotCame m w) (sym is) (finished_came ps activity changes n r before there acked inv)))
           (λ b. inl (subst (λ k. In k m.snapshots) (sym (marked_same r x.0 b) ∙ x.1.1) x.1.0)));
       snapshot_kept = kept;

@@ -50,21 +50,21 @@ once_has (k ∷ ks) i (inr isin) = let r = once_has ks i isin in either_way (sam
     (λ b. (k, (inl refl, sym (same_equal r.0.tablet k.tablet b) ∙ r.1.1)))
     (λ b. (r.0, (inr (in_filter (once ks) (λ j. not (same j.tablet k.tablet)) r.0 r.1.0 (ap not b)), r.1.1)))
 
-pub namespace_only : (m : Master) (ns : Id) (i : Interval) → In i (intervals_in m ns) → In i m.activity × (owner_of m.catalog.owners i.table ≡ Some ns)
+pub namespace_only : (m : Master) (ns : Id) (i : Interval) → In i (intervals_in m.catalog.owners m.activity ns) → In i m.activity × (owner_of m.catalog.owners i.table ≡ Some ns)
 namespace_only m ns i isin = let h = filter_in m.activity (λ i. owns m.catalog.owners ns i.table) i isin in (h.0, owned_is (owner_of m.catalog.owners i.table) ns h.1)
 
-pub namespace_has : (m : Master) (ns : Id) (i : Interval) → In i m.activity → owner_of m.catalog.owners i.table ≡ Some ns → In i (intervals_in m ns)
+pub namespace_has : (m : Master) (ns : Id) (i : Interval) → In i m.activity → owner_of m.catalog.owners i.table ≡ Some ns → In i (intervals_in m.catalog.owners m.activity ns)
 namespace_has m ns i isin owner = in_filter m.activity (λ i. owns m.catalog.owners ns i.table) i isin (ap (λ o. is_owned_by o ns) owner ∙ same_self ns)
 
 open_none : (to : Option ℕ) → is_open to ≡ true → to ≡ None
 open_none None e = refl
 open_none (Some x) e = cc
 
-pub active_only : (m : Master) (ns : Id) (i : Interval) → In i (active_tablets m ns) → IsOpenOf m ns i
-active_only m ns i isin = let h = filter_in (intervals_in m ns) (λ i. is_open i.to) i isin in let k = namespace_only m ns i h.0 in record { kept = k.0; opened = open_none i.to h.1; owned = k.1 }
+pub active_only : (m : Master) (ns : Id) (i : Interval) → In i (active_tablets m.catalog.owners m.activity ns) → IsOpenOf m ns i
+active_only m ns i isin = let h = filter_in (intervals_in m.catalog.owners m.activity ns) (λ i. is_open i.to) i isin in let k = namespace_only m ns i h.0 in record { kept = k.0; opened = open_none i.to h.1; owned = k.1 }
 
-pub active_has : (m : Master) (ns : Id) (i : Interval) → IsOpenOf m ns i → In i (active_tablets m ns)
-active_has m ns i h = in_filter (intervals_in m ns) (λ i. is_open i.to) i (namespace_has m ns i h.kept h.owned) (ap is_open h.opened)
+pub active_has : (m : Master) (ns : Id) (i : Interval) → IsOpenOf m ns i → In i (active_tablets m.catalog.owners m.activity ns)
+active_has m ns i h = in_filter (intervals_in m.catalog.owners m.activity ns) (λ i. is_open i.to) i (namespace_has m ns i h.kept h.owned) (ap is_open h.opened)
 
 -- a tablet has its intervals in one slot, for one table
 pub record OnePlace (i j : Interval) : Type 0 where

@@ -80,7 +80,7 @@ new_restoration s to m = record {
   schedule = s.id;
   namespace = s.namespace;
   to = to;
-  listed = listing Fence (active_tablets m s.namespace);
+  listed = listing Fence (active_tablets m.catalog.owners m.activity s.namespace);
   state = Fencing;
 }
 
@@ -148,7 +148,7 @@ begun_came ps activity changes n to s before may inv =
     let w = begun s to n m in
     let r = new_restoration s to m in
     let g = inv.operations.schedules s may.there in
-    let line : (l : Listed) → In l r.listed → IsLineOf Fence (active_tablets m s.namespace) l = λ l isin. listing_only Fence (active_tablets m s.namespace) l isin in
+    let line : (l : Listed) → In l r.listed → IsLineOf Fence (active_tablets m.catalog.owners m.activity s.namespace) l = λ l isin. listing_only Fence (active_tablets m.catalog.owners m.activity s.namespace) l isin in
     let was : (l : Listed) (isin : In l r.listed) → IsOpenOf m s.namespace (line l isin).interval = λ l isin. active_only m s.namespace _ (line l isin).listed in
     let known_ : (l : Listed) → In l r.listed → IsKnown m l = λ l isin. record { interval = (line l isin).interval; kept = (was l isin).kept; tablet_is = sym (line l isin).tablet_is; slot_is = sym (line l isin).slot_is } in
     record {
@@ -165,7 +165,7 @@ begun_came ps activity changes n to s before may inv =
         known = λ unfinished l isin. (let k = known_ l isin in record { interval = k.interval; kept = k.kept; tablet_is = k.tablet_is; slot_is = k.slot_is });
         in_state = record {
           bodies = λ l isin. (line l isin).body_is;
-          lists = λ i opened. listing_has Fence (active_tablets m s.namespace) i (active_has m s.namespace i (record { kept = opened.kept; opened = opened.opened; owned = opened.owned }));
+          lists = λ i opened. listing_has Fence (active_tablets m.catalog.owners m.activity s.namespace) i (active_has m s.namespace i (record { kept = opened.kept; opened = opened.opened; owned = opened.owned }));
           opens = λ l isin. ((line l isin).interval, (record { kept = (was l isin).kept; opened = (was l isin).opened; owned = (was l isin).owned }, (sym (line l isin).tablet_is, sym (line l isin).slot_is)));
         };
       };

@@ -78,10 +78,10 @@ taken_good ps activity changes n s before may inv =
     let ops = inv.operations in
     let g = ops.schedules s may.there in
     let body = Freeze (next_snapshot m) n in
-    let within = filter (active_within (after_of s.last s) n) (intervals_in m s.namespace) in
+    let within = filter (active_within (after_of s.last s) n) (intervals_in m.catalog.owners m.activity s.namespace) in
     let line : (l : Listed) → In l (new_snapshot m s n).listed → IsLineOf body (once within) l = λ l isin. listing_only body (once within) l isin in
     let was : (l : Listed) (isin : In l (new_snapshot m s n).listed) → In (line l isin).interval m.activity × (owner_of m.catalog.owners (line l isin).interval.table ≡ Some s.namespace) =
-    λ l isin. namespace_only m s.namespace _ (filter_in (intervals_in m s.namespace) (active_within (after_of s.last s) n) _ (once_only within _ (line l isin).listed)).0 in
+    λ l isin. namespace_only m s.namespace _ (filter_in (intervals_in m.catalog.owners m.activity s.namespace) (active_within (after_of s.last s) n) _ (once_only within _ (line l isin).listed)).0 in
     record {
       kind_is = refl;
       drawn = le_refl _;
@@ -98,9 +98,9 @@ taken_good ps activity changes n s before may inv =
           (ap (owner_of m.catalog.owners) k.table_is ∙ (was l isin).1, k.slot_is ∙ sym (line l isin).slot_is));
       known = λ unfinished l isin. record { interval = (line l isin).interval; kept = (was l isin).0; tablet_is = sym (line l isin).tablet_is; slot_is = sym (line l isin).slot_is };
       lists = λ i there owner active. (
-          let first = once_has within i (in_filter (intervals_in m s.namespace) (active_within (after_of s.last s) n) i (namespace_has m s.namespace i there owner) active) in
+          let first = once_has within i (in_filter (intervals_in m.catalog.owners m.activity s.namespace) (active_within (after_of s.last s) n) i (namespace_has m s.namespace i there owner) active) in
           let listed = listing_has body (once within) first.0 first.1.0 in
-          let kept = namespace_only m s.namespace first.0 (filter_in (intervals_in m s.namespace) (active_within (after_of s.last s) n) first.0 (once_only within first.0 first.1.0)).0 in
+          let kept = namespace_only m s.namespace first.0 (filter_in (intervals_in m.catalog.owners m.activity s.namespace) (active_within (after_of s.last s) n) first.0 (once_only within first.0 first.1.0)).0 in
           let k = one_place ps activity changes first.0 i inv kept.0 there first.1.1 in
           record { line = listed.line; listed = listed.listed; tablet_is = listed.tablet_is ∙ first.1.1; slot_is = listed.slot_is ∙ k.slot_is });
       reached = elim g.reached [
@@ -206,7 +206,7 @@ taken_onto ps activity changes n s before may inv =
           drawn = omega arith;
           unfinished = refl;
           known = λ l isin. (let k = good.known refl l isin in record { interval = k.interval; kept = k.kept; tablet_is = k.tablet_is; slot_is = k.slot_is });
-          unacked = λ l isin. (listing_only (Freeze (next_snapshot m) n) (tablets_active_within m s.namespace (after_of s.last s) n) l isin).unacked;
+          unacked = λ l isin. (listing_only (Freeze (next_snapshot m) n) (tablets_active_within m.catalog.owners m.activity s.namespace (after_of s.last s) n) l isin).unacked;
           apart = λ k point isin unfinished at. (
             λ e. may.early k point isin unfinished at e,
             λ e. (let t = (ops.restorations k isin).scheduled unfinished in

@@ -38,10 +38,10 @@ pub record IsSwitch (ps : Parts) (activity : List Interval) (changes : List Chan
 
 -- what the tablets are to do after the switch
 abbrev pub listed_then : Master → RestorationRecord → ℕ → Id → List Listed
-listed_then m r point serving_ = switch_list m r.namespace r.to point serving_ (restored_tables m.catalog.tables r.namespace r.to point)
+listed_then m r point serving_ = switch_list m.catalog.owners m.activity r.namespace r.to point serving_ (restored_tables m.catalog.tables r.namespace r.to point)
 
 abbrev pub activity_then : Master → RestorationRecord → ℕ → List Interval
-activity_then m r point = restored_activity m r.namespace r.to point
+activity_then m r point = restored_activity m.catalog.owners m.activity r.namespace r.to point
 
 abbrev pub turned : Master → RestorationRecord → ℕ → Id → ℕ → Master
 turned m r point serving_ n = record m {
@@ -106,27 +106,27 @@ is_mine m ns table owner = ap (λ o. is_owned_by o ns) owner ∙ same_self ns
 
 -- Intervals
 
-pub then_only : (m : Master) (ns : Id) (to : ℕ) (i : Interval) → In i (tablets_active_at m ns to) → In i m.activity × ((owner_of m.catalog.owners i.table ≡ Some ns) × (active_at to i ≡ true))
-then_only m ns to i isin = let h = filter_in (intervals_in m ns) (active_at to) i isin in let k = namespace_only m ns i h.0 in (k.0, (k.1, h.1))
+pub then_only : (m : Master) (ns : Id) (to : ℕ) (i : Interval) → In i (tablets_active_at m.catalog.owners m.activity ns to) → In i m.activity × ((owner_of m.catalog.owners i.table ≡ Some ns) × (active_at to i ≡ true))
+then_only m ns to i isin = let h = filter_in (intervals_in m.catalog.owners m.activity ns) (active_at to) i isin in let k = namespace_only m ns i h.0 in (k.0, (k.1, h.1))
 
-pub then_has : (m : Master) (ns : Id) (to : ℕ) (i : Interval) → In i m.activity → owner_of m.catalog.owners i.table ≡ Some ns → active_at to i ≡ true → In i (tablets_active_at m ns to)
-then_has m ns to i isin owner active = in_filter (intervals_in m ns) (active_at to) i (namespace_has m ns i isin owner) active
+pub then_has : (m : Master) (ns : Id) (to : ℕ) (i : Interval) → In i m.activity → owner_of m.catalog.owners i.table ≡ Some ns → active_at to i ≡ true → In i (tablets_active_at m.catalog.owners m.activity ns to)
+then_has m ns to i isin owner active = in_filter (intervals_in m.catalog.owners m.activity ns) (active_at to) i (namespace_has m ns i isin owner) active
 
 -- an interval after the switch is one that was there and may have ended, or one that begins at the point
 pub interval_is : (P : Interval → Type 0) (m : Master) (r : RestorationRecord) (point : ℕ) → ((i : Interval) → In i m.activity → P (ended_in m.catalog.owners r.namespace point i))
     → ((i : Interval) → In i m.activity → owner_of m.catalog.owners i.table ≡ Some r.namespace → active_at r.to i ≡ true → P (begun_at point i)) → (j : Interval) → In j (activity_then m r point) → P j
-interval_is P m r point old begun j isin = elim (in_append (end_namespace_tablets m.catalog.owners r.namespace point m.activity) (map (begun_at point) (tablets_active_at m r.namespace r.to)) j isin) [
+interval_is P m r point old begun j isin = elim (in_append (end_namespace_tablets m.catalog.owners r.namespace point m.activity) (map (begun_at point) (tablets_active_at m.catalog.owners m.activity r.namespace r.to)) j isin) [
   | inl there ↦ in_mapped {A = Interval} {B = Interval} (ended_in m.catalog.owners r.namespace point) P m.activity old j there
-  | inr came ↦ in_mapped {A = Interval} {B = Interval} (begun_at point) P (tablets_active_at m r.namespace r.to) (λ i there. let k = then_only m r.namespace r.to i there in begun i k.0 k.1.0 k.1.1) j came
+  | inr came ↦ in_mapped {A = Interval} {B = Interval} (begun_at point) P (tablets_active_at m.catalog.owners m.activity r.namespace r.to) (λ i there. let k = then_only m r.namespace r.to i there in begun i k.0 k.1.0 k.1.1) j came
 ]
 
 pub ended_there : (m : Master) (r : RestorationRecord) (point : ℕ) (i : Interval) → In i m.activity → In (ended_in m.catalog.owners r.namespace point i) (activity_then m r point)
-ended_there m r point i isin = in_first (end_namespace_tablets m.catalog.owners r.namespace point m.activity) (map (begun_at point) (tablets_active_at m r.namespace r.to)) (ended_in m.catalog.owners r.namespace point i)
+ended_there m r point i isin = in_first (end_namespace_tablets m.catalog.owners r.namespace point m.activity) (map (begun_at point) (tablets_active_at m.catalog.owners m.activity r.namespace r.to)) (ended_in m.catalog.owners r.namespace point i)
     (map_in {A = Interval} {B = Interval} (ended_in m.catalog.owners r.namespace point) m.activity i isin)
 
 pub begun_there : (m : Master) (r : RestorationRecord) (point : ℕ) (i : Interval) → In i m.activity → owner_of m.catalog.owners i.table ≡ Some r.namespace → active_at r.to i ≡ true → In (begun_at point i) (activity_then m r point)
-begun_there m r point i isin owner active = in_second (end_namespace_tablets m.catalog.owners r.namespace point m.activity) (map (begun_at point) (tablets_active_at m r.namespace r.to)) (begun_at point i)
-    (map_in {A = Interval} {B = Interval} (begun_at point) (tablets_active_at m r.namespace r.to) i (then_has m r.namespace r.to i isin owner active))
+begun_there m r point i isin owner active = in_second (end_namespace_tablets m.catalog.owners r.namespace point m.activity) (map (begun_at point) (tablets_active_at m.catalog.owners m.activity r.namespace r.to)) (begun_at point i)
+    (map_in {A = Interval} {B = Interval} (begun_at point) (tablets_active_at m.catalog.owners m.activity r.namespace r.to) i (then_has m r.namespace r.to i isin owner active))
 
 -- one of another namespace stays
 pub ended_other : (m : Master) (ns : Id) (point : ℕ) (i : Interval) → owns m.catalog.owners ns i.table ≡ false → ended_in m.catalog.owners ns point i ≡ i
@@ -176,14 +176,14 @@ pub record IsLine (m : Master) (r : RestorationRecord) (point : ℕ) (serving_ :
   pub interval : Interval
   pub kept : In interval m.activity
   pub owned : owner_of m.catalog.owners interval.table ≡ Some r.namespace
-  pub first : In interval (once (tablets_active_at m r.namespace r.to ++ active_tablets m r.namespace))
+  pub first : In interval (once (tablets_active_at m.catalog.owners m.activity r.namespace r.to ++ active_tablets m.catalog.owners m.activity r.namespace))
   pub is : line_for m r point serving_ interval ≡ l
 
 pub line_is : (m : Master) (r : RestorationRecord) (point : ℕ) (serving_ : Id) (l : Listed) → In l (listed_then m r point serving_) → IsLine m r point serving_ l
-line_is m r point serving_ l isin = in_mapped {A = Interval} {B = Listed} (line_for m r point serving_) (IsLine m r point serving_) (concerned m r.namespace r.to)
+line_is m r point serving_ l isin = in_mapped {A = Interval} {B = Listed} (line_for m r point serving_) (IsLine m r point serving_) (concerned m.catalog.owners m.activity r.namespace r.to)
     (λ i there.
-    let one = ordered_only _ (once (tablets_active_at m r.namespace r.to ++ active_tablets m r.namespace)) i there in
-    elim (in_append (tablets_active_at m r.namespace r.to) (active_tablets m r.namespace) i (once_only (tablets_active_at m r.namespace r.to ++ active_tablets m r.namespace) i one)) [
+    let one = ordered_only _ (once (tablets_active_at m.catalog.owners m.activity r.namespace r.to ++ active_tablets m.catalog.owners m.activity r.namespace)) i there in
+    elim (in_append (tablets_active_at m.catalog.owners m.activity r.namespace r.to) (active_tablets m.catalog.owners m.activity r.namespace) i (once_only (tablets_active_at m.catalog.owners m.activity r.namespace r.to ++ active_tablets m.catalog.owners m.activity r.namespace) i one)) [
       | inl old ↦ (let k = then_only m r.namespace r.to i old in record { interval = i; kept = k.0; owned = k.1.0; first = one; is = refl })
       | inr now ↦ (let k = active_only m r.namespace i now in record { interval = i; kept = k.kept; owned = k.owned; first = one; is = refl })
     ]) l isin
@@ -210,7 +210,7 @@ line_restores m r point serving_ l h = ap (λ q. is_restore q.body) (sym h.is) �
 pub line_then : (m : Master) (r : RestorationRecord) (point : ℕ) (serving_ : Id) (l : Listed) (h : IsLine m r point serving_ l) (j : Interval) → In j m.activity → owner_of m.catalog.owners j.table ≡ Some r.namespace → active_at r.to j ≡ true → j.tablet ≡ l.tablet
     → is_restore l.body ≡ true
 line_then m r point serving_ l h j isin owner active e =
-    let first = first_then (tablets_active_at m r.namespace r.to) (active_tablets m r.namespace) h.interval j h.first (then_has m r.namespace r.to j isin owner active) (e ∙ ap (λ q. q.tablet) (sym h.is)) in
+    let first = first_then (tablets_active_at m.catalog.owners m.activity r.namespace r.to) (active_tablets m.catalog.owners m.activity r.namespace) h.interval j h.first (then_has m r.namespace r.to j isin owner active) (e ∙ ap (λ q. q.tablet) (sym h.is)) in
     line_restores m r point serving_ l h ∙ (then_only m r.namespace r.to h.interval first).1.1
 
 -- each tablet that was active at the time, or is now, has its line
@@ -221,13 +221,13 @@ pub record HasLine (m : Master) (r : RestorationRecord) (point : ℕ) (serving_ 
   pub slot_is : line.slot ≡ i.slot
 
 pub has_line : (ps : Parts) (activity : List Interval) (changes : List Change) (r : RestorationRecord) (point : ℕ) (serving_ : Id) (i : Interval) → Inv ps activity changes
-    → In i (tablets_active_at ps.master r.namespace r.to ++ active_tablets ps.master r.namespace) → HasLine ps.master r point serving_ i
+    → In i (tablets_active_at ps.master.catalog.owners ps.master.activity r.namespace r.to ++ active_tablets ps.master.catalog.owners ps.master.activity r.namespace) → HasLine ps.master r point serving_ i
 has_line ps activity changes r point serving_ i inv isin =
     let m = ps.master in
-    let all = tablets_active_at m r.namespace r.to ++ active_tablets m r.namespace in
+    let all = tablets_active_at m.catalog.owners m.activity r.namespace r.to ++ active_tablets m.catalog.owners m.activity r.namespace in
     let first = once_has all i isin in
-    let there : In (line_for m r point serving_ first.0) (listed_then m r point serving_) = map_in {A = Interval} {B = Listed} (line_for m r point serving_) (concerned m r.namespace r.to) first.0 (ordered_has _ (once all) first.0 first.1.0) in
-    let kept : (j : Interval) → In j all → In j m.activity = λ j j_in. elim (in_append (tablets_active_at m r.namespace r.to) (active_tablets m r.namespace) j j_in) [
+    let there : In (line_for m r point serving_ first.0) (listed_then m r point serving_) = map_in {A = Interval} {B = Listed} (line_for m r point serving_) (concerned m.catalog.owners m.activity r.namespace r.to) first.0 (ordered_has _ (once all) first.0 first.1.0) in
+    let kept : (j : Interval) → In j all → In j m.activity = λ j j_in. elim (in_append (tablets_active_at m.catalog.owners m.activity r.namespace r.to) (active_tablets m.catalog.owners m.activity r.namespace) j j_in) [
       | inl old ↦ (then_only m r.namespace r.to j old).0
       | inr now ↦ (active_only m r.namespace j now).kept
     ] in
@@ -235,11 +235,11 @@ has_line ps activity changes r point serving_ i inv isin =
     record { line = line_for m r point serving_ first.0; listed = there; tablet_is = first.1.1; slot_is = k.slot_is }
 
 pub line_of_open : (ps : Parts) (activity : List Interval) (changes : List Change) (r : RestorationRecord) (point : ℕ) (serving_ : Id) (i : Interval) → Inv ps activity changes → IsOpenOf ps.master r.namespace i → HasLine ps.master r point serving_ i
-line_of_open ps activity changes r point serving_ i inv h = has_line ps activity changes r point serving_ i inv (in_second (tablets_active_at ps.master r.namespace r.to) (active_tablets ps.master r.namespace) i (active_has ps.master r.namespace i h))
+line_of_open ps activity changes r point serving_ i inv h = has_line ps activity changes r point serving_ i inv (in_second (tablets_active_at ps.master.catalog.owners ps.master.activity r.namespace r.to) (active_tablets ps.master.catalog.owners ps.master.activity r.namespace) i (active_has ps.master r.namespace i h))
 
 pub line_of_then : (ps : Parts) (activity : List Interval) (changes : List Change) (r : RestorationRecord) (point : ℕ) (serving_ : Id) (i : Interval) → Inv ps activity changes → In i ps.master.activity → owner_of ps.master.catalog.owners i.table ≡ Some r.namespace → active_at r.to i ≡ true
     → HasLine ps.master r point serving_ i
-line_of_then ps activity changes r point serving_ i inv isin owner active = has_line ps activity changes r point serving_ i inv (in_first (tablets_active_at ps.master r.namespace r.to) (active_tablets ps.master r.namespace) i (then_has ps.master r.namespace r.to i isin owner active))
+line_of_then ps activity changes r point serving_ i inv isin owner active = has_line ps activity changes r point serving_ i inv (in_first (tablets_active_at ps.master.catalog.owners ps.master.activity r.namespace r.to) (active_tablets ps.master.catalog.owners ps.master.activity r.namespace) i (then_has ps.master r.namespace r.to i isin owner active))
 
 -- What tablets await
 

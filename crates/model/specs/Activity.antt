@@ -17,9 +17,13 @@ pub record Interval : Type 0 where
 abbrev pub active_at : ℕ → Interval → Bool
 active_at x i = holds_at x i.from i.to
 
+-- active at some time from a to b, both counted
+abbrev pub active_between : ℕ → ℕ → Interval → Bool
+active_between a b i = nat_le i.from b && before_end a i.to
+
 -- active at some time after a and at or before b
 abbrev pub active_within : ℕ → ℕ → Interval → Bool
-active_within a b i = nat_le i.from b && before_end (a + 1) i.to
+active_within a b i = active_between (a + 1) b i
 
 -- the interval of the table's tablet that held the code at x
 abbrev pub route : List Interval → Id → ℕ → ℕ → Option Interval

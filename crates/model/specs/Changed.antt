@@ -5,13 +5,14 @@ use Rattle.std.specs.List.{filter}
 use Rattle.row_values.specs.Ranges.{share_from}
 use Rattle.row_values.specs.Ids.{Id, same, no_id, Namespace as NamespaceKind, Table as TableKind, Tablet as TabletKind, Schedule as ScheduleKind, Restoration as RestorationKind, Clone as CloneKind}
 use Rattle.row_values.specs.Schema.{NewColumn, Schema, first_schema, with_column, without_column}
-use Rattle.model.specs.Catalog.{TableRecord, Owner, namespace_named, tables_at, set_kept_from, end_namespace, end_table, change_table}
+use Rattle.model.specs.Catalog.{TableRecord, Owner, namespace_named, set_kept_from, end_namespace, end_table, change_table}
 use Rattle.model.specs.Activity.{Interval, end_tablet, end_table_tablets}
 use Rattle.model.specs.Tablets.{Fence}
 use Rattle.model.specs.Records.{Schedule, Fencing, Accepted, IdPair, TabletPair, CloneRecord, schedule_with}
 use Rattle.model.specs.Acts.{Command, CreateNamespace, DropNamespace, CreateTable, AddColumn, DropColumn, RenameTable, DropTable, Split, CreateSchedule, DeleteSchedule, TakeSnapshot, Restore, CloneNamespace}
 use Rattle.model.specs.Parts.{Master}
-use Rattle.model.specs.Lists.{by_table_and_range, active_tablets, tablets_active_at, listing, numbered_as, with_snapshot}
+use Rattle.model.specs.Restored.{clone_map}
+use Rattle.model.specs.Lists.{active_tablets, listing, numbered_as, with_snapshot}
 use Rattle.model.specs.Looks.{free_slots, known, table_of, holding, the_table}
 
 abbrev pub next_namespace : Master → Id
@@ -90,11 +91,11 @@ pair_tablets (i ∷ is) (slot ∷ slots) drawn tables = record {
 
 -- the source tablets of a clone to a time
 abbrev pub sources : Master → Id → ℕ → List Interval
-sources m ns to = by_table_and_range (tablets_active_at m ns to)
+sources m ns to = (clone_map m.catalog m.activity ns to).places
 
 -- a new clone: names, identifiers and the least free slots are reserved
 abbrev pub new_clone : Id → List ℕ → List ℕ → ℕ → Master → CloneRecord
-new_clone ns source target to m = let tables = pair_tables (tables_at m.catalog.tables ns to) m.drawn.tables in record {
+new_clone ns source target to m = let tables = pair_tables (clone_map m.catalog m.activity ns to).tables m.drawn.tables in record {
   id = next_clone m;
   source = ns;
   source_name = source;
@@ -184,7 +185,7 @@ restoration_begun s to n m = record m {
         schedule = s.id;
         namespace = s.namespace;
         to = to;
-        listed = listing Fence (active_tablets m s.namespace);
+        listed = listing Fence (active_tablets m.catalog.owners m.activity s.namespace);
         state = Fencing;
       }
       ∷ [];

@@ -1,9 +1,9 @@
 -- What retention doesn't need any more: hidden tablets and complete snapshots below the floor of their namespace, and
 -- records of the catalog.
-use Rattle.std.specs.Prelude.{ℕ, Bool, true, false, List, [], ◌∷◌, ◌++◌, Option, Some, None, ◌==◌, ◌&&◌, ◌||◌, ◌+◌, ◌-◌, not, max, min, nat_le, nat_lt, length, is_some, map, if◌then◌else◌}
-use Rattle.std.specs.Option.{option_or, option_map_or}
+use Rattle.std.specs.Prelude.{ℕ, Bool, true, false, List, [], ◌∷◌, ◌++◌, Option, Some, None, ◌==◌, ◌&&◌, ◌||◌, ◌+◌, ◌-◌, not, max, min, nat_le, nat_lt, length, is_some, is_none, map, if◌then◌else◌}
+use Rattle.std.specs.Option.{option_or, option_map, option_map_or}
 use Rattle.std.specs.List.{list_any, filter}
-use Rattle.row_values.specs.Ids.{Id, Kind, Tablet, same}
+use Rattle.row_values.specs.Ids.{Id, Kind, Namespace, Table, Tablet, Schedule, Snapshot, Restoration, Clone, same}
 use Rattle.row_values.specs.Slots.{same_slots, rising}
 use Rattle.model.specs.Times.{ended_by}
 use Rattle.model.specs.Catalog.{NamespaceRecord, TableRecord, KeptFrom, Catalog, owner_of}
@@ -11,7 +11,7 @@ use Rattle.model.specs.Activity.{Interval, last_of, forget}
 use Rattle.model.specs.Tablets.{Tablet as TabletPart, Presence, EmptyPart, ServingPart, HiddenPart, Empty, Clear, DropFrozen, standing, is_hidden}
 use Rattle.model.specs.Records.{Listed, SnapshotRecord, RestorationRecord, CloneRecord, named_by_restoration, named_by_clone, is_restored, is_cloned, lists_tablet, schedule_of, snapshot_with}
 use Rattle.model.specs.Acts.{Refusal, UnknownSnapshot, Moved, StalePlan, InWindow, IsListed, Removal, Removed, Pruned}
-use Rattle.model.specs.Parts.{Master, Parts, Outcome, If, Removes, Prunes, judged, refused, Names}
+use Rattle.model.specs.Parts.{Master, Parts, Outcome, If, Fault, Removes, Prunes, judged, refused}
 use Rattle.model.specs.Schedules.{floor, history_retention}
 use Rattle.model.specs.Operations.{time_of_user}
 
@@ -23,25 +23,34 @@ floor_of m ns n = floor (schedule_of m.schedules ns) (time_of_user m ns) n
 abbrev pub floor_of_table : Master → Id → ℕ → ℕ
 floor_of_table m table n = option_map_or (λ ns. floor_of m ns n) (owner_of m.catalog.owners table) n
 
--- the first unfinished record that lists a tablet: snapshots, then restorations, then clones. A clone lists its sources too
+-- the first unfinished record that lists a tablet: snapshots, then restorations, then clones. A clone lists its sources
+-- too
 
 abbrev pub listing_snapshot : List SnapshotRecord → Id → Option Id
 listing_snapshot [] tablet = None
-listing_snapshot (r ∷ rs) tablet = if not r.complete && lists_tablet tablet r.listed then Some r.id else listing_snapshot rs tablet
+listing_snapshot (r ∷ rs) tablet =
+    if not r.complete && lists_tablet tablet r.listed then Some r.id else listing_snapshot rs tablet
 
 abbrev pub listing_restoration : List RestorationRecord → Id → Option Id
 listing_restoration [] tablet = None
-listing_restoration (r ∷ rs) tablet = if not (is_restored r.state) && lists_tablet tablet r.listed then Some r.id else listing_restoration rs tablet
+listing_restoration (r ∷ rs) tablet =
+    if not (is_restored r.state) && lists_tablet tablet r.listed then Some r.id else listing_restoration rs tablet
 
 abbrev pub takes_from : CloneRecord → Id → Bool
 takes_from r tablet = list_any (λ p. same p.source tablet) r.tablets
 
 abbrev pub listing_clone : List CloneRecord → Id → Option Id
 listing_clone [] tablet = None
-listing_clone (r ∷ rs) tablet = if not (is_cloned r.state) && (lists_tablet tablet r.listed || takes_from r tablet) then Some r.id else listing_clone rs tablet
+listing_clone (r ∷ rs) tablet =
+    if not (is_cloned r.state) && (lists_tablet tablet r.listed || takes_from r tablet)
+    then Some r.id
+    else listing_clone rs tablet
 
 abbrev pub lister_of_tablet : Master → Id → Option Id
-lister_of_tablet m tablet = option_or (listing_snapshot m.snapshots tablet) (option_or (listing_restoration m.restorations tablet) (listing_clone m.clones tablet))
+lister_of_tablet m tablet =
+    option_or
+    (listing_snapshot m.snapshots tablet)
+    (option_or (listing_restoration m.restorations tablet) (listing_clone m.clones tablet))
 
 -- the first unfinished record that is a snapshot or names it
 
@@ -51,14 +60,30 @@ is_this snapshot (Some named) = same named snapshot
 
 abbrev pub naming_restoration : List RestorationRecord → Id → Option Id
 naming_restoration [] snapshot = None
-naming_restoration (r ∷ rs) snapshot = if not (is_restored r.state) && is_this snapshot (named_by_restoration r.state) then Some r.id else naming_restoration rs snapshot
+naming_restoration (r ∷ rs) snapshot =
+    if not (is_restored r.state) && is_this snapshot (named_by_restoration r.state)
+    then Some r.id
+    else naming_restoration rs snapshot
 
 abbrev pub naming_clone : List CloneRecord → Id → Option Id
 naming_clone [] snapshot = None
-naming_clone (r ∷ rs) snapshot = if not (is_cloned r.state) && is_this snapshot (named_by_clone r.state) then Some r.id else naming_clone rs snapshot
+naming_clone (r ∷ rs) snapshot =
+    if not (is_cloned r.state) && is_this snapshot (named_by_clone r.state) then Some r.id else naming_clone rs snapshot
 
 abbrev pub lister_of_snapshot : Master → SnapshotRecord → Option Id
-lister_of_snapshot m r = option_or (if r.complete then None else Some r.id) (option_or (naming_restoration m.restorations r.id) (naming_clone m.clones r.id))
+lister_of_snapshot m r =
+    option_or
+    (if r.complete then None else Some r.id)
+    (option_or (naming_restoration m.restorations r.id) (naming_clone m.clones r.id))
+
+-- why a tablet that was hidden at a stamp stays: retention needs it, or else a record lists it
+abbrev pub removable_tablet : ℕ → ℕ → Option Id → Option Refusal
+removable_tablet ended floor lister =
+    if nat_lt floor ended then Some (InWindow ended floor) else option_map IsListed lister
+
+-- why a snapshot of a time stays: retention needs it, or else a record is unfinished that is it, or names it
+abbrev pub removable_snapshot : ℕ → ℕ → Option Id → Option Refusal
+removable_snapshot at floor namer = if nat_le floor at then Some (InWindow at floor) else option_map IsListed namer
 
 -- a tablet is present as long as the master keeps an interval of it
 abbrev pub is_present : Master → Id → Bool
@@ -89,13 +114,12 @@ removing_unknown slots why = judged (If (not (same_slots slots [])) (StalePlan [
 abbrev pub removing_tablet : Option Interval → Id → List ℕ → ℕ → Parts → Outcome
 removing_tablet None target slots n ps = removing_unknown slots (Moved 0 Empty)
 removing_tablet (Some i) target slots n ps =
+    let m = ps.master in
     let t = ps.tablet i.slot in
-    let floor = floor_of_table ps.master i.table n in
     judged
     (If (not (same_slots slots (i.slot ∷ []))) (StalePlan (i.slot ∷ []))
     ∷ If (not (is_hidden_as target t)) (Moved i.slot (standing t))
-    ∷ If (nat_lt floor (hidden_at t.presence)) (InWindow (hidden_at t.presence) floor)
-    ∷ Names (lister_of_tablet ps.master target) IsListed
+    ∷ Fault (removable_tablet (hidden_at t.presence) (floor_of_table m i.table n) (lister_of_tablet m target))
     ∷ [])
     (record { master = Removes target; tablets = record { slot = i.slot; act = Clear } ∷ []; reply = Removed })
 
@@ -103,18 +127,27 @@ removing_tablet (Some i) target slots n ps =
 abbrev pub removing_snapshot : Option SnapshotRecord → Id → List ℕ → ℕ → Parts → Outcome
 removing_snapshot None target slots n ps = removing_unknown slots UnknownSnapshot
 removing_snapshot (Some r) target slots n ps =
-    let plan = snapshot_plan ps.master r in
-    let floor = floor_of ps.master r.namespace n in
+    let m = ps.master in
+    let plan = snapshot_plan m r in
     judged
     (If (not (same_slots slots plan)) (StalePlan plan)
-    ∷ If (nat_le floor r.at) (InWindow r.at floor)
-    ∷ Names (lister_of_snapshot ps.master r) IsListed
+    ∷ Fault (removable_snapshot r.at (floor_of m r.namespace n) (lister_of_snapshot m r))
     ∷ [])
-    (record { master = Removes target; tablets = map (λ slot. record { slot = slot; act = DropFrozen target }) plan; reply = Removed })
+    (record {
+      master = Removes target;
+      tablets = map (λ slot. record { slot = slot; act = DropFrozen target }) plan;
+      reply = Removed;
+    })
 
 abbrev pub removing : Kind → Id → List ℕ → ℕ → Parts → Outcome
+removing Namespace target slots n ps = removing_unknown slots UnknownSnapshot
+removing Table target slots n ps = removing_unknown slots UnknownSnapshot
 removing Tablet target slots n ps = removing_tablet (last_of ps.master.activity target) target slots n ps
-removing _ target slots n ps = removing_snapshot (snapshot_with ps.master.snapshots target) target slots n ps
+removing Schedule target slots n ps = removing_unknown slots UnknownSnapshot
+removing Snapshot target slots n ps =
+    removing_snapshot (snapshot_with ps.master.snapshots target) target slots n ps
+removing Restoration target slots n ps = removing_unknown slots UnknownSnapshot
+removing Clone target slots n ps = removing_unknown slots UnknownSnapshot
 
 -- a tablet or a snapshot that retention doesn't need is removed
 unfoldable pub remove : Id → List ℕ → ℕ → Parts → Outcome
@@ -122,8 +155,16 @@ remove target slots n ps = removing target.kind target slots n ps
 
 -- the master forgets the tablet, or the snapshot's record
 abbrev pub removed_of : Kind → Id → ℕ → Master → Master
+removed_of Namespace target n m = record m { clock = n }
+removed_of Table target n m = record m { clock = n }
 removed_of Tablet target n m = record m { clock = n; activity = forget target m.activity }
-removed_of _ target n m = record m { clock = n; snapshots = filter (λ r. not (same r.id target)) m.snapshots }
+removed_of Schedule target n m = record m { clock = n }
+removed_of Snapshot target n m = record m {
+  clock = n;
+  snapshots = filter (λ r. not (same r.id target)) m.snapshots;
+}
+removed_of Restoration target n m = record m { clock = n }
+removed_of Clone target n m = record m { clock = n }
 
 abbrev pub removed : Id → ℕ → Master → Master
 removed target n m = removed_of target.kind target n m
@@ -133,13 +174,19 @@ abbrev pub last_in : List Interval → ℕ → Option Interval → Option Interv
 last_in [] slot found = found
 last_in (i ∷ is) slot found = last_in is slot (if i.slot == slot then Some i else found)
 
+-- whether a tablet that had ended may go; one that is active stays
+abbrev pub ends_removable : Option ℕ → ℕ → Option Id → Bool
+ends_removable None floor lister = false
+ends_removable (Some ended) floor lister = is_none (removable_tablet ended floor lister)
+
 -- whether the master knows the tablet as hidden, and retention doesn't need it
 abbrev pub is_removable_tablet : Master → ℕ → Interval → Bool
-is_removable_tablet m n i = ended_by (floor_of_table m i.table n) i.to && not (is_some (lister_of_tablet m i.tablet))
+is_removable_tablet m n i = ends_removable i.to (floor_of_table m i.table n) (lister_of_tablet m i.tablet)
 
 abbrev pub removal_in : Master → ℕ → Option Interval → List Removal
 removal_in m n None = []
-removal_in m n (Some i) = if is_removable_tablet m n i then record { target = i.tablet; slots = i.slot ∷ [] } ∷ [] else []
+removal_in m n (Some i) =
+    if is_removable_tablet m n i then record { target = i.tablet; slots = i.slot ∷ [] } ∷ [] else []
 
 abbrev pub removals_in : List ℕ → Master → ℕ → List Removal
 removals_in [] m n = []
@@ -150,16 +197,17 @@ abbrev pub removable_tablets : Master → ℕ → List Removal
 removable_tablets m n = removals_in (rising (map (λ i. i.slot) m.activity)) m n
 
 abbrev pub is_removable_snapshot : Master → ℕ → SnapshotRecord → Bool
-is_removable_snapshot m n r = nat_lt r.at (floor_of m r.namespace n) && not (is_some (lister_of_snapshot m r))
+is_removable_snapshot m n r = is_none (removable_snapshot r.at (floor_of m r.namespace n) (lister_of_snapshot m r))
 
 -- the removable snapshots by number; the slots are those of the tablets that stay
 abbrev pub removable_snapshots : Master → ℕ → List Removal → List Removal
-removable_snapshots m n tablets = map {A = SnapshotRecord}
-    (λ r. record { target = r.id; slots = slots_where (λ tablet. not (list_any (λ t. same t.target tablet) tablets)) m r.listed })
-    (filter (is_removable_snapshot m n) m.snapshots)
+removable_snapshots m n tablets = map {A = SnapshotRecord} (λ r. record {
+  target = r.id;
+  slots = slots_where (λ tablet. not (list_any (λ t. same t.target tablet) tablets)) m r.listed;
+}) (filter (is_removable_snapshot m n) m.snapshots)
 
--- what is removable at a stamp: tablets by slot, then snapshots by number. Whoever removes the tablets first finds the plans
--- of the snapshots as they stand here
+-- what is removable at a stamp: tablets by slot, then snapshots by number. Whoever removes the tablets first finds the
+-- plans of the snapshots as they stand here
 abbrev pub removable : Master → ℕ → List Removal
 removable m n = removable_tablets m n ++ removable_snapshots m n (removable_tablets m n)
 
@@ -179,7 +227,9 @@ has_records c ns = list_any (λ r. same r.id ns) c.namespaces || list_any (λ r.
 
 -- the mark of a namespace rises as far as its records are taken; once it has none, the mark stays
 abbrev pub raised_mark : Master → ℕ → KeptFrom → KeptFrom
-raised_mark m n k = record k { from = if has_records m.catalog k.namespace then max k.from (prune_to m k.namespace n) else k.from }
+raised_mark m n k = record k {
+  from = if has_records m.catalog k.namespace then max k.from (prune_to m k.namespace n) else k.from;
+}
 
 -- the catalog's old records go
 unfoldable pub prune : ℕ → Parts → Outcome
@@ -188,7 +238,9 @@ prune n ps =
     record {
       master = Prunes;
       tablets = [];
-      reply = Pruned (length (filter (is_old_namespace m n) m.catalog.namespaces) + length (filter (is_old_table m n) m.catalog.tables));
+      reply = Pruned
+          (length (filter (is_old_namespace m n) m.catalog.namespaces)
+          + length (filter (is_old_table m n) m.catalog.tables));
     }
 
 abbrev pub pruned : ℕ → Master → Master

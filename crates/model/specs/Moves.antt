@@ -1,25 +1,101 @@
--- How the records of snapshots, restorations and clones move from state to state. A move waits for the listed tablets, and
--- some for a snapshot. It clears the acks and the sent marks of its record.
-use Rattle.std.specs.Prelude.{ℕ, Bool, true, false, List, [], ◌++◌, Option, Some, None, ◌&&◌, ◌||◌, ◌+◌, is_some, map, if◌then◌else◌}
+-- How the records of snapshots, restorations and clones move from state to state. A move waits for the listed tablets,
+-- and some for a snapshot. It clears the acks and the sent marks of its record.
+use Rattle.std.specs.Prelude.{ℕ, Bool, true, false, List, [], ◌++◌, Option, Some, None, ◌&&◌, ◌+◌, is_some, map, if◌then◌else◌}
 use Rattle.std.specs.Option.{unwrap_or, option_map, option_map_or, option_and_then}
 use Rattle.std.specs.List.{list_any, filter}
-use Rattle.row_values.specs.Ids.{Id, Kind, Snapshot, Restoration, Clone, same}
-use Rattle.model.specs.Tablets.{Body, RestoreFrom, Copy, Release}
-use Rattle.model.specs.Records.{Listed, Schedule, SnapshotRecord, RestorationRecord, CloneRecord, TabletPair, RestorationState, Fencing, Snapshotting, Switching, Restoring, Releasing, Restored, CloneState, Accepted, CloneSnapshot, Copying, CloneReleasing, CloneComplete, State, IsComplete, IsSnapshot, IsSwitching, IsRestoring, IsReleasing, IsRestored, IsCopying, first_unacked, unsent, schedule_with, schedule_of, unfinished_of}
+use Rattle.row_values.specs.Ids.{Id, Kind, Namespace, Table, Tablet, Schedule as ScheduleKind, Snapshot, Restoration, Clone, same}
+use Rattle.model.specs.Tablets.{Body, Fence, Freeze, RestoreFrom, Hide, Copy, Release, Command}
+use Rattle.model.specs.Records.{Listed, Schedule, SnapshotRecord, RestorationRecord, CloneRecord, TabletPair, RestorationState, Fencing, Snapshotting, Switching, Restoring, Releasing, Restored, CloneState, Accepted, CloneSnapshot, Copying, CloneReleasing, CloneComplete, State, IsComplete, IsSnapshot, IsSwitching, IsRestoring, IsReleasing, IsRestored, IsCopying, first_unacked, unacked, unsent, schedule_with, schedule_of, unfinished_of}
 use Rattle.model.specs.Acts.{NotPending, Waiting, Advanced}
 use Rattle.model.specs.Parts.{Master, Parts, Outcome, Moves, refused}
 use Rattle.model.specs.Schedules.{serving}
 use Rattle.model.specs.Lists.{next_snapshot, with_snapshot}
 use Rattle.model.specs.Restored.{restored_tables, restored_activity, switch_list, with_clone, cloned_activity}
-use Rattle.model.specs.Coordination.{unfinished_snapshot, unfinished_restoration, unfinished_clone}
+use Rattle.model.specs.Coordination.{command_for, unfinished_snapshot, unfinished_restoration, unfinished_clone}
 
--- how far an unfinished record is: the tablets that it lists, the unfinished snapshot that its next move has to wait for,
--- and the state that this move enters
-pub record Progress : Type 0 where
-  pub id : Id
+-- What a record asks of its tablets, and waits for
+
+-- a listed tablet's command, yet to be done
+pub record Pending : Type 0 where
+  pub slot : ℕ
+  pub command : Command
+
+-- what is yet to be done for a record, in the order of its list
+abbrev pub needs : Id → List Listed → List Pending
+needs operation ls =
+    map {A = Listed} (λ l. record { slot = l.slot; command = command_for operation l }) (unacked ls)
+
+-- what a move waits for: the first listed tablet without ack, and else an unfinished snapshot
+abbrev pub waits_for : Option Listed → Option Id → Option Id
+waits_for (Some l) awaited = Some l.tablet
+waits_for None awaited = awaited
+
+-- what the master found for the next move of a record: its stamp, the snapshot that serves the record's time, the
+-- unfinished snapshot for which the move has to wait, the identifier of the snapshot that it may make, and the tablets
+-- that are listed next
+pub record Given : Type 0 where
+  pub stamp : ℕ
+  pub serving : Option Id
+  pub unfinished : Option Id
+  pub made : Id
   pub listed : List Listed
-  pub awaited : Option Id
-  pub next : State
+
+-- What a move makes of a record
+
+-- the tablets are to do this, none of them has done it
+abbrev pub anew : List Listed → List Listed
+anew ls = map {A = Listed} (λ l. record l { acked = false }) ls
+
+abbrev pub snapshot_advanced : SnapshotRecord → SnapshotRecord
+snapshot_advanced r = record r { complete = true; listed = anew r.listed }
+
+-- the state that a restoration enters: its point is just after its own snapshot, and the first complete snapshot at or
+-- after the time serves it, at the latest its own
+abbrev pub restoration_next : RestorationState → Given → RestorationState
+restoration_next Fencing g = Snapshotting (g.stamp + 1) g.made
+restoration_next (Snapshotting point own) g = Switching point (unwrap_or g.serving own)
+restoration_next (Switching point serving) g = Restoring point serving
+restoration_next (Restoring point serving) g = Releasing point serving
+restoration_next (Releasing point serving) g = Restored point serving
+restoration_next (Restored point serving) g = Restored point serving
+
+abbrev pub restoration_advanced : RestorationState → Given → RestorationRecord → RestorationRecord
+restoration_advanced state g r = record r { state = restoration_next state g; listed = g.listed }
+
+-- a clone copies the rows of the snapshot that serves its time; where none does, it makes one first
+abbrev pub clone_begins : Option Id → Given → CloneState
+clone_begins (Some serving) g = Copying serving g.stamp
+clone_begins None g = CloneSnapshot g.made
+
+-- the state that a clone enters
+abbrev pub clone_next : CloneState → Given → CloneState
+clone_next Accepted g = clone_begins g.serving g
+clone_next (CloneSnapshot own) g = Copying (unwrap_or g.serving own) g.stamp
+clone_next (Copying serving copied_at) g = CloneReleasing serving copied_at
+clone_next (CloneReleasing serving copied_at) g = CloneComplete serving copied_at
+clone_next (CloneComplete serving copied_at) g = CloneComplete serving copied_at
+
+abbrev pub clone_advanced : CloneState → Given → CloneRecord → CloneRecord
+clone_advanced state g r = record r { state = clone_next state g; listed = g.listed }
+
+-- the state that a move enters, as it is printed
+
+abbrev pub after_restoration : RestorationState → State
+after_restoration Fencing = IsSnapshot
+after_restoration (Snapshotting point own) = IsSwitching
+after_restoration (Switching point serving) = IsRestoring
+after_restoration (Restoring point serving) = IsReleasing
+after_restoration (Releasing point serving) = IsRestored
+after_restoration (Restored point serving) = IsRestored
+
+abbrev pub after_clone : CloneState → Bool → State
+after_clone Accepted served = if served then IsCopying else IsSnapshot
+after_clone (CloneSnapshot own) served = IsCopying
+after_clone (Copying serving copied_at) served = IsReleasing
+after_clone (CloneReleasing serving copied_at) served = IsComplete
+after_clone (CloneComplete serving copied_at) served = IsComplete
+
+-- What the master finds for a move
 
 abbrev pub is_complete : List SnapshotRecord → Id → Bool
 is_complete rs id = list_any (λ r. same r.id id && r.complete) rs
@@ -32,76 +108,44 @@ incomplete rs id = if is_complete rs id then None else Some id
 abbrev pub serving_of : Option Schedule → List SnapshotRecord → ℕ → Option SnapshotRecord
 serving_of schedule rs to = option_and_then (λ s. serving rs s.id to) schedule
 
+abbrev pub id_of_snapshot : Option SnapshotRecord → Option Id
+id_of_snapshot found = option_map {T = SnapshotRecord} (λ s. s.id) found
+
+abbrev pub serving_restoration : Master → RestorationRecord → Option SnapshotRecord
+serving_restoration m r = serving m.snapshots r.schedule r.to
+
 abbrev pub serving_clone : Master → CloneRecord → Option SnapshotRecord
 serving_clone m r = serving_of (schedule_of m.schedules r.source) m.snapshots r.to
 
 abbrev pub awaited_by_restoration : RestorationState → Master → RestorationRecord → Option Id
 awaited_by_restoration Fencing m r = unfinished_of m.snapshots r.schedule
 awaited_by_restoration (Snapshotting point own) m r = incomplete m.snapshots own
-awaited_by_restoration _ m r = None
+awaited_by_restoration (Switching point serving) m r = None
+awaited_by_restoration (Restoring point serving) m r = None
+awaited_by_restoration (Releasing point serving) m r = None
+awaited_by_restoration (Restored point serving) m r = None
 
 abbrev pub awaited_by_clone : CloneState → Master → CloneRecord → Option Id
 awaited_by_clone Accepted m r =
-    if is_some (serving_clone m r) then None else option_and_then (λ s. unfinished_of m.snapshots s.id) (schedule_of m.schedules r.source)
+    if is_some (serving_clone m r)
+    then None
+    else option_and_then (λ s. unfinished_of m.snapshots s.id) (schedule_of m.schedules r.source)
 awaited_by_clone (CloneSnapshot own) m r = incomplete m.snapshots own
-awaited_by_clone _ m r = None
-
-abbrev pub after_restoration : RestorationState → State
-after_restoration Fencing = IsSnapshot
-after_restoration (Snapshotting point own) = IsSwitching
-after_restoration (Switching point serving) = IsRestoring
-after_restoration (Restoring point serving) = IsReleasing
-after_restoration _ = IsRestored
-
-abbrev pub after_clone : CloneState → Bool → State
-after_clone Accepted served = if served then IsCopying else IsSnapshot
-after_clone (CloneSnapshot own) served = IsCopying
-after_clone (Copying serving copied_at) served = IsReleasing
-after_clone _ served = IsComplete
-
-abbrev pub snapshot_progress : SnapshotRecord → Progress
-snapshot_progress r = record { id = r.id; listed = r.listed; awaited = None; next = IsComplete }
-
-abbrev pub restoration_progress : Master → RestorationRecord → Progress
-restoration_progress m r = record { id = r.id; listed = r.listed; awaited = awaited_by_restoration r.state m r; next = after_restoration r.state }
-
-abbrev pub clone_progress : Master → CloneRecord → Progress
-clone_progress m r = record { id = r.id; listed = r.listed; awaited = awaited_by_clone r.state m r; next = after_clone r.state (is_some (serving_clone m r)) }
-
--- of the unfinished record of an id
-abbrev pub progress_of : Kind → Master → Id → Option Progress
-progress_of Snapshot m id = option_map snapshot_progress (unfinished_snapshot m.snapshots id)
-progress_of Restoration m id = option_map (restoration_progress m) (unfinished_restoration m.restorations id)
-progress_of Clone m id = option_map (clone_progress m) (unfinished_clone m.clones id)
-progress_of _ m id = None
-
--- what a move waits for: the first listed tablet without ack, and else the unfinished snapshot
-abbrev pub waits_for : Option Listed → Option Id → Option Id
-waits_for (Some l) awaited = Some l.tablet
-waits_for None awaited = awaited
-
-abbrev pub moving : Option Id → Id → State → Outcome
-moving (Some on) operation next = refused (Waiting on)
-moving None operation next = record { master = Moves operation; tablets = []; reply = Advanced next }
-
-abbrev pub advancing : Option Progress → Id → Outcome
-advancing None operation = refused (NotPending operation)
-advancing (Some p) operation = moving (waits_for (first_unacked p.listed) p.awaited) operation p.next
-
--- the record moves to its next state
-unfoldable pub advance : Id → ℕ → Parts → Outcome
-advance operation n ps = advancing (progress_of operation.kind ps.master operation) operation
-
--- the tablets are to do this, none of them has done it
-abbrev pub anew : List Listed → List Listed
-anew ls = map {A = Listed} (λ l. record l { acked = false }) ls
+awaited_by_clone (Copying serving copied_at) m r = None
+awaited_by_clone (CloneReleasing serving copied_at) m r = None
+awaited_by_clone (CloneComplete serving copied_at) m r = None
 
 abbrev pub released : ℕ → List Listed → List Listed
-released cutoff ls = map (λ l. record { tablet = l.tablet; slot = l.slot; body = Release cutoff; acked = false }) ls
+released cutoff ls =
+    map (λ l. record { tablet = l.tablet; slot = l.slot; body = Release cutoff; acked = false }) ls
 
 abbrev pub is_restoring : Body → Bool
 is_restoring (RestoreFrom snapshot to point version) = true
-is_restoring _ = false
+is_restoring Fence = false
+is_restoring (Freeze snapshot at) = false
+is_restoring (Hide ended) = false
+is_restoring (Copy source snapshot to stamp table low high version) = false
+is_restoring (Release cutoff) = false
 
 -- the tablets that took back their rows
 abbrev pub brought_back : List Listed → List Listed
@@ -115,6 +159,97 @@ copies snapshot to stamp pairs = map (λ p. record {
   body = Copy p.source_slot snapshot to stamp p.table p.low p.high 1;
   acked = false;
 }) pairs
+
+-- the tablets that a restoration lists next
+abbrev pub restoration_lists : RestorationState → RestorationRecord → Master → List Listed
+restoration_lists Fencing r m = []
+restoration_lists (Snapshotting point own) r m = []
+restoration_lists (Switching point serving) r m =
+    let tables = restored_tables m.catalog.tables r.namespace r.to point in
+    switch_list m.catalog.owners m.activity r.namespace r.to point serving tables
+restoration_lists (Restoring point serving) r m = released point (brought_back r.listed)
+restoration_lists (Releasing point serving) r m = []
+restoration_lists (Restored point serving) r m = []
+
+abbrev pub given_restoration : RestorationState → RestorationRecord → ℕ → Master → Given
+given_restoration state r n m = record {
+  stamp = n;
+  serving = id_of_snapshot (serving_restoration m r);
+  unfinished = awaited_by_restoration state m r;
+  made = next_snapshot m;
+  listed = restoration_lists state r m;
+}
+
+-- the tablets that a clone lists next, with the snapshot that serves its time
+abbrev pub clone_lists : CloneState → Option Id → CloneRecord → ℕ → List Listed
+clone_lists Accepted (Some serving) r n = copies serving r.to n r.tablets
+clone_lists Accepted None r n = []
+clone_lists (CloneSnapshot own) serving r n = copies (unwrap_or serving own) r.to n r.tablets
+clone_lists (Copying serving copied_at) found r n = released n r.listed
+clone_lists (CloneReleasing serving copied_at) found r n = []
+clone_lists (CloneComplete serving copied_at) found r n = []
+
+abbrev pub given_clone : CloneState → Option Id → CloneRecord → ℕ → Master → Given
+given_clone state serving r n m = record {
+  stamp = n;
+  serving = serving;
+  unfinished = awaited_by_clone state m r;
+  made = next_snapshot m;
+  listed = clone_lists state serving r n;
+}
+
+-- An advance
+
+-- how far an unfinished record is: the tablets that it lists, the unfinished snapshot that its next move has to wait
+-- for, and the state that this move enters
+pub record Progress : Type 0 where
+  pub id : Id
+  pub listed : List Listed
+  pub awaited : Option Id
+  pub next : State
+
+abbrev pub snapshot_progress : SnapshotRecord → Progress
+snapshot_progress r = record { id = r.id; listed = r.listed; awaited = None; next = IsComplete }
+
+abbrev pub restoration_progress : Master → RestorationRecord → Progress
+restoration_progress m r = record {
+  id = r.id;
+  listed = r.listed;
+  awaited = awaited_by_restoration r.state m r;
+  next = after_restoration r.state;
+}
+
+abbrev pub clone_progress : Master → CloneRecord → Progress
+clone_progress m r = record {
+  id = r.id;
+  listed = r.listed;
+  awaited = awaited_by_clone r.state m r;
+  next = after_clone r.state (is_some (serving_clone m r));
+}
+
+-- of the unfinished record of an id
+abbrev pub progress_of : Kind → Master → Id → Option Progress
+progress_of Namespace m id = None
+progress_of Table m id = None
+progress_of Tablet m id = None
+progress_of ScheduleKind m id = None
+progress_of Snapshot m id = option_map snapshot_progress (unfinished_snapshot m.snapshots id)
+progress_of Restoration m id = option_map (restoration_progress m) (unfinished_restoration m.restorations id)
+progress_of Clone m id = option_map (clone_progress m) (unfinished_clone m.clones id)
+
+abbrev pub moving : Option Id → Id → State → Outcome
+moving (Some on) operation next = refused (Waiting on)
+moving None operation next = record { master = Moves operation; tablets = []; reply = Advanced next }
+
+abbrev pub advancing : Option Progress → Id → Outcome
+advancing None operation = refused (NotPending operation)
+advancing (Some p) operation = moving (waits_for (first_unacked p.listed) p.awaited) operation p.next
+
+-- the record moves to its next state
+unfoldable pub advance : Id → ℕ → Parts → Outcome
+advance operation n ps = advancing (progress_of operation.kind ps.master operation) operation
+
+-- What a move makes of the master
 
 -- a new snapshot of the schedule, on behalf of an operation
 abbrev pub with_own_snapshot : Option Schedule → ℕ → Master → Master
@@ -143,74 +278,90 @@ clone_enters r state listed n m = record m {
   sent = unsent r.id m.sent;
 }
 
--- each move, one by one
-
 -- a snapshot is complete, and its time is that of the schedule's last complete one
 abbrev pub completed : SnapshotRecord → ℕ → Master → Master
 completed r n m = record m {
   clock = n;
-  schedules = map {A = Schedule} (λ s. record s { complete = if same s.id r.schedule then Some r.at else s.complete }) m.schedules;
+  schedules = map {A = Schedule}
+      (λ s. record s { complete = if same s.id r.schedule then Some r.at else s.complete })
+      m.schedules;
   snapshots = map {A = SnapshotRecord} (λ x. record x {
-    complete = x.complete || same x.id r.id;
-    listed = if same x.id r.id then anew x.listed else x.listed;
+    complete = if same x.id r.id then (snapshot_advanced x).complete else x.complete;
+    listed = if same x.id r.id then (snapshot_advanced x).listed else x.listed;
   }) m.snapshots;
   sent = unsent r.id m.sent;
 }
 
--- all is fenced: a restoration makes its own snapshot, so that what it undoes can be brought back; its point is just after
-abbrev pub snapshots_itself : RestorationRecord → ℕ → Master → Master
-snapshots_itself r n m = restoration_enters r (Snapshotting (n + 1) (next_snapshot m)) [] n (with_own_snapshot (schedule_with m.schedules r.schedule) n m)
+-- the move of a restoration's record, beside what else becomes of the master
+abbrev pub restoration_goes : RestorationState → RestorationRecord → ℕ → Master → Master → Master
+restoration_goes state r n m beside =
+    let moved = restoration_advanced state (given_restoration state r n m) r in
+    restoration_enters r moved.state moved.listed n beside
 
--- the first complete snapshot at or after the time serves it, at the latest the restoration's own
-abbrev pub finds_serving : RestorationRecord → ℕ → Id → ℕ → Master → Master
-finds_serving r point own n m = restoration_enters r (Switching point (unwrap_or (option_map (λ s. s.id) (serving m.snapshots r.schedule r.to)) own)) [] n m
+-- all is fenced: a restoration makes its own snapshot, so that what it undoes can be brought back
+abbrev pub with_restorations_snapshot : RestorationRecord → ℕ → Master → Master
+with_restorations_snapshot r n m = with_own_snapshot (schedule_with m.schedules r.schedule) n m
 
 -- the switch: from the point on, the catalog and the active tablets are those of the time
-abbrev pub switches : RestorationRecord → ℕ → Id → ℕ → Master → Master
-switches r point serving n m =
-    let tables = restored_tables m.catalog.tables r.namespace r.to point in
-    record (restoration_enters r (Restoring point serving) (switch_list m r.namespace r.to point serving tables) n m) {
-      catalog = record m.catalog { tables = tables };
-      activity = restored_activity m r.namespace r.to point;
-    }
+abbrev pub switched : RestorationRecord → ℕ → Master → Master
+switched r point m = record m {
+  catalog = record m.catalog { tables = restored_tables m.catalog.tables r.namespace r.to point };
+  activity = restored_activity m.catalog.owners m.activity r.namespace r.to point;
+}
 
 abbrev pub restoration_moved : RestorationState → RestorationRecord → ℕ → Master → Master
-restoration_moved Fencing r n m = snapshots_itself r n m
-restoration_moved (Snapshotting point own) r n m = finds_serving r point own n m
-restoration_moved (Switching point serving) r n m = switches r point serving n m
-restoration_moved (Restoring point serving) r n m = restoration_enters r (Releasing point serving) (released point (brought_back r.listed)) n m
-restoration_moved (Releasing point serving) r n m = restoration_enters r (Restored point serving) [] n m
+restoration_moved Fencing r n m = restoration_goes Fencing r n m (with_restorations_snapshot r n m)
+restoration_moved (Snapshotting point own) r n m = restoration_goes (Snapshotting point own) r n m m
+restoration_moved (Switching point serving) r n m =
+    restoration_goes (Switching point serving) r n m (switched r point m)
+restoration_moved (Restoring point serving) r n m = restoration_goes (Restoring point serving) r n m m
+restoration_moved (Releasing point serving) r n m = restoration_goes (Releasing point serving) r n m m
 restoration_moved (Restored point serving) r n m = record m { clock = n }
 
--- a clone has its target tablets copy the rows of the snapshot that serves its time
-abbrev pub begins_copying : CloneRecord → Id → ℕ → Master → Master
-begins_copying r snapshot n m = clone_enters r (Copying snapshot n) (copies snapshot r.to n r.tablets) n m
+-- the move of a clone's record, with the snapshot that serves its time where the move asks for it, beside what else
+-- becomes of the master
+abbrev pub clone_goes : CloneState → Option Id → CloneRecord → ℕ → Master → Master → Master
+clone_goes state serving r n m beside =
+    let moved = clone_advanced state (given_clone state serving r n m) r in
+    clone_enters r moved.state moved.listed n beside
 
--- where none serves it, the clone makes one first
+-- where no snapshot serves its time, a clone makes one
 abbrev pub begins_clone : Option SnapshotRecord → CloneRecord → ℕ → Master → Master
-begins_clone (Some s) r n m = begins_copying r s.id n m
-begins_clone None r n m = clone_enters r (CloneSnapshot (next_snapshot m)) [] n (with_own_snapshot (schedule_of m.schedules r.source) n m)
+begins_clone (Some s) r n m = clone_goes Accepted (Some s.id) r n m m
+begins_clone None r n m = clone_goes Accepted None r n m (with_own_snapshot (schedule_of m.schedules r.source) n m)
 
 -- the target becomes current, its tablets active
-abbrev pub becomes_visible : CloneRecord → Id → ℕ → ℕ → Master → Master
-becomes_visible r snapshot copied_at n m = record (clone_enters r (CloneReleasing snapshot copied_at) (released n r.listed) n m) {
+abbrev pub with_target : CloneRecord → ℕ → Master → Master
+with_target r n m = record m {
   catalog = with_clone r n m.catalog;
   activity = m.activity ++ cloned_activity n r.tablets;
 }
 
 abbrev pub clone_moved : CloneState → CloneRecord → ℕ → Master → Master
 clone_moved Accepted r n m = begins_clone (serving_clone m r) r n m
-clone_moved (CloneSnapshot own) r n m = begins_copying r (unwrap_or (option_map (λ s. s.id) (serving_clone m r)) own) n m
-clone_moved (Copying snapshot copied_at) r n m = becomes_visible r snapshot copied_at n m
-clone_moved (CloneReleasing snapshot copied_at) r n m = clone_enters r (CloneComplete snapshot copied_at) [] n m
-clone_moved (CloneComplete snapshot copied_at) r n m = record m { clock = n }
+clone_moved (CloneSnapshot own) r n m = clone_goes (CloneSnapshot own) (id_of_snapshot (serving_clone m r)) r n m m
+clone_moved (Copying serving copied_at) r n m = clone_goes (Copying serving copied_at) None r n m (with_target r n m)
+clone_moved (CloneReleasing serving copied_at) r n m = clone_goes (CloneReleasing serving copied_at) None r n m m
+clone_moved (CloneComplete serving copied_at) r n m = record m { clock = n }
 
 -- the move of the record that was found
 abbrev pub moved_of : Kind → Id → ℕ → Master → Master
-moved_of Snapshot id n m = option_map_or (λ r. completed r n m) (unfinished_snapshot m.snapshots id) (record m { clock = n })
-moved_of Restoration id n m = option_map_or (λ r. restoration_moved r.state r n m) (unfinished_restoration m.restorations id) (record m { clock = n })
-moved_of Clone id n m = option_map_or (λ r. clone_moved r.state r n m) (unfinished_clone m.clones id) (record m { clock = n })
-moved_of _ id n m = record m { clock = n }
+moved_of Namespace id n m = record m { clock = n }
+moved_of Table id n m = record m { clock = n }
+moved_of Tablet id n m = record m { clock = n }
+moved_of ScheduleKind id n m = record m { clock = n }
+moved_of Snapshot id n m =
+    option_map_or (λ r. completed r n m) (unfinished_snapshot m.snapshots id) (record m { clock = n })
+moved_of Restoration id n m =
+    option_map_or
+    (λ r. restoration_moved r.state r n m)
+    (unfinished_restoration m.restorations id)
+    (record m { clock = n })
+moved_of Clone id n m =
+    option_map_or
+    (λ r. clone_moved r.state r n m)
+    (unfinished_clone m.clones id)
+    (record m { clock = n })
 
 -- what the master is told by an advance: the operation's record moves
 abbrev pub moved : Id → ℕ → Master → Master

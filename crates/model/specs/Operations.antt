@@ -1,5 +1,5 @@
--- The unfinished operation of a namespace: a restoration of it, or a clone. It holds the namespace that it restores or makes;
--- it uses the namespace that it holds, and a clone its source too.
+-- The unfinished operation of a namespace: a restoration of it, or a clone. It holds the namespace that it restores or
+-- makes; it uses the namespace that it holds, and a clone its source too.
 use Rattle.std.specs.Prelude.{ℕ, not, ◌&&◌, ◌||◌, List, [], ◌∷◌, if◌then◌else◌, Option, Some, None, option_map}
 use Rattle.std.specs.Option.{option_or}
 use Rattle.row_values.specs.Ids.{Id, same}
@@ -19,16 +19,26 @@ clone_to (r ∷ rs) ns = if same r.target_id ns && not (is_cloned r.state) then 
 -- the unfinished clone that makes the namespace, or has it as its source
 abbrev pub clone_with : List CloneRecord → Id → Option CloneRecord
 clone_with [] ns = None
-clone_with (r ∷ rs) ns = if (same r.target_id ns || same r.source ns) && not (is_cloned r.state) then Some r else clone_with rs ns
+clone_with (r ∷ rs) ns =
+    if (same r.target_id ns || same r.source ns) && not (is_cloned r.state) then Some r else clone_with rs ns
 
 -- the operation that holds a namespace
 abbrev pub holder : Master → Id → Option Id
-holder m ns = option_or (option_map (λ r. r.id) (restoration_of m.restorations ns)) (option_map (λ r. r.id) (clone_to m.clones ns))
+holder m ns =
+    option_or
+    (option_map (λ r. r.id) (restoration_of m.restorations ns))
+    (option_map (λ r. r.id) (clone_to m.clones ns))
 
 -- the operation that uses a namespace
 abbrev pub user : Master → Id → Option Id
-user m ns = option_or (option_map (λ r. r.id) (restoration_of m.restorations ns)) (option_map (λ r. r.id) (clone_with m.clones ns))
+user m ns =
+    option_or
+    (option_map (λ r. r.id) (restoration_of m.restorations ns))
+    (option_map (λ r. r.id) (clone_with m.clones ns))
 
 -- the time to which the operation that uses a namespace goes
 abbrev pub time_of_user : Master → Id → Option ℕ
-time_of_user m ns = option_or (option_map (λ r. r.to) (restoration_of m.restorations ns)) (option_map (λ r. r.to) (clone_with m.clones ns))
+time_of_user m ns =
+    option_or
+    (option_map (λ r. r.to) (restoration_of m.restorations ns))
+    (option_map (λ r. r.to) (clone_with m.clones ns))

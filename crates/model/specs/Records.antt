@@ -1,5 +1,5 @@
--- The master's records of snapshots, restorations and clones, and of schedules. Each record lists the tablets that are yet
--- to do a command of its state.
+-- The master's records of snapshots, restorations and clones, and of schedules. Each record lists the tablets that are
+-- yet to do a command of its state.
 use Rattle.std.specs.Prelude.{ℕ, Bool, true, false, List, [], ◌∷◌, Option, Some, None, ◌==◌, ◌&&◌, ◌||◌, not, map, if◌then◌else◌}
 use Rattle.std.specs.List.{list_any, filter}
 use Rattle.row_values.specs.Ids.{Id, same}
@@ -11,8 +11,8 @@ pub record Listed : Type 0 where
   pub body : Body
   pub acked : Bool
 
--- periods in minutes; the stamp from which its window may begin; the times of its last snapshot and of its last complete
--- one, which stay when the snapshots' records are removed
+-- periods in minutes; the stamp from which its window may begin; the times of its last snapshot and of its last
+-- complete one, which stay when the snapshots' records are removed
 pub record Schedule : Type 0 where
   pub id : Id
   pub namespace : Id
@@ -32,7 +32,8 @@ pub record SnapshotRecord : Type 0 where
   pub after : ℕ
   pub at : ℕ
 
--- a restoration knows its point from its own snapshot on, and that snapshot; from the switch's state on the one that serves
+-- a restoration knows its point from its own snapshot on, and that snapshot; from the switch's state on the one that
+-- serves
 pub data RestorationState : Type 0 where
   Fencing : RestorationState
   Snapshotting : (point : ℕ) (own : Id) → RestorationState
@@ -167,10 +168,17 @@ is_visible (Copying serving copied_at) = false
 is_visible (CloneReleasing serving copied_at) = true
 is_visible (CloneComplete serving copied_at) = true
 
+-- the listed tablets without ack
+abbrev pub unacked : List Listed → List Listed
+unacked ls = filter (λ l. not l.acked) ls
+
+abbrev pub first_listed : List Listed → Option Listed
+first_listed [] = None
+first_listed (l ∷ ls) = Some l
+
 -- the first listed tablet without ack
 abbrev pub first_unacked : List Listed → Option Listed
-first_unacked [] = None
-first_unacked (l ∷ ls) = if l.acked then first_unacked ls else Some l
+first_unacked ls = first_listed (unacked ls)
 
 -- the listed tablet of a slot without ack
 abbrev pub unacked_at : List Listed → ℕ → Option Listed
@@ -210,4 +218,5 @@ snapshot_with (r ∷ rs) id = if same r.id id then Some r else snapshot_with rs 
 -- the unfinished snapshot of a schedule
 abbrev pub unfinished_of : List SnapshotRecord → Id → Option Id
 unfinished_of [] schedule = None
-unfinished_of (r ∷ rs) schedule = if same r.schedule schedule && not r.complete then Some r.id else unfinished_of rs schedule
+unfinished_of (r ∷ rs) schedule =
+    if same r.schedule schedule && not r.complete then Some r.id else unfinished_of rs schedule

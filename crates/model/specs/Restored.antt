@@ -9,8 +9,7 @@ use Rattle.model.specs.Catalog.{Catalog, TableRecord, Owner, tables_at, latest, 
 use Rattle.model.specs.Activity.{Interval, active_at}
 use Rattle.model.specs.Tablets.{RestoreFrom, Hide}
 use Rattle.model.specs.Records.{Listed, IdPair, TabletPair, CloneRecord}
-use Rattle.model.specs.Parts.{Master}
-use Rattle.model.specs.Lists.{by_table_and_number, once, active_tablets, tablets_active_at}
+use Rattle.model.specs.Lists.{by_table_and_number, by_table_and_range, once, active_tablets, tablets_active_at}
 
 -- the newest kept schema of the table of a record
 abbrev pub newest : List TableRecord → TableRecord → Schema
@@ -42,27 +41,42 @@ version_of rs table = option_map_or (λ r. r.schema.version) (current_table rs t
 
 -- the open intervals of a namespace's tablets end
 abbrev pub end_namespace_tablets : List Owner → Id → ℕ → List Interval → List Interval
-end_namespace_tablets owners ns point is = map {A = Interval} (λ i. record i { to = if owns owners ns i.table then ended point i.to else i.to }) is
+end_namespace_tablets owners ns point is =
+    map {A = Interval} (λ i. record i { to = if owns owners ns i.table then ended point i.to else i.to }) is
 
 abbrev pub begun_at : ℕ → Interval → Interval
 begun_at point i = record i { from = point; to = None }
 
 -- from a point on the namespace's active tablets are those that were active at a time
-abbrev pub restored_activity : Master → Id → ℕ → ℕ → List Interval
-restored_activity m ns to point = end_namespace_tablets m.catalog.owners ns point m.activity ++ map (begun_at point) (tablets_active_at m ns to)
+abbrev pub restored_activity : List Owner → List Interval → Id → ℕ → ℕ → List Interval
+restored_activity owners activity ns to point =
+    end_namespace_tablets owners ns point activity ++ map (begun_at point) (tablets_active_at owners activity ns to)
 
 -- the tablets that a switch concerns: those that were active at the time, and the others that are now
-abbrev pub concerned : Master → Id → ℕ → List Interval
-concerned m ns to = by_table_and_number (once (tablets_active_at m ns to ++ active_tablets m ns))
+abbrev pub concerned : List Owner → List Interval → Id → ℕ → List Interval
+concerned owners activity ns to =
+    by_table_and_number (once (tablets_active_at owners activity ns to ++ active_tablets owners activity ns))
 
 -- the tablets of the time are to take their rows of then, the others to be hidden; `tables` are those after the switch
-abbrev pub switch_list : Master → Id → ℕ → ℕ → Id → List TableRecord → List Listed
-switch_list m ns to point serving tables = map {A = Interval} (λ i. record {
+abbrev pub switch_list : List Owner → List Interval → Id → ℕ → ℕ → Id → List TableRecord → List Listed
+switch_list owners activity ns to point serving tables = map {A = Interval} (λ i. record {
   tablet = i.tablet;
   slot = i.slot;
   body = if active_at to i then RestoreFrom serving to point (version_of tables i.table) else Hide point;
   acked = false;
-}) (concerned m ns to)
+}) (concerned owners activity ns to)
+
+-- what a clone takes over of a namespace at a time: its tables in order of id, and their tablets in order of table and
+-- range
+pub record CloneMap : Type 0 where
+  pub tables : List TableRecord
+  pub places : List Interval
+
+abbrev pub clone_map : Catalog → List Interval → Id → ℕ → CloneMap
+clone_map c activity ns to = record {
+  tables = tables_at c.tables ns to;
+  places = by_table_and_range (tablets_active_at c.owners activity ns to);
+}
 
 -- the record of a table at a time
 abbrev pub record_at : List TableRecord → Id → ℕ → Option TableRecord
@@ -84,7 +98,8 @@ cloned rs target table at r = record {
 abbrev pub cloned_tables : List IdPair → List TableRecord → Id → ℕ → ℕ → List TableRecord
 cloned_tables [] rs target to at = []
 cloned_tables (p ∷ ps) rs target to at =
-    option_map_or (λ r. cloned rs target p.target at r ∷ []) (record_at rs p.source to) [] ++ cloned_tables ps rs target to at
+    option_map_or (λ r. cloned rs target p.target at r ∷ []) (record_at rs p.source to) []
+    ++ cloned_tables ps rs target to at
 
 -- the target of a clone becomes current
 abbrev pub with_clone : CloneRecord → ℕ → Catalog → Catalog
@@ -96,4 +111,12 @@ with_clone r at c = record c {
 
 -- the target tablets of a clone are active from a time on
 abbrev pub cloned_activity : ℕ → List TabletPair → List Interval
-cloned_activity at pairs = map (λ p. record { slot = p.slot; tablet = p.target; table = p.table; low = p.low; high = p.high; from = at; to = None }) pairs
+cloned_activity at pairs = map (λ p. record {
+  slot = p.slot;
+  tablet = p.target;
+  table = p.table;
+  low = p.low;
+  high = p.high;
+  from = at;
+  to = None;
+}) pairs

@@ -1,5 +1,5 @@
--- Schedules: the window to which a database may be taken back, when a snapshot is due, how far the history may be cut, and
--- what retention still needs. Times in ticks, periods in minutes.
+-- Schedules: the window to which a database may be taken back, when a snapshot is due, how far the history may be cut,
+-- and what retention still needs. Times in ticks, periods in minutes.
 use Rattle.std.specs.Prelude.{ℕ, ◌≤◌, ◌<◌, Bool, List, [], ◌∷◌, Option, Some, None, ◌+◌, ◌-◌, ◌*◌, max, min, nat_le, nat_lt, ◌&&◌, if◌then◌else◌}
 use Rattle.row_values.specs.Ids.{Id, same}
 use Rattle.model.specs.Times.{minute, second, end_of_time}
@@ -56,7 +56,9 @@ abbrev pub floor : Option Schedule → Option ℕ → ℕ → ℕ
 floor None unfinished_to now = now
 floor (Some s) unfinished_to now = least_with unfinished_to (low s now)
 
--- the snapshot that serves a time: the schedule's first complete, kept one at or after it. Records stand in order of time
+-- the snapshot that serves a time: the schedule's first complete, kept one at or after it. Records stand in order of
+-- time
 abbrev pub serving : List SnapshotRecord → Id → ℕ → Option SnapshotRecord
 serving [] schedule to = None
-serving (r ∷ rs) schedule to = if (same r.schedule schedule && r.complete) && nat_le to r.at then Some r else serving rs schedule to
+serving (r ∷ rs) schedule to =
+    if (same r.schedule schedule && r.complete) && nat_le to r.at then Some r else serving rs schedule to

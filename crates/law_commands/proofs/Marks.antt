@@ -3,38 +3,16 @@ use Rattle.std.proofs.Common.{ℕ, ◌≡◌, List, [], ◌∷◌, ◌++◌, tru
 use Rattle.std.proofs.lemmas.Bool.{true≢false}
 use Rattle.row_values.specs.Ids.{Id, same}
 use Rattle.row_values.specs.Elements.{In}
-use Rattle.model.specs.Tablets.{BodyKind, FenceKind, FreezeKind, RestoreFromKind, HideKind, CopyKind, ReleaseKind, body_digit, kind_of, Command, Mark, is_mark, is_done, holds_command}
+use Rattle.model.specs.Tablets.{BodyKind, FenceKind, FreezeKind, RestoreFromKind, HideKind, CopyKind, ReleaseKind, same_body, kind_of, Command, Mark, is_mark, is_done, holds_command}
 use Rattle.law_store.proofs.Keys.{either_way}
-use Rattle.law_invariants.proofs.Finding.{either_is, both_pass, passes_both, same_equal, same_self}
-
-abbrev kind_at : ℕ → BodyKind
-kind_at d = cond (eqb d 1) FenceKind (cond (eqb d 2) FreezeKind (cond (eqb d 3) RestoreFromKind (cond (eqb d 4) HideKind (cond (eqb d 5) CopyKind ReleaseKind))))
-
-kind_back : (k : BodyKind) → kind_at (body_digit k) ≡ k
-kind_back FenceKind = refl
-kind_back FreezeKind = refl
-kind_back RestoreFromKind = refl
-kind_back HideKind = refl
-kind_back CopyKind = refl
-kind_back ReleaseKind = refl
-
-pub kind_equal : (a b : BodyKind) → eqb (body_digit a) (body_digit b) ≡ true → a ≡ b
-kind_equal a b e = sym (kind_back a) ∙ ap kind_at (eqb-true _ _ e) ∙ kind_back b
-
-kind_self : (a : BodyKind) → eqb (body_digit a) (body_digit a) ≡ true
-kind_self FenceKind = refl
-kind_self FreezeKind = refl
-kind_self RestoreFromKind = refl
-kind_self HideKind = refl
-kind_self CopyKind = refl
-kind_self ReleaseKind = refl
+use Rattle.law_invariants.proofs.Finding.{body_equal, body_self, either_is, both_pass, passes_both, same_equal, same_self}
 
 -- a mark is that of its operation and kind
 pub mark_is : (k : Mark) (operation : Id) (kind : BodyKind) → is_mark operation kind k ≡ true → (k.operation ≡ operation) × (k.kind ≡ kind)
-mark_is k operation kind h = let b = both_pass (same k.operation operation) (eqb (body_digit k.kind) (body_digit kind)) h in (same_equal k.operation operation b.0, kind_equal k.kind kind b.1)
+mark_is k operation kind h = let b = both_pass (same k.operation operation) (same_body k.kind kind) h in (same_equal k.operation operation b.0, body_equal k.kind kind b.1)
 
 mark_self : (operation : Id) (kind : BodyKind) → is_mark operation kind (record { operation = operation; kind = kind }) ≡ true
-mark_self operation kind = passes_both (same operation operation) (eqb (body_digit kind) (body_digit kind)) (same_self operation) (kind_self kind)
+mark_self operation kind = passes_both (same operation operation) (same_body kind kind) (same_self operation) (body_self kind)
 
 -- one more mark
 
@@ -76,8 +54,8 @@ mark_there (k ∷ ks) operation kind e = either_is (is_mark operation kind k) (i
 
 pub command_there : (inbox : List Command) (operation : Id) (kind : BodyKind) → holds_command inbox operation kind ≡ true → (c : Command) × (In c inbox × ((c.operation ≡ operation) × (kind_of c.body ≡ kind)))
 command_there [] operation kind e = absurd (true≢false (sym e))
-command_there (c ∷ cs) operation kind e = either_is (same c.operation operation && eqb (body_digit (kind_of c.body)) (body_digit kind)) (holds_command cs operation kind) e
-    (λ h. let b = both_pass (same c.operation operation) (eqb (body_digit (kind_of c.body)) (body_digit kind)) h in (c, (inl refl, (same_equal c.operation operation b.0, kind_equal (kind_of c.body) kind b.1))))
+command_there (c ∷ cs) operation kind e = either_is (same c.operation operation && same_body (kind_of c.body) kind) (holds_command cs operation kind) e
+    (λ h. let b = both_pass (same c.operation operation) (same_body (kind_of c.body) kind) h in (c, (inl refl, (same_equal c.operation operation b.0, body_equal (kind_of c.body) kind b.1))))
     (λ h. let r = command_there cs operation kind h in (r.0, (inr r.1.0, r.1.1)))
 
 -- a command in an inbox is held by it
@@ -85,9 +63,9 @@ pub command_held : (inbox : List Command) (c : Command) (operation : Id) (kind :
 command_held [] c operation kind isin o k = absurd isin
 command_held (d ∷ ds) c operation kind (inl e) o k =
     let one : same d.operation operation ≡ true = ap (λ q. same q operation) (ap (λ q. q.operation) e ∙ o) ∙ same_self operation in
-    let two : eqb (body_digit (kind_of d.body)) (body_digit kind) ≡ true = ap (λ q. eqb (body_digit q) (body_digit kind)) (ap (λ q. kind_of q.body) e ∙ k) ∙ kind_self kind in
-    let both : (same d.operation operation && eqb (body_digit (kind_of d.body)) (body_digit kind)) ≡ true = passes_both _ _ one two in
+    let two : same_body (kind_of d.body) kind ≡ true = ap (λ q. same_body q kind) (ap (λ q. kind_of q.body) e ∙ k) ∙ body_self kind in
+    let both : (same d.operation operation && same_body (kind_of d.body) kind) ≡ true = passes_both _ _ one two in
     rw both refl
 command_held (d ∷ ds) c operation kind (inr isin) o k =
     let rest = command_held ds c operation kind isin o k in
-    either_way (same d.operation operation && eqb (body_digit (kind_of d.body)) (body_digit kind)) (λ b. rw b refl) (λ b. rw b rest)
+    either_way (same d.operation operation && same_body (kind_of d.body) kind) (λ b. rw b refl) (λ b. rw b rest)

@@ -4,9 +4,10 @@ use Rattle.std.specs.List.{filter, find}
 use Rattle.std.specs.Option.{option_map, is_some, is_none, unwrap_or}
 use Rattle.std.proofs.lemmas.Bool.{cond_both}
 use Rattle.std.proofs.lemmas.Bool.Decides.{nat_tests}
-use Rattle.row_values.specs.Ids.{Kind, Namespace, Table, Tablet, Schedule, Snapshot, Restoration, Clone, kind_digit, Id, same}
+use Rattle.row_values.specs.Ids.{Kind, Namespace, Table, Tablet, Schedule, Snapshot, Restoration, Clone, Id, same_kind, same}
 use Rattle.row_values.specs.Elements.{In}
 use Rattle.law_store.proofs.Keys.{either_way}
+use Rattle.model.specs.Tablets.{BodyKind, FenceKind, FreezeKind, RestoreFromKind, HideKind, CopyKind, ReleaseKind, same_body}
 
 -- Tests
 
@@ -62,29 +63,53 @@ some_is (Some x) d e = refl
 
 -- Identifiers
 
-abbrev kind_of : ℕ → Kind
-kind_of d = cond (eqb d 1) Namespace (cond (eqb d 2) Table (cond (eqb d 3) Tablet (cond (eqb d 4) Schedule (cond (eqb d 5) Snapshot (cond (eqb d 6) Restoration Clone)))))
+pub kind_equal : (a b : Kind) → same_kind a b ≡ true → a ≡ b
+kind_equal Namespace Namespace e = refl
+kind_equal Table Table e = refl
+kind_equal Tablet Tablet e = refl
+kind_equal Schedule Schedule e = refl
+kind_equal Snapshot Snapshot e = refl
+kind_equal Restoration Restoration e = refl
+kind_equal Clone Clone e = refl
+kind_equal a b e = absurd (let q = e in grind arith)
 
-kind_back : (k : Kind) → kind_of (kind_digit k) ≡ k
-kind_back Namespace = refl
-kind_back Table = refl
-kind_back Tablet = refl
-kind_back Schedule = refl
-kind_back Snapshot = refl
-kind_back Restoration = refl
-kind_back Clone = refl
+kind_self : (a : Kind) → same_kind a a ≡ true
+kind_self Namespace = refl
+kind_self Table = refl
+kind_self Tablet = refl
+kind_self Schedule = refl
+kind_self Snapshot = refl
+kind_self Restoration = refl
+kind_self Clone = refl
+
+pub body_equal : (a b : BodyKind) → same_body a b ≡ true → a ≡ b
+body_equal FenceKind FenceKind e = refl
+body_equal FreezeKind FreezeKind e = refl
+body_equal RestoreFromKind RestoreFromKind e = refl
+body_equal HideKind HideKind e = refl
+body_equal CopyKind CopyKind e = refl
+body_equal ReleaseKind ReleaseKind e = refl
+body_equal a b e = absurd (let q = e in grind arith)
+
+pub body_self : (a : BodyKind) → same_body a a ≡ true
+body_self FenceKind = refl
+body_self FreezeKind = refl
+body_self RestoreFromKind = refl
+body_self HideKind = refl
+body_self CopyKind = refl
+body_self ReleaseKind = refl
 
 -- the test of equal identifiers is their equality
 pub same_equal : (a b : Id) → same a b ≡ true → a ≡ b
 same_equal a b e =
-    let both = both_pass (eqb a.number b.number) (eqb (kind_digit a.kind) (kind_digit b.kind)) e in
+    let both = both_pass (eqb a.number b.number) (same_kind a.kind b.kind) e in
     let number : a.number ≡ b.number = eqb-true _ _ both.0 in
-    let kind : a.kind ≡ b.kind = sym (kind_back a.kind) ∙ ap kind_of (eqb-true _ _ both.1) ∙ kind_back b.kind in
+    let kind = kind_equal a.kind b.kind both.1 in
     let made : Kind → ℕ → Id = λ k n. record { kind = k; number = n } in
     ap (λ k. made k a.number) kind ∙ ap (made b.kind) number
 
 pub same_self : (a : Id) → same a a ≡ true
-same_self a = passes_both (eqb a.number a.number) (eqb (kind_digit a.kind) (kind_digit a.kind)) (grind (arith, nat_tests)) (grind (arith, nat_tests))
+same_self a = passes_both (eqb a.number a.number) (same_kind a.kind a.kind) (grind (arith, nat_tests)) (kind_self a.kind)
 
 pub not_same : (a b : Id) → a ≢ b → same a b ≡ false
 not_same a b apart = not_passing (same a b) (λ e. apart (same_equal a b e))

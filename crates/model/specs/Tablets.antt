@@ -31,13 +31,43 @@ kind_of (Hide ended) = HideKind
 kind_of (Copy source snapshot to stamp table low high version) = CopyKind
 kind_of (Release cutoff) = ReleaseKind
 
-abbrev pub body_digit : BodyKind → ℕ
-body_digit FenceKind = 1
-body_digit FreezeKind = 2
-body_digit RestoreFromKind = 3
-body_digit HideKind = 4
-body_digit CopyKind = 5
-body_digit ReleaseKind = 6
+abbrev pub same_body : BodyKind → BodyKind → Bool
+same_body FenceKind FenceKind = true
+same_body FenceKind FreezeKind = false
+same_body FenceKind RestoreFromKind = false
+same_body FenceKind HideKind = false
+same_body FenceKind CopyKind = false
+same_body FenceKind ReleaseKind = false
+same_body FreezeKind FenceKind = false
+same_body FreezeKind FreezeKind = true
+same_body FreezeKind RestoreFromKind = false
+same_body FreezeKind HideKind = false
+same_body FreezeKind CopyKind = false
+same_body FreezeKind ReleaseKind = false
+same_body RestoreFromKind FenceKind = false
+same_body RestoreFromKind FreezeKind = false
+same_body RestoreFromKind RestoreFromKind = true
+same_body RestoreFromKind HideKind = false
+same_body RestoreFromKind CopyKind = false
+same_body RestoreFromKind ReleaseKind = false
+same_body HideKind FenceKind = false
+same_body HideKind FreezeKind = false
+same_body HideKind RestoreFromKind = false
+same_body HideKind HideKind = true
+same_body HideKind CopyKind = false
+same_body HideKind ReleaseKind = false
+same_body CopyKind FenceKind = false
+same_body CopyKind FreezeKind = false
+same_body CopyKind RestoreFromKind = false
+same_body CopyKind HideKind = false
+same_body CopyKind CopyKind = true
+same_body CopyKind ReleaseKind = false
+same_body ReleaseKind FenceKind = false
+same_body ReleaseKind FreezeKind = false
+same_body ReleaseKind RestoreFromKind = false
+same_body ReleaseKind HideKind = false
+same_body ReleaseKind CopyKind = false
+same_body ReleaseKind ReleaseKind = true
 
 -- a body for a tablet, from the operation whose record lists it
 pub record Command : Type 0 where
@@ -51,14 +81,14 @@ pub record Mark : Type 0 where
   pub kind : BodyKind
 
 abbrev pub is_mark : Id → BodyKind → Mark → Bool
-is_mark operation kind mark = same mark.operation operation && (body_digit mark.kind == body_digit kind)
+is_mark operation kind mark = same mark.operation operation && same_body mark.kind kind
 
 abbrev pub is_done : List Mark → Id → BodyKind → Bool
 is_done marks operation kind = list_any (is_mark operation kind) marks
 
 -- whether an inbox holds a command of the operation of this kind
 abbrev pub holds_command : List Command → Id → BodyKind → Bool
-holds_command inbox operation kind = list_any (λ c. same c.operation operation && (body_digit (kind_of c.body) == body_digit kind)) inbox
+holds_command inbox operation kind = list_any (λ c. same c.operation operation && same_body (kind_of c.body) kind) inbox
 
 -- the versions that a snapshot froze, with the cutoff at that moment
 pub record FrozenSet : Type 0 where

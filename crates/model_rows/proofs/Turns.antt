@@ -3,7 +3,38 @@ use Rattle.std.proofs.Common.{◌≡◌, ℕ, Bool, true, false, List, [], ◌�
 use Rattle.std.specs.List.{list_all, filter}
 use Rattle.std.proofs.lemmas.Bool.{true≢false}
 use Rattle.std.proofs.lemmas.Bool.Decides.{nat_tests}
-use Rattle.row_values.specs.Ids.{Id, Kind, Namespace, Table, Tablet, Schedule, Snapshot, Restoration, Clone, kind_digit}
+use Rattle.row_values.specs.Ids.{Id, Kind, Namespace, Table, Tablet, Schedule, Snapshot, Restoration, Clone, same_kind}
+use Rattle.row_values.specs.Elements.{In}
+use Rattle.model.specs.Acts.{Act, Reply}
+use Rattle.model.specs.Parts.{Master}
+use Rattle.model.specs.Entries.{Entry}
+use Rattle.model.specs.Lists.{numbered_as}
+use Rattle.model.specs.Drawn.{AreNext, DrawsNext, DrawsInTurn, drawn_of, drawn_by, given_of, given_by}
+use Rattle.model.specs.Once.{Obeyed, NoneAgain}
+use Rattle.model_rows.specs.Turns.{are_next, draws_next, all_kinds, all_draw_next, draw_in_turn, differ, none_again}
+
+both : (a b : Bool) → (a && b) ≡ true → (a ≡ true) × (b ≡ true)
+both true b e = (refl, e)
+both false b e = absurd (true≢false (sym e))
+
+-- Kinds
+
+kind_equal : (a b : Kind) → same_kind a b ≡ true → a ≡ b
+kind_equal Namespace Namespace e = refl
+kind_equal Table Table e = refl
+kind_equal Tablet Tablet e = refl
+kind_equal Schedule Schedule e = refl
+kind_equal Snapshot Snapshot e = refl
+kind_equal Restoration Restoration e = refl
+kind_equal Clone Clone e = refl
+kind_equal a b e = absurd (let q = e in grind arith)
+
+-- Numbers are drawn in turn, and commands are done once, where the tests of a history say so.
+use Rattle.std.proofs.Common.{◌≡◌, ℕ, Bool, true, false, List, [], ◌∷◌, ◌&&◌, ◌+◌, inl, inr, refl, sym, ap, ◌∙◌, subst, eqb, eqb-true, length, arith, zero, suc, Option, Some, None, if◌then◌else◌}
+use Rattle.std.specs.List.{list_all, filter}
+use Rattle.std.proofs.lemmas.Bool.{true≢false}
+use Rattle.std.proofs.lemmas.Bool.Decides.{nat_tests}
+use Rattle.row_values.specs.Ids.{Id, Kind, Namespace, Table, Tablet, Schedule, Snapshot, Restoration, Clone, same_kind}
 use Rattle.row_values.specs.Elements.{In}
 use Rattle.model.specs.Acts.{Act, Reply}
 use Rattle.model.specs.Parts.{Master}
@@ -41,9 +72,9 @@ next_in_turn : (ids : List Id) (kind : Kind) (drawn : ℕ) → are_next kind dra
 next_in_turn [] kind drawn e = tt
 next_in_turn (id ∷ ids) kind drawn e =
     let apart = both _ _ e in
-    let first = both (eqb id.number (drawn + 1)) (eqb (kind_digit id.kind) (kind_digit kind)) apart.0 in
+    let first = both (eqb id.number (drawn + 1)) (same_kind id.kind kind) apart.0 in
     let number : id.number ≡ drawn + 1 = eqb-true _ _ first.0 in
-    let same_kind : id.kind ≡ kind = sym (kind_back id.kind) ∙ ap kind_of (eqb-true _ _ first.1) ∙ kind_back kind in
+    let same_kind : id.kind ≡ kind = kind_equal id.kind kind first.1 in
     let is : id ≡ numbered_as kind (drawn + 1) = ap (λ k. numbered_as k id.number) same_kind ∙ ap (numbered_as kind) number in
     (is, next_in_turn ids kind (drawn + 1) apart.1)
 

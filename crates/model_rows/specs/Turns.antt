@@ -1,8 +1,8 @@
 -- What comes once in a history, and which numbers it draws, told by tests, so that a row computes it.
 use Rattle.std.specs.Prelude.{ℕ, Bool, true, List, [], ◌∷◌, ◌==◌, ◌&&◌, ◌+◌, not, length, false}
 use Rattle.std.specs.List.{list_all}
-use Rattle.row_values.specs.Ids.{Id, Kind, Namespace, Table, Tablet, Schedule, Snapshot, Restoration, Clone, kind_digit}
-use Rattle.model.specs.Tablets.{body_digit}
+use Rattle.row_values.specs.Ids.{Id, Kind, Namespace, Table, Tablet, Schedule, Snapshot, Restoration, Clone, same_kind}
+use Rattle.model.specs.Tablets.{same_body}
 use Rattle.model.specs.Acts.{Act, Reply}
 use Rattle.model.specs.Parts.{Master}
 use Rattle.model.specs.Entries.{Entry}
@@ -15,7 +15,7 @@ use Rattle.model.specs.Once.{Obeyed}
 abbrev pub are_next : Kind → ℕ → List Id → Bool
 are_next kind drawn [] = true
 are_next kind drawn (id ∷ ids) =
-    ((id.number == drawn + 1) && (kind_digit id.kind == kind_digit kind)) && are_next kind (drawn + 1) ids
+    ((id.number == drawn + 1) && same_kind id.kind kind) && are_next kind (drawn + 1) ids
 
 -- whether an entry draws so many of a kind, and gives just these
 abbrev pub draws_next : Act → Reply → ℕ → Master → Master → Kind → Bool
@@ -41,8 +41,8 @@ draw_in_turn slots (e ∷ earlier) =
 abbrev pub differ : Obeyed → Obeyed → Bool
 differ o p = not
     ((o.operation.number == p.operation.number)
-    && ((kind_digit o.operation.kind == kind_digit p.operation.kind)
-    && ((body_digit o.kind == body_digit p.kind) && (o.tablet.number == p.tablet.number))))
+    && (same_kind o.operation.kind p.operation.kind
+    && (same_body o.kind p.kind && (o.tablet.number == p.tablet.number))))
 
 abbrev pub none_again : List Obeyed → Bool
 none_again [] = true

@@ -1,5 +1,5 @@
 -- Identifiers.
-use Rattle.std.specs.Prelude.{ℕ, zero, suc, Bool, ◌==◌, ◌&&◌, ◌<◌, ◌≤◌, ◌^◌, ◌+◌, ◌/◌, ◌%◌, nat_lt, if◌then◌else◌, List, [], ◌∷◌, ◌++◌, codes}
+use Rattle.std.specs.Prelude.{ℕ, zero, suc, Bool, true, false, ◌==◌, ◌&&◌, ◌<◌, ◌≤◌, ◌^◌, ◌+◌, ◌/◌, ◌%◌, nat_lt, if◌then◌else◌, List, [], ◌∷◌, ◌++◌, codes}
 
 pub data Kind : Type 0 where
   Namespace : Kind
@@ -34,8 +34,59 @@ id_bound = 2 ^ 48
 abbrev pub IsId : Id → Type 0
 IsId id = (1 ≤ id.number) × (id.number < id_bound)
 
+abbrev pub same_kind : Kind → Kind → Bool
+same_kind Namespace Namespace = true
+same_kind Namespace Table = false
+same_kind Namespace Tablet = false
+same_kind Namespace Schedule = false
+same_kind Namespace Snapshot = false
+same_kind Namespace Restoration = false
+same_kind Namespace Clone = false
+same_kind Table Namespace = false
+same_kind Table Table = true
+same_kind Table Tablet = false
+same_kind Table Schedule = false
+same_kind Table Snapshot = false
+same_kind Table Restoration = false
+same_kind Table Clone = false
+same_kind Tablet Namespace = false
+same_kind Tablet Table = false
+same_kind Tablet Tablet = true
+same_kind Tablet Schedule = false
+same_kind Tablet Snapshot = false
+same_kind Tablet Restoration = false
+same_kind Tablet Clone = false
+same_kind Schedule Namespace = false
+same_kind Schedule Table = false
+same_kind Schedule Tablet = false
+same_kind Schedule Schedule = true
+same_kind Schedule Snapshot = false
+same_kind Schedule Restoration = false
+same_kind Schedule Clone = false
+same_kind Snapshot Namespace = false
+same_kind Snapshot Table = false
+same_kind Snapshot Tablet = false
+same_kind Snapshot Schedule = false
+same_kind Snapshot Snapshot = true
+same_kind Snapshot Restoration = false
+same_kind Snapshot Clone = false
+same_kind Restoration Namespace = false
+same_kind Restoration Table = false
+same_kind Restoration Tablet = false
+same_kind Restoration Schedule = false
+same_kind Restoration Snapshot = false
+same_kind Restoration Restoration = true
+same_kind Restoration Clone = false
+same_kind Clone Namespace = false
+same_kind Clone Table = false
+same_kind Clone Tablet = false
+same_kind Clone Schedule = false
+same_kind Clone Snapshot = false
+same_kind Clone Restoration = false
+same_kind Clone Clone = true
+
 abbrev pub same : Id → Id → Bool
-same a b = (a.number == b.number) && (kind_digit a.kind == kind_digit b.kind)
+same a b = (a.number == b.number) && same_kind a.kind b.kind
 
 -- the identifier of nothing
 abbrev pub no_id : Id

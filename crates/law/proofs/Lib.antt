@@ -7,3 +7,4 @@ pub mod Slots
 pub mod Following
 pub mod Running
 pub mod Runs
+pub mod Drawing

@@ -10,6 +10,7 @@ ghost use Rattle.model.specs.Running.{run_of};
 ghost use Rattle.model.specs.Entries.{ActAsked, Entry};
 ghost use Rattle.row_values.specs.Elements.{AllOf};
 ghost use Rattle.model.specs.History.{Legal, replay, journal_of, activity_of};
+ghost use Rattle.model.specs.Drawn.{DrawnBelow, DrawnWithin};
 ghost use Rattle.model.specs.Replies.{Right};
 ghost use Rattle.model.specs.Stands.{Cover, RecordFacts, Stands};
 ghost use Rattle.law_local.specs.Agreeing.{PlanNames};
@@ -35,6 +36,14 @@ pub fn legal_is_right()
 /// master's plans is so.
 pub fn plans_are_named()
     ensures named { (slots : ℕ) (history : List Entry) (act : Act) → Legal slots history → Covered history → ActAsked slots act → PlanNames act (replay slots history).master }
+{}
+
+/// A legal history of covered acts draws few numbers: at most as many of each kind as a cluster has
+/// slots, for each entry of the master's log. So numbers of identifiers stay below their bound, of
+/// which code makes its identifiers.
+pub fn numbers_are_drawn()
+    ensures within { (slots : ℕ) (history : List Entry) → Legal slots history → Covered history → DrawnWithin slots history }
+    ensures below { (slots : ℕ) (history : List Entry) → Legal slots history → Covered history → DrawnBelow (replay slots history).master }
 {}
 
 /// The history of a script whose commands meet what is asked of them, and are of the covered ones, is

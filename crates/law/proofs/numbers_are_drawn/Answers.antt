@@ -1,0 +1,9 @@
+-- Each entry draws few, and the master's log has room for so many.
+use Rattle.law.proofs.Drawing.{drawn_within, drawn_below}
+use Rattle.law.proofs.numbers_are_drawn.Goals as goal
+
+pub returns : goal.returns
+returns c = record {
+  within = λ slots history legal covered. drawn_within history slots legal covered;
+  below = λ slots history legal covered. drawn_below history slots legal covered;
+}

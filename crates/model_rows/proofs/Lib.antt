@@ -25,6 +25,7 @@ pub mod Turns
 mod RightWindows
 mod RightClones
 mod Covers
+mod Texts
 mod WrittenCatalogs
 mod WrittenEnds
 mod WrittenHistories

@@ -1,0 +1,3 @@
+pub mod NamedOps
+pub mod Seen
+pub mod Times

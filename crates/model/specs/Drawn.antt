@@ -88,7 +88,7 @@ abbrev pub drawn_for_clone : ℕ → Master → Id → Drawn
 drawn_for_clone to m source = record none_drawn {
   namespaces = 1;
   tables = length (tables_at m.catalog.tables source to);
-  tablets = length (tablets_active_at m source to);
+  tablets = length (tablets_active_at m.catalog.owners m.activity source to);
   clones = 1;
 }
 

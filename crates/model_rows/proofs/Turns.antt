@@ -29,43 +29,6 @@ kind_equal Restoration Restoration e = refl
 kind_equal Clone Clone e = refl
 kind_equal a b e = absurd (let q = e in grind arith)
 
--- Numbers are drawn in turn, and commands are done once, where the tests of a history say so.
-use Rattle.std.proofs.Common.{◌≡◌, ℕ, Bool, true, false, List, [], ◌∷◌, ◌&&◌, ◌+◌, inl, inr, refl, sym, ap, ◌∙◌, subst, eqb, eqb-true, length, arith, zero, suc, Option, Some, None, if◌then◌else◌}
-use Rattle.std.specs.List.{list_all, filter}
-use Rattle.std.proofs.lemmas.Bool.{true≢false}
-use Rattle.std.proofs.lemmas.Bool.Decides.{nat_tests}
-use Rattle.row_values.specs.Ids.{Id, Kind, Namespace, Table, Tablet, Schedule, Snapshot, Restoration, Clone, same_kind}
-use Rattle.row_values.specs.Elements.{In}
-use Rattle.model.specs.Acts.{Act, Reply}
-use Rattle.model.specs.Parts.{Master}
-use Rattle.model.specs.Entries.{Entry}
-use Rattle.model.specs.Lists.{numbered_as}
-use Rattle.model.specs.Drawn.{AreNext, DrawsNext, DrawsInTurn, drawn_of, drawn_by, given_of, given_by}
-use Rattle.model.specs.Once.{Obeyed, NoneAgain}
-use Rattle.model_rows.specs.Turns.{are_next, draws_next, all_kinds, all_draw_next, draw_in_turn, differ, none_again}
-
-both : (a b : Bool) → (a && b) ≡ true → (a ≡ true) × (b ≡ true)
-both true b e = (refl, e)
-both false b e = absurd (true≢false (sym e))
-
--- Kinds
-
-abbrev kind_of : ℕ → Kind
-kind_of d =
-    if eqb d 1 then Namespace else if eqb d 2 then Table else if eqb d 3 then Tablet else if eqb d 4 then Schedule else if eqb d 5
-    then Snapshot
-    else if eqb d 6 then Restoration
-    else Clone
-
-kind_back : (kind : Kind) → kind_of (kind_digit kind) ≡ kind
-kind_back Namespace = refl
-kind_back Table = refl
-kind_back Tablet = refl
-kind_back Schedule = refl
-kind_back Snapshot = refl
-kind_back Restoration = refl
-kind_back Clone = refl
-
 -- Numbers
 
 next_in_turn : (ids : List Id) (kind : Kind) (drawn : ℕ) → are_next kind drawn ids ≡ true → AreNext kind drawn ids

@@ -1,5 +1,4 @@
 -- The kinds of this crate as the book's, and back.
-use Rattle.std.specs.Prelude.{ℕ}
 use Rattle.row_values.specs.Ids as book
 use Rattle.yb_ident.specs.declared.kind.Kind.{Kind}
 use Rattle.yb_ident.specs.declared.kind.Kind.TheVariants as kind

@@ -8,3 +8,5 @@ pub mod Following
 pub mod Running
 pub mod Runs
 pub mod Drawing
+pub mod Taking
+pub mod Taken

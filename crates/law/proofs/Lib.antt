@@ -10,3 +10,5 @@ pub mod Runs
 pub mod Drawing
 pub mod Taking
 pub mod Taken
+pub mod Fixing
+pub mod Fixed

@@ -1,5 +1,6 @@
 -- Strictly right histories: each reply is one that its act can have, and where it speaks of the past it has its cause;
--- what a restore or a clone took stays as it was, and no change of its namespace comes too late for it.
+-- what a restore or a clone fixed, its namespace at the time that it goes to, stays as it was, and no change of the
+-- namespace comes too late for it.
 use Rattle.std.specs.Prelude.{◌≡◌, ◌≢◌, ◌⊎◌, ℕ, ◌≤◌, ◌<◌, true, Bool, List, [], ◌∷◌, Option}
 use Rattle.row_values.specs.Ids.{Id, same}
 use Rattle.row_values.specs.Elements.{In}
@@ -21,7 +22,7 @@ use Rattle.model.specs.History.{replay, journal_of}
 use Rattle.model.specs.Answers.{TableLook, TableAnswer, KeysAnswer, ReadAnswer}
 use Rattle.model.specs.Windows.{RestoreAnswer, CloneAnswer}
 
--- What was taken stays
+-- What was fixed stays
 
 -- whether a change is one of the namespace: of its name, of a table that was made in it, of the rows of one
 abbrev pub is_change_of : Id → ChangeAct → (Id → Option Id) → Bool
@@ -43,8 +44,8 @@ NoneLate [] = Unit {0}
 NoneLate (c ∷ earlier) = NoneLate earlier
     × ((ns : Id) (t : ℕ) → is_fixed earlier ns t ≡ true → is_change_of ns c.act (owner_in earlier) ≡ true → t < c.stamp)
 
--- what restores and clones took is the same after each entry, and nothing comes too late for it
-pub record TakenStays (changes : List made.Change) : Type 0 where
+-- what restores and clones fixed is the same after each entry, and nothing comes too late for it
+pub record FixedStays (changes : List made.Change) : Type 0 where
   pub none_late : NoneLate changes
   pub same : StillSame changes changes
 
@@ -198,12 +199,12 @@ AnswerRight (Stats slot) reply n ps changes =
 
 -- Strictly right histories
 
--- each reply is right against the journal before it, and what was taken stays
+-- each reply is right against the journal before it, and what was fixed stays
 abbrev pub StrictlyRight : ℕ → List Entry → Type 0
 StrictlyRight slots [] = Unit {0}
 StrictlyRight slots (e ∷ earlier) = StrictlyRight slots earlier
     × (AnswerRight e.event.act e.reply e.stamp (replay slots earlier) (journal_of slots earlier)
-    × TakenStays (journal_of slots (e ∷ earlier)))
+    × FixedStays (journal_of slots (e ∷ earlier)))
 
 -- Codes divided
 

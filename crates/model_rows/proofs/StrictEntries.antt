@@ -1,5 +1,5 @@
 -- What makes an entry strictly right: a look that finds the one tablet of a key, a read of one key that gives its row, and a journal in
--- which what was taken stays.
+-- which what was fixed stays.
 use Rattle.std.proofs.Common.{◌≡◌, ℕ, true, false, List, [], ◌∷◌, Some, None, refl, sym, subst, ◌∙◌}
 use Rattle.std.proofs.lemmas.Bool.{true≢false}
 use Rattle.row_values.specs.Codes.{code_of}
@@ -16,7 +16,7 @@ use Rattle.model.specs.History.{replay, journal_of}
 use Rattle.model.specs.Journal.{Change, ChangeAct, NamespaceRestored, NamespaceCloned, namespace_at, table_at}
 use Rattle.model.specs.Looks.{batch_fault, code_outside, place_of}
 use Rattle.model.specs.Right.{StillSame, fixes, rows_wanted}
-use Rattle.model.specs.Strict.{AnswerRight, NoneLate, StrictlyRight, TakenStays}
+use Rattle.model.specs.Strict.{AnswerRight, NoneLate, StrictlyRight, FixedStays}
 use Rattle.model.specs.Tablets.{serves}
 use Rattle.model_rows.proofs.RightEntries.{AllPlain, is_plain, newest, not_fixed, one_row, table_found}
 use Rattle.model_rows.specs.Runs.{Run, done}
@@ -34,13 +34,13 @@ fixes_none (NamespaceRestored namespace then_) ns to plain = absurd (true≢fals
 fixes_none (NamespaceCloned source target name then_ tables) ns to plain = absurd (true≢false (sym plain))
 fixes_none _ ns to plain = refl
 
-pub nothing_taken : (all changes : List Change) → AllPlain changes → StillSame all changes
-nothing_taken all [] plain = tt
-nothing_taken all (c ∷ earlier) plain =
-    (nothing_taken all earlier plain.1, λ ns to fixed. absurd (true≢false (sym fixed ∙ fixes_none c.act ns to plain.0)))
+pub nothing_fixed : (all changes : List Change) → AllPlain changes → StillSame all changes
+nothing_fixed all [] plain = tt
+nothing_fixed all (c ∷ earlier) plain =
+    (nothing_fixed all earlier plain.1, λ ns to fixed. absurd (true≢false (sym fixed ∙ fixes_none c.act ns to plain.0)))
 
-pub plain_stays : (changes : List Change) → AllPlain changes → TakenStays changes
-plain_stays changes plain = record { none_late = none_late_at_all changes plain; same = nothing_taken changes changes plain }
+pub plain_stays : (changes : List Change) → AllPlain changes → FixedStays changes
+plain_stays changes plain = record { none_late = none_late_at_all changes plain; same = nothing_fixed changes changes plain }
 
 -- Looks and reads
 
@@ -54,7 +54,7 @@ pub strict_look : (slots : ℕ) (run : Run) (namespace : List ℕ) (owner table 
     → batch_fault columns (asked key cells) ≡ None
     → In home (replay slots run.entries).master.activity → home.table ≡ table → active_at (newest (asking namespace key cells) run).stamp home ≡ true
     → in_range home.low home.high (code_of key) ≡ true → code_outside home (asked key cells) ≡ None
-    → TakenStays (journal_of slots run.entries)
+    → FixedStays (journal_of slots run.entries)
     → StrictlyRight slots (done (asking namespace key cells) run).entries
 unfolding journal_of
 strict_look slots run namespace owner table key cells home version columns right reply named found version_is judged listed table_is active holds inside stays =
@@ -80,7 +80,7 @@ pub strict_read : (slots : ℕ) (run : Run) (p : At) (version : ℕ) (key column
     → serves ((replay slots run.entries).tablet p.slot) p.tablet ≡ true
     → of_key key (row key cells ∷ [])
     ≡ rows_wanted (journal_of slots run.entries) (newest (reading p version key columns) run).stamp (Some key) columns (replay slots run.entries).tablet (p ∷ []) key
-    → TakenStays (journal_of slots run.entries)
+    → FixedStays (journal_of slots run.entries)
     → StrictlyRight slots (done (reading p version key columns) run).entries
 unfolding journal_of
 strict_read slots run p version key columns cells right reply served own stays =

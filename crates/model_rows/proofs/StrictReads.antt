@@ -1,6 +1,6 @@
 -- The history of a first write and read is strictly right.
 use Rattle.std.proofs.Common.{[], ◌∷◌, refl, inl, inr}
-use Rattle.model.specs.Strict.{StrictlyRight, TakenStays}
+use Rattle.model.specs.Strict.{StrictlyRight, FixedStays}
 use Rattle.model_rows.proofs.StrictEntries.{plain_stays, strict_look, strict_read}
 use Rattle.model_rows.specs.Computed.{the_book}
 use Rattle.model_rows.specs.FirstRead.{been_read, changes, made, namespace_made, table_made, written}
@@ -8,13 +8,13 @@ use Rattle.model_rows.specs.Runs.{done}
 use Rattle.model_rows.specs.Scripts.{N, T, a, asking, kept_v, since, v_alone, v_is, x}
 use Rattle.model_rows.specs.UndoneRestore.{place_one}
 
-pub named_stays : TakenStays (namespace_made ∷ [])
+pub named_stays : FixedStays (namespace_made ∷ [])
 named_stays = plain_stays (namespace_made ∷ []) (refl, tt)
 
-pub made_stays : TakenStays (table_made ∷ namespace_made ∷ [])
+pub made_stays : FixedStays (table_made ∷ namespace_made ∷ [])
 made_stays = plain_stays (table_made ∷ namespace_made ∷ []) (refl, (refl, tt))
 
-written_stays : TakenStays changes
+written_stays : FixedStays changes
 written_stays = plain_stays changes (refl, (refl, (refl, tt)))
 
 made_strictly : StrictlyRight 64 made.entries

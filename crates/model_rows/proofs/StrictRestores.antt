@@ -5,9 +5,9 @@ use Rattle.std.proofs.lemmas.Bool.Decides.{nat_tests}
 use Rattle.row_values.specs.Ids.{Id}
 use Rattle.model.specs.Journal.{Change}
 use Rattle.model.specs.Right.{SameThen, fixes}
-use Rattle.model.specs.Strict.{StrictlyRight, TakenStays}
+use Rattle.model.specs.Strict.{StrictlyRight, FixedStays}
 use Rattle.model.specs.Windows.{RestoreAccepted}
-use Rattle.model_rows.proofs.StrictEntries.{nothing_taken, plain_stays, strict_look, strict_read}
+use Rattle.model_rows.proofs.StrictEntries.{nothing_fixed, plain_stays, strict_look, strict_read}
 use Rattle.model_rows.proofs.StrictReads.{made_stays, named_stays}
 use Rattle.model_rows.specs.Computed.{the_book}
 use Rattle.model_rows.specs.FirstRead.{namespace_made, table_made}
@@ -15,25 +15,25 @@ use Rattle.model_rows.specs.Runs.{Run, after, done}
 use Rattle.model_rows.specs.Scripts.{N, R, S, T, a, asking, early, home, kept_v, put, ready, since, t, v_alone, v_is, x}
 use Rattle.model_rows.specs.UndoneRestore.{all_changes, been_read, one_restore, place_one, restored, restored_to, restoring, row_of, seen, two_rows, undoing, undone}
 
--- What is taken stays
+-- What is fixed stays
 
-row_stays : TakenStays (row_of 3 1 ∷ table_made ∷ namespace_made ∷ [])
+row_stays : FixedStays (row_of 3 1 ∷ table_made ∷ namespace_made ∷ [])
 row_stays = plain_stays (row_of 3 1 ∷ table_made ∷ namespace_made ∷ []) (refl, (refl, (refl, tt)))
 
-rows_stay : TakenStays two_rows
+rows_stay : FixedStays two_rows
 rows_stay = plain_stays two_rows (refl, (refl, (refl, (refl, tt))))
 
--- what a restore took is the same after it, and after all that comes later
+-- what a restore fixed is the same after it, and after all that comes later
 
 at_its_time : (all changes : List Change) (point then_ : ℕ) → ((ns : Id) → SameThen all changes ns (early then_)) → (ns : Id) (to : ℕ)
     → fixes (restored_to point then_).act ns to ≡ true → SameThen all changes ns to
 at_its_time all changes point then_ same ns to fixed = let time : early then_ ≡ to = grind (arith, nat_tests) in subst (SameThen all changes ns) time (same ns)
 
-one_stays : TakenStays one_restore
+one_stays : FixedStays one_restore
 one_stays = record {
   none_late = (rows_stay.none_late, λ ns to fixed of_it. grind (arith, nat_tests));
   same = (
-    nothing_taken one_restore two_rows (refl, (refl, (refl, (refl, tt)))),
+    nothing_fixed one_restore two_rows (refl, (refl, (refl, (refl, tt)))),
     at_its_time one_restore two_rows 11 3 (λ ns. record { name = refl; tables = λ id inside. refl; rows = λ id key inside. refl }),
   );
 }
@@ -41,25 +41,25 @@ one_stays = record {
 abbrev written_again : List Change
 written_again = row_of 25 3 ∷ one_restore
 
-again_stays : TakenStays written_again
+again_stays : FixedStays written_again
 again_stays = record {
   none_late = (one_stays.none_late, λ ns to fixed of_it. grind (arith, nat_tests));
   same = (
     (
-      nothing_taken written_again two_rows (refl, (refl, (refl, (refl, tt)))),
+      nothing_fixed written_again two_rows (refl, (refl, (refl, (refl, tt)))),
       at_its_time written_again two_rows 11 3 (λ ns. record { name = refl; tables = λ id inside. refl; rows = λ id key inside. refl }),
     ),
     λ ns to fixed. absurd (true≢false (sym fixed)),
   );
 }
 
-all_stay : TakenStays all_changes
+all_stay : FixedStays all_changes
 all_stay = record {
   none_late = (again_stays.none_late, λ ns to fixed of_it. grind (arith, nat_tests));
   same = (
     (
       (
-        nothing_taken all_changes two_rows (refl, (refl, (refl, (refl, tt)))),
+        nothing_fixed all_changes two_rows (refl, (refl, (refl, (refl, tt)))),
         at_its_time all_changes two_rows 11 3 (λ ns. record { name = refl; tables = λ id inside. refl; rows = λ id key inside. refl }),
       ),
       λ ns to fixed. absurd (true≢false (sym fixed)),

@@ -1,4 +1,4 @@
--- Journals in which what a restore took has changed, or a change came too late for it: the weaker statement has them, the strict one
+-- Journals in which what a restore fixed has changed, or a change came too late for it: the weaker statement has them, the strict one
 -- doesn't.
 use Rattle.std.proofs.Common.{◌≡◌, ◌<◌, ℕ, true, false, List, [], ◌∷◌, refl, ap, subst, sym, ◌∙◌, arith}
 use Rattle.std.proofs.lemmas.Bool.{true≢false}
@@ -7,7 +7,7 @@ use Rattle.row_values.specs.declared.value.RowOp.TheVariants.{Upsert}
 use Rattle.row_values.specs.Ids.{Id}
 use Rattle.model.specs.Journal.{Change, ChangeAct, NamespaceMade, TableMade, TableDropped, RowChanged, NamespaceRestored, is_in, table_at}
 use Rattle.model.specs.Right.{NothingLate, is_fixed, is_of}
-use Rattle.model.specs.Strict.{NoneLate, TakenStays}
+use Rattle.model.specs.Strict.{NoneLate, FixedStays}
 use Rattle.model_rows.proofs.RightEntries.{none_late}
 use Rattle.model_rows.specs.Scripts.{N, T, a, kept_v, t, v_alone, x}
 
@@ -28,10 +28,10 @@ made_twice = stamped 3 (TableMade (T 1) (N 2) t v_alone) ∷ restored
 late_restored : NothingLate restored
 late_restored = (none_late made_once (refl, tt), λ ns to fixed of_it. grind (arith, nat_tests))
 
-weakly_taken : NothingLate made_twice
-weakly_taken = (late_restored, λ ns to fixed of_it. grind (arith, nat_tests))
+weakly_fixed : NothingLate made_twice
+weakly_fixed = (late_restored, λ ns to fixed of_it. grind (arith, nat_tests))
 
-another_namespace : TakenStays made_twice → ⊥
+another_namespace : FixedStays made_twice → ⊥
 another_namespace stays =
     let same_table = (stays.same.0.1 (N 1) 50 refl).tables (T 1) refl in true≢false (ap (is_in (N 1)) (sym same_table))
 

@@ -1,4 +1,4 @@
--- After each entry of a legal history what its restores took is as it was, and nothing came too late for it.
+-- After each entry of a legal history what its restores fixed is as it was, and nothing came too late for it.
 use Rattle.std.proofs.Common.{ℕ, ◌≡◌, ◌≤◌, ◌<◌, List, [], ◌∷◌, Option, Some, None, true, false, not, refl, sym, ap, subst, ◌∙◌, arith, le_refl, eqb}
 use Rattle.std.specs.Option.{is_some}
 use Rattle.std.proofs.lemmas.Bool.{true≢false}
@@ -19,7 +19,7 @@ use Rattle.model.specs.Looks.{table_of}
 use Rattle.model.specs.RowActs.{has_moved, serves_all, write}
 use Rattle.model.specs.Coordination.{unfinished_restoration, unfinished_clone}
 use Rattle.model.specs.Right.{fixes, is_fixed}
-use Rattle.model.specs.Strict.{TakenStays}
+use Rattle.model.specs.Strict.{FixedStays}
 use Rattle.model.specs.Entries.{Entry, ActAsked, slots_of}
 use Rattle.model.specs.History.{outcome, replay, journal_of, activity_of, Legal, with, with_table, with_command, with_restoration, with_either, with_changes}
 use Rattle.law_cleanup.proofs.Forgetting.{not_false}
@@ -31,12 +31,12 @@ use Rattle.law_moves.proofs.Advancing.{no_clone}
 use Rattle.law_moves.proofs.Pending.{unfinished_restoration_is}
 use Rattle.law.specs.Covering.{AdvanceCovered, ActCovered, Covered}
 use Rattle.law.proofs.Law.{legal_holds, stamps_later}
-use Rattle.law.proofs.Taking.{ViewOwned, plain_owned, made_owned, restored_owned, rows_owned, later_taken, rows_taken, restore_taken, stays_home}
+use Rattle.law.proofs.Fixing.{ViewOwned, plain_owned, made_owned, restored_owned, rows_owned, later_fixed, rows_fixed, restore_fixed, stays_home}
 
 -- what holds of a journal
-pub record IsTaken (changes : List made.Change) : Type 0 where
+pub record JournalFixed (changes : List made.Change) : Type 0 where
   pub owned : ViewOwned changes
-  pub stays : TakenStays changes
+  pub stays : FixedStays changes
 
 -- the view has a table in the namespace that the list of owners names
 abbrev pub Inside : List Owner → List made.Change → Type 0
@@ -47,34 +47,34 @@ Inside os changes = (id : Id) (x : ℕ) (v : TableView) → table_at changes x i
 abbrev IsPast : List made.Change → ℕ → Type 0
 IsPast changes n = (ns : Id) (t : ℕ) → is_fixed changes ns t ≡ true → t < n
 
-plain_taken : (n : ℕ) (act : ChangeAct) (changes : List made.Change) → stays_home act ≡ true → ((ns : Id) (t : ℕ) → fixes act ns t ≡ false)
-    → IsPast changes n → IsTaken changes → IsTaken (with n act changes)
-plain_taken n act changes home plain past h =
-    record { owned = plain_owned n act changes home h.owned; stays = later_taken n act changes plain past h.stays }
+plain_fixed : (n : ℕ) (act : ChangeAct) (changes : List made.Change) → stays_home act ≡ true → ((ns : Id) (t : ℕ) → fixes act ns t ≡ false)
+    → IsPast changes n → JournalFixed changes → JournalFixed (with n act changes)
+plain_fixed n act changes home plain past h =
+    record { owned = plain_owned n act changes home h.owned; stays = later_fixed n act changes plain past h.stays }
 
-table_taken : (t : Option TableRecord) (act : TableRecord → ChangeAct) (n : ℕ) (changes : List made.Change)
+table_fixed : (t : Option TableRecord) (act : TableRecord → ChangeAct) (n : ℕ) (changes : List made.Change)
     → ((r : TableRecord) → stays_home (act r) ≡ true) → ((r : TableRecord) (ns : Id) (at : ℕ) → fixes (act r) ns at ≡ false)
-    → IsPast changes n → IsTaken changes → IsTaken (with_table t act n changes)
-table_taken None act n changes home plain past h = h
-table_taken (Some r) act n changes home plain past h = plain_taken n (act r) changes (home r) (plain r) past h
+    → IsPast changes n → JournalFixed changes → JournalFixed (with_table t act n changes)
+table_fixed None act n changes home plain past h = h
+table_fixed (Some r) act n changes home plain past h = plain_fixed n (act r) changes (home r) (plain r) past h
 
-command_taken : (command : Command) (ids : List Id) (n : ℕ) (m : Master) (changes : List made.Change) (os : List Owner) → IsPast changes n
-    → Inside os (with_command command ids n m changes) → IsTaken changes → IsTaken (with_command command ids n m changes)
-command_taken (CreateNamespace name) [] n m changes os past inside h = h
-command_taken (CreateNamespace name) (id ∷ ids) n m changes os past inside h = plain_taken n _ changes refl (λ ns t. refl) past h
-command_taken (DropNamespace name) ids n m changes os past inside h = plain_taken n _ changes refl (λ ns t. refl) past h
-command_taken (CreateTable namespace table tablets columns) [] n m changes os past inside h = h
-command_taken (CreateTable namespace table tablets columns) (id ∷ ids) n m changes os past inside h =
-    record { owned = made_owned n id _ table (numbered 1 columns) changes os inside h.owned; stays = later_taken n _ changes (λ ns t. refl) past h.stays }
-command_taken (AddColumn namespace table name kind) ids n m changes os past inside h =
-    table_taken (table_of m namespace table) _ n changes (λ r. refl) (λ r ns t. refl) past h
-command_taken (DropColumn namespace table name) ids n m changes os past inside h =
-    table_taken (table_of m namespace table) _ n changes (λ r. refl) (λ r ns t. refl) past h
-command_taken (RenameTable namespace table name) ids n m changes os past inside h =
-    table_taken (table_of m namespace table) _ n changes (λ r. refl) (λ r ns t. refl) past h
-command_taken (DropTable namespace table) ids n m changes os past inside h =
-    table_taken (table_of m namespace table) _ n changes (λ r. refl) (λ r ns t. refl) past h
-command_taken _ ids n m changes os past inside h = h
+command_fixed : (command : Command) (ids : List Id) (n : ℕ) (m : Master) (changes : List made.Change) (os : List Owner) → IsPast changes n
+    → Inside os (with_command command ids n m changes) → JournalFixed changes → JournalFixed (with_command command ids n m changes)
+command_fixed (CreateNamespace name) [] n m changes os past inside h = h
+command_fixed (CreateNamespace name) (id ∷ ids) n m changes os past inside h = plain_fixed n _ changes refl (λ ns t. refl) past h
+command_fixed (DropNamespace name) ids n m changes os past inside h = plain_fixed n _ changes refl (λ ns t. refl) past h
+command_fixed (CreateTable namespace table tablets columns) [] n m changes os past inside h = h
+command_fixed (CreateTable namespace table tablets columns) (id ∷ ids) n m changes os past inside h =
+    record { owned = made_owned n id _ table (numbered 1 columns) changes os inside h.owned; stays = later_fixed n _ changes (λ ns t. refl) past h.stays }
+command_fixed (AddColumn namespace table name kind) ids n m changes os past inside h =
+    table_fixed (table_of m namespace table) _ n changes (λ r. refl) (λ r ns t. refl) past h
+command_fixed (DropColumn namespace table name) ids n m changes os past inside h =
+    table_fixed (table_of m namespace table) _ n changes (λ r. refl) (λ r ns t. refl) past h
+command_fixed (RenameTable namespace table name) ids n m changes os past inside h =
+    table_fixed (table_of m namespace table) _ n changes (λ r. refl) (λ r ns t. refl) past h
+command_fixed (DropTable namespace table) ids n m changes os past inside h =
+    table_fixed (table_of m namespace table) _ n changes (λ r. refl) (λ r ns t. refl) past h
+command_fixed _ ids n m changes os past inside h = h
 
 -- Writes
 
@@ -102,16 +102,16 @@ writable ps n place version batch ids e =
     let served = (both_pass (serves t place.tablet) _ (not_false (serves_all t place.tablet batch) passes.0)).0 in
     record { serving = (both_pass (is_serving t.presence) (same t.tablet place.tablet) served).0; unfenced = not_some_is t.fence passes.1.0 }
 
-written_taken : (ps : Parts) (activity : List Interval) (changes : List made.Change) (n : ℕ) (place : At) (batch : List Item) → Later (place.slot ∷ []) ps n
-    → 1 ≤ place.slot → Inv ps activity changes → IsWritable (ps.tablet place.slot) → IsTaken changes
-    → IsTaken (with_changes (Write place 0 batch) (Ok []) n ps changes)
-written_taken ps activity changes n place batch later from inv w h =
+written_fixed : (ps : Parts) (activity : List Interval) (changes : List made.Change) (n : ℕ) (place : At) (batch : List Item) → Later (place.slot ∷ []) ps n
+    → 1 ≤ place.slot → Inv ps activity changes → IsWritable (ps.tablet place.slot) → JournalFixed changes
+    → JournalFixed (with_changes (Write place 0 batch) (Ok []) n ps changes)
+written_fixed ps activity changes n place batch later from inv w h =
     let t = ps.tablet place.slot in
     let slot = inv.slots place.slot in
     let here : has (place.slot ∷ []) place.slot ≡ true = grind (arith, nat_tests) in
     record {
       owned = rows_owned batch n t.table changes h.owned;
-      stays = rows_taken batch n t.table changes h.owned (λ ns to fixed owned.
+      stays = rows_fixed batch n t.table changes h.owned (λ ns to fixed owned.
           none_or_some (table_at changes t.cutoff t.table)
           (λ none. absurd (true≢false (sym (slot.shown w.serving w.unfenced t.cutoff (le_refl t.cutoff)) ∙ ap is_some none)))
           (λ v there.
@@ -124,58 +124,58 @@ written_taken ps activity changes n place batch later from inv w h =
 
 -- Moves
 
-restoration_taken : (state : RestorationState) (r : RestorationRecord) (m : Master) (changes : List made.Change) → RestorationStateGood state m changes r
-    → IsTaken changes → IsTaken (with_restoration state r changes)
-restoration_taken (Switching point serving) r m changes good h = record {
+restoration_fixed : (state : RestorationState) (r : RestorationRecord) (m : Master) (changes : List made.Change) → RestorationStateGood state m changes r
+    → JournalFixed changes → JournalFixed (with_restoration state r changes)
+restoration_fixed (Switching point serving) r m changes good h = record {
   owned = restored_owned point r.namespace r.to changes h.owned;
-  stays = restore_taken point r.namespace r.to changes h.owned good.is_point.later
+  stays = restore_fixed point r.namespace r.to changes h.owned good.is_point.later
       (λ ns t fixed own. good.is_point.fixed t (subst (λ k. is_fixed changes k t ≡ true) (sym (same_equal r.namespace ns own)) fixed)) h.stays;
 }
-restoration_taken _ r m changes good h = h
+restoration_fixed _ r m changes good h = h
 
-either_taken : (restoration : Option RestorationRecord) (clone : Option CloneRecord) (n : ℕ) (m : Master) (changes : List made.Change)
+either_fixed : (restoration : Option RestorationRecord) (clone : Option CloneRecord) (n : ℕ) (m : Master) (changes : List made.Change)
     → ((r : RestorationRecord) → restoration ≡ Some r → RestorationStateGood r.state m changes r) → clone ≡ None
-    → IsTaken changes → IsTaken (with_either restoration clone n changes)
-either_taken (Some r) clone n m changes good none h = restoration_taken r.state r m changes (good r refl) h
-either_taken None (Some c) n m changes good none h = absurd (let q = none in grind arith)
-either_taken None None n m changes good none h = h
+    → JournalFixed changes → JournalFixed (with_either restoration clone n changes)
+either_fixed (Some r) clone n m changes good none h = restoration_fixed r.state r m changes (good r refl) h
+either_fixed None (Some c) n m changes good none h = absurd (let q = none in grind arith)
+either_fixed None None n m changes good none h = h
 
-advance_taken : (ps : Parts) (activity : List Interval) (changes : List made.Change) (n : ℕ) (operation : Id) → Inv ps activity changes
-    → AdvanceCovered operation.kind → IsTaken changes
-    → IsTaken (with_either (unfinished_restoration ps.master.restorations operation) (unfinished_clone ps.master.clones operation) n changes)
-advance_taken ps activity changes n operation inv covered h =
-    either_taken (unfinished_restoration ps.master.restorations operation) (unfinished_clone ps.master.clones operation) n ps.master changes
+advance_fixed : (ps : Parts) (activity : List Interval) (changes : List made.Change) (n : ℕ) (operation : Id) → Inv ps activity changes
+    → AdvanceCovered operation.kind → JournalFixed changes
+    → JournalFixed (with_either (unfinished_restoration ps.master.restorations operation) (unfinished_clone ps.master.clones operation) n changes)
+advance_fixed ps activity changes n operation inv covered h =
+    either_fixed (unfinished_restoration ps.master.restorations operation) (unfinished_clone ps.master.clones operation) n ps.master changes
     (λ r found. (inv.operations.restorations r (unfinished_restoration_is ps.master.restorations operation r found).0).in_state)
     (no_clone ps.master changes operation inv.operations (λ kind. subst AdvanceCovered kind covered))
     h
 
 -- Each act
 
-act_taken : (act : Act) (reply : Reply) (slots n : ℕ) (ps : Parts) (activity : List Interval) (changes : List made.Change) (os : List Owner)
+act_fixed : (act : Act) (reply : Reply) (slots n : ℕ) (ps : Parts) (activity : List Interval) (changes : List made.Change) (os : List Owner)
     → Later (slots_of act) ps n → ActAsked slots act → ActCovered act → Inv ps activity changes → reply ≡ (outcome act n ps).reply
-    → Inside os (with_changes act reply n ps changes) → IsTaken changes → IsTaken (with_changes act reply n ps changes)
-act_taken (Change command plan) (Ok ids) slots n ps activity changes os later asked covered inv is inside h =
-    command_taken command ids n ps.master changes os
+    → Inside os (with_changes act reply n ps changes) → JournalFixed changes → JournalFixed (with_changes act reply n ps changes)
+act_fixed (Change command plan) (Ok ids) slots n ps activity changes os later asked covered inv is inside h =
+    command_fixed command ids n ps.master changes os
     (λ ns t fixed. let past : t ≤ ps.master.clock = inv.master.past ns t fixed in let less : ps.master.clock < n = later 0 refl in omega arith) inside h
-act_taken (Write place version batch) (Ok ids) slots n ps activity changes os later asked covered inv is inside h =
-    written_taken ps activity changes n place batch later asked.0.0 inv (writable ps n place version batch ids is) h
-act_taken (Advance operation) (Advanced state) slots n ps activity changes os later asked covered inv is inside h =
-    advance_taken ps activity changes n operation inv covered h
-act_taken _ _ slots n ps activity changes os later asked covered inv is inside h = h
+act_fixed (Write place version batch) (Ok ids) slots n ps activity changes os later asked covered inv is inside h =
+    written_fixed ps activity changes n place batch later asked.0.0 inv (writable ps n place version batch ids is) h
+act_fixed (Advance operation) (Advanced state) slots n ps activity changes os later asked covered inv is inside h =
+    advance_fixed ps activity changes n operation inv covered h
+act_fixed _ _ slots n ps activity changes os later asked covered inv is inside h = h
 
 -- what holds of the journal of a legal history
-journal_taken : (history : List Entry) (slots : ℕ) → Legal slots history → Covered history → IsTaken (journal_of slots history)
+journal_fixed : (history : List Entry) (slots : ℕ) → Legal slots history → Covered history → JournalFixed (journal_of slots history)
 unfolding journal_of
-journal_taken [] slots legal covered =
+journal_fixed [] slots legal covered =
     record { owned = record { owned = λ id x v e. absurd (let q = e in grind arith) }; stays = record { none_late = tt; same = tt } }
-journal_taken (e ∷ earlier) slots legal covered =
+journal_fixed (e ∷ earlier) slots legal covered =
     let before = legal_holds earlier slots legal.0 covered.0 in
     let after = legal_holds (e ∷ earlier) slots legal covered in
     let step = legal.1 in
-    act_taken e.event.act e.reply slots e.stamp (replay slots earlier) (activity_of slots earlier) (journal_of slots earlier)
+    act_fixed e.event.act e.reply slots e.stamp (replay slots earlier) (activity_of slots earlier) (journal_of slots earlier)
     (replay slots (e ∷ earlier)).master.catalog.owners
     (stamps_later e (replay slots earlier) step.stamp) step.asked.act covered.1 before.inv step.reply after.inv.master.tables.inside
-    (journal_taken earlier slots legal.0 covered.0)
+    (journal_fixed earlier slots legal.0 covered.0)
 
-pub taken_stays : (history : List Entry) (slots : ℕ) → Legal slots history → Covered history → TakenStays (journal_of slots history)
-taken_stays history slots legal covered = (journal_taken history slots legal covered).stays
+pub fixed_stays : (history : List Entry) (slots : ℕ) → Legal slots history → Covered history → FixedStays (journal_of slots history)
+fixed_stays history slots legal covered = (journal_fixed history slots legal covered).stays

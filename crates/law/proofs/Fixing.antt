@@ -1,4 +1,4 @@
--- What restores took stays as it was: of journals alone. The view has each table in the namespace in which it was made, and so a change
+-- What restores fixed stays as it was: of journals alone. The view has each table in the namespace in which it was made, and so a change
 -- of one namespace leaves the view of another as it is.
 use Rattle.std.proofs.Common.{ℕ, ◌≡◌, ◌<◌, List, [], ◌∷◌, Option, Some, None, Bool, true, false, cond, ◌&&◌, ◌||◌, ◌==◌, ◌++◌, ◌⊎◌, inl, inr, le_refl, not, refl, sym, ap, subst, ◌∙◌, arith, leb, eqb, eqb-true}
 use Rattle.std.specs.Option.{is_some, option_or}
@@ -14,7 +14,7 @@ use Rattle.row_values.specs.Schema.{Column}
 use Rattle.model.specs.Catalog.{Owner, is_owned_by, owner_of}
 use Rattle.model.specs.Journal.{Change, ChangeAct, NamespaceMade, NamespaceDropped, TableMade, TableRenamed, TableDropped, ColumnAdded, ColumnDropped, RowChanged, NamespaceRestored, NamespaceCloned, TableView, is_in, renamed, with_column, without_column, restored_table, restored_row, table_after, namespace_at, table_at, row_at, owner_by, owner_in}
 use Rattle.model.specs.Right.{fixes, is_fixed, SameThen, StillSame}
-use Rattle.model.specs.Strict.{TakenStays}
+use Rattle.model.specs.Strict.{FixedStays}
 use Rattle.model.specs.History.{with, rows_made}
 use Rattle.law_store.proofs.Keys.{either_way}
 use Rattle.law_invariants.proofs.Journaling.{made_here, made_others}
@@ -50,7 +50,7 @@ then_trans a b c ns t p q = record { name = p.name ∙ q.name; tables = tables; 
     rows : (id : Id) (key : List ℕ) → is_in ns (table_at c t id) ≡ true → row_at a t id key ≡ row_at c t id key
     rows id key h = p.rows id key (ap (is_in ns) (last id h).1 ∙ h) ∙ q.rows id key h
 
--- where all fixed times see the same, what was taken before still is the same
+-- where all fixed times see the same, what was fixed before still is the same
 still_more : (changes all new : List Change) → StillSame all changes
     → ((ns : Id) (t : ℕ) → is_fixed changes ns t ≡ true → SameThen new all ns t) → StillSame new changes
 still_more [] all new same more = tt
@@ -241,12 +241,12 @@ restored_same point ns to changes other t o apart = record { name = one_way (leb
 -- One more change
 
 -- one that neither restores nor clones, after all fixed times
-pub later_taken : (n : ℕ) (act : ChangeAct) (changes : List Change) → ((ns : Id) (t : ℕ) → fixes act ns t ≡ false)
-    → ((ns : Id) (t : ℕ) → is_fixed changes ns t ≡ true → t < n) → TakenStays changes → TakenStays (with n act changes)
-later_taken n act changes plain past taken = record {
-  none_late = (taken.none_late, λ ns t fixed of_it. past ns t fixed);
+pub later_fixed : (n : ℕ) (act : ChangeAct) (changes : List Change) → ((ns : Id) (t : ℕ) → fixes act ns t ≡ false)
+    → ((ns : Id) (t : ℕ) → is_fixed changes ns t ≡ true → t < n) → FixedStays changes → FixedStays (with n act changes)
+later_fixed n act changes plain past stays = record {
+  none_late = (stays.none_late, λ ns t fixed of_it. past ns t fixed);
   same = (
-    still_more changes changes (with n act changes) taken.same (λ ns t fixed. ahead n act changes ns t (past ns t fixed)),
+    still_more changes changes (with n act changes) stays.same (λ ns t fixed. ahead n act changes ns t (past ns t fixed)),
     λ ns t fixed. absurd (true≢false (sym fixed ∙ plain ns t)),
   );
 }
@@ -268,17 +268,17 @@ row_same n table item changes ns t o apart = record {
       ∙ one_way (leb n t) (row_at changes t id key);
 }
 
-pub rows_taken : (items : List Item) (n : ℕ) (table : Id) (changes : List Change) → ViewOwned changes
+pub rows_fixed : (items : List Item) (n : ℕ) (table : Id) (changes : List Change) → ViewOwned changes
     → ((ns : Id) (t : ℕ) → is_fixed changes ns t ≡ true → is_owned_by (owner_in changes table) ns ≡ true → t < n)
-    → TakenStays changes → TakenStays (rows_made n table items changes)
-rows_taken [] n table changes o soon taken = taken
-rows_taken (item ∷ items) n table changes o soon taken =
+    → FixedStays changes → FixedStays (rows_made n table items changes)
+rows_fixed [] n table changes o soon stays = stays
+rows_fixed (item ∷ items) n table changes o soon stays =
     let act = RowChanged table item.key item.op in
-    rows_taken items n table (with n act changes) (plain_owned n act changes refl o) soon
+    rows_fixed items n table (with n act changes) (plain_owned n act changes refl o) soon
     (record {
-      none_late = (taken.none_late, soon);
+      none_late = (stays.none_late, soon);
       same = (
-        still_more changes changes (with n act changes) taken.same
+        still_more changes changes (with n act changes) stays.same
             (λ ns t fixed. either_way (is_owned_by (owner_in changes table) ns)
             (λ owned. ahead n act changes ns t (soon ns t fixed owned))
             (λ apart. row_same n table item changes ns t o apart)),
@@ -287,13 +287,13 @@ rows_taken (item ∷ items) n table changes o soon taken =
     })
 
 -- a restore to a time before its point, which is after the fixed times of its namespace
-pub restore_taken : (point : ℕ) (ns : Id) (to : ℕ) (changes : List Change) → ViewOwned changes → to < point
+pub restore_fixed : (point : ℕ) (ns : Id) (to : ℕ) (changes : List Change) → ViewOwned changes → to < point
     → ((other : Id) (t : ℕ) → is_fixed changes other t ≡ true → same ns other ≡ true → t < point)
-    → TakenStays changes → TakenStays (with point (NamespaceRestored ns to) changes)
-restore_taken point ns to changes o soon past taken = record {
-  none_late = (taken.none_late, past);
+    → FixedStays changes → FixedStays (with point (NamespaceRestored ns to) changes)
+restore_fixed point ns to changes o soon past stays = record {
+  none_late = (stays.none_late, past);
   same = (
-    still_more changes changes (with point (NamespaceRestored ns to) changes) taken.same
+    still_more changes changes (with point (NamespaceRestored ns to) changes) stays.same
         (λ other t fixed. either_way (same ns other)
         (λ own. ahead point (NamespaceRestored ns to) changes other t (past other t fixed own))
         (λ apart. restored_same point ns to changes other t o apart)),

@@ -12,3 +12,5 @@ pub mod Taking
 pub mod Taken
 pub mod Fixing
 pub mod Fixed
+pub mod Newest
+pub mod Schemas

@@ -139,12 +139,12 @@ record WasThen (rs : List TableRecord) (ns : Id) (to point : ℕ) (a : TableReco
   namespace_is : was.namespace ≡ ns
   is : back_at rs point was ≡ a
 
-then_is : (rs : List TableRecord) (ns : Id) (to : ℕ) (r : TableRecord) → In r (tables_at rs ns to) → In r rs × ((holds_at to r.from r.to ≡ true) × (r.namespace ≡ ns))
+pub then_is : (rs : List TableRecord) (ns : Id) (to : ℕ) (r : TableRecord) → In r (tables_at rs ns to) → In r rs × ((holds_at to r.from r.to ≡ true) × (r.namespace ≡ ns))
 then_is rs ns to r isin =
     let k = filter_in rs (λ r. holds_at to r.from r.to && same r.namespace ns) r (by_id_only _ r isin) in
     let b = both_pass (holds_at to r.from r.to) (same r.namespace ns) k.1 in (k.0, (b.0, same_equal r.namespace ns b.1))
 
-then_has : (rs : List TableRecord) (ns : Id) (to : ℕ) (r : TableRecord) → In r rs → holds_at to r.from r.to ≡ true → r.namespace ≡ ns → In r (tables_at rs ns to)
+pub then_has : (rs : List TableRecord) (ns : Id) (to : ℕ) (r : TableRecord) → In r rs → holds_at to r.from r.to ≡ true → r.namespace ≡ ns → In r (tables_at rs ns to)
 then_has rs ns to r isin held is = by_id_has _ r (in_filter rs (λ r. holds_at to r.from r.to && same r.namespace ns) r isin (passes_both (holds_at to r.from r.to) (same r.namespace ns) held (ap (λ i. same i ns) is ∙ same_self ns)))
 
 back_is : (rs : List TableRecord) (ns : Id) (to point : ℕ) (a : TableRecord) → In a (tables_back rs ns to point) → WasThen rs ns to point a

@@ -112,17 +112,17 @@ move_few Schedule id n m = none m.drawn
 
 -- What the master is told
 
--- whether it is told a command
-abbrev is_command : MasterAct → Bool
-is_command (Changes command slots) = true
-is_command Ticks = false
-is_command (Sends operation slot) = false
-is_command (Acks operation slot) = false
-is_command (Unsends operation slot) = false
-is_command (Moves operation) = false
-is_command (Removes target) = false
-is_command Prunes = false
-is_command Restarts = false
+-- whether it is told a command, to move a record or to prune
+abbrev pub is_weighty : MasterAct → Bool
+is_weighty (Changes command slots) = true
+is_weighty Ticks = false
+is_weighty (Sends operation slot) = false
+is_weighty (Acks operation slot) = false
+is_weighty (Unsends operation slot) = false
+is_weighty (Moves operation) = true
+is_weighty (Removes target) = false
+is_weighty Prunes = true
+is_weighty Restarts = false
 
 removed_few : (kind : Kind) (target : Id) (n : ℕ) (m : Master) → Few m.drawn (removed_of kind target n m).drawn
 removed_few Tablet target n m = none m.drawn
@@ -134,26 +134,26 @@ acked_few Restoration operation slot n m = none m.drawn
 acked_few Clone operation slot n m = none m.drawn
 acked_few _ operation slot n m = none m.drawn
 
-told_few : (a : MasterAct) (n : ℕ) (m : Master) → is_command a ≡ false → Few m.drawn (master_effect a n m).drawn
+told_few : (a : MasterAct) (n : ℕ) (m : Master) → is_weighty a ≡ false → Few m.drawn (master_effect a n m).drawn
 told_few (Changes command slots) n m e = absurd (let q = e in grind arith)
 told_few Ticks n m e = none m.drawn
 told_few (Sends operation slot) n m e = none m.drawn
 told_few (Acks operation slot) n m e = acked_few operation.kind operation slot n m
 told_few (Unsends operation slot) n m e = none m.drawn
-told_few (Moves operation) n m e = move_few operation.kind operation n m
+told_few (Moves operation) n m e = absurd (let q = e in grind arith)
 told_few (Removes target) n m e = removed_few target.kind target n m
-told_few Prunes n m e = none m.drawn
+told_few Prunes n m e = absurd (let q = e in grind arith)
 told_few Restarts n m e = none m.drawn
 
--- an outcome by which the master is told no command
-record IsPlain (o : Outcome) : Type 0 where
-  none : is_command o.master ≡ false
+-- an outcome by which the master is told none of that
+pub record IsPlain (o : Outcome) : Type 0 where
+  pub none : is_weighty o.master ≡ false
 
 -- an outcome by which few identifiers are drawn
 record DrawsFew (n : ℕ) (m : Master) (o : Outcome) : Type 0 where
   few : Few m.drawn (master_effect o.master n m).drawn
 
--- the refusal, or the outcome, tells no command where the outcome tells none
+-- the refusal, or the outcome, is plain where the outcome is
 unless_none : (refusal : Option Refusal) (o : Outcome) → IsPlain o → IsPlain (unless refusal o)
 unless_none (Some why) o e = record { none = refl }
 unless_none None o e = e
@@ -184,13 +184,13 @@ acknowledging_none None operation slot t = record { none = refl }
 acknowledging_none (Some l) operation slot t =
     cond_both (is_done t.done operation (kind_of l.body)) _ _ IsPlain (λ e. record { none = refl }) (λ e. record { none = refl })
 
-moving_none : (awaited : Option Id) (operation : Id) (next : State) → IsPlain (moving awaited operation next)
-moving_none None operation next = record { none = refl }
-moving_none (Some on) operation next = record { none = refl }
+moving_few : (awaited : Option Id) (operation : Id) (next : State) (n : ℕ) (m : Master) → DrawsFew n m (moving awaited operation next)
+moving_few None operation next n m = record { few = move_few operation.kind operation n m }
+moving_few (Some on) operation next n m = record { few = none m.drawn }
 
-advancing_none : (p : Option Progress) (operation : Id) → IsPlain (advancing p operation)
-advancing_none None operation = record { none = refl }
-advancing_none (Some p) operation = moving_none (waits_for (first_unacked p.listed) p.awaited) operation p.next
+advancing_few : (p : Option Progress) (operation : Id) (n : ℕ) (m : Master) → DrawsFew n m (advancing p operation)
+advancing_few None operation n m = record { few = none m.drawn }
+advancing_few (Some p) operation n m = moving_few (waits_for (first_unacked p.listed) p.awaited) operation p.next n m
 
 removing_tablet_none : (i : Option Interval) (target : Id) (slots : List ℕ) (n : ℕ) (ps : Parts) → IsPlain (removing_tablet i target slots n ps)
 removing_tablet_none None target slots n ps = search (unless_none)
@@ -208,25 +208,25 @@ restart_none : (slot n : ℕ) (ps : Parts) → IsPlain (restart slot n ps)
 unfolding restart
 restart_none slot n ps = cond_both (eqb slot 0) _ _ IsPlain (λ e. record { none = refl }) (λ e. record { none = refl })
 
--- whether an act is a command to the master
-abbrev is_change : Act → Bool
-is_change (Change command slots) = true
-is_change (Look ask) = false
-is_change (Write place version batch) = false
-is_change (Read places version key at columns) = false
-is_change (Cutoff slot) = false
-is_change (Compact slot) = false
-is_change (Send operation slot) = false
-is_change (Process slot other) = false
-is_change (Ack operation slot) = false
-is_change (Advance operation) = false
-is_change (Remove target slots) = false
-is_change Prune = false
-is_change (Restart slot) = false
-is_change (Stats slot) = false
+-- whether an act may tell the master any of that
+abbrev pub may_weigh : Act → Bool
+may_weigh (Change command slots) = true
+may_weigh (Look ask) = false
+may_weigh (Write place version batch) = false
+may_weigh (Read places version key at columns) = false
+may_weigh (Cutoff slot) = false
+may_weigh (Compact slot) = false
+may_weigh (Send operation slot) = false
+may_weigh (Process slot other) = false
+may_weigh (Ack operation slot) = false
+may_weigh (Advance operation) = true
+may_weigh (Remove target slots) = false
+may_weigh Prune = true
+may_weigh (Restart slot) = false
+may_weigh (Stats slot) = false
 
-act_none : (act : Act) (n : ℕ) (ps : Parts) → is_change act ≡ false → IsPlain (outcome act n ps)
-unfolding write read cutoff compact stats send process ack advance remove prune
+pub act_none : (act : Act) (n : ℕ) (ps : Parts) → may_weigh act ≡ false → IsPlain (outcome act n ps)
+unfolding write read cutoff compact stats send process ack remove
 act_none (Change command slots) n ps e = absurd (let q = e in grind arith)
 act_none (Look ask) n ps e = look_few ask n ps.master
 act_none (Write place version batch) n ps e = search (unless_none)
@@ -236,9 +236,9 @@ act_none (Compact slot) n ps e = search (unless_none)
 act_none (Send operation slot) n ps e = sending_none (pending ps.master operation slot) operation slot
 act_none (Process slot other) n ps e = processing_none (ps.tablet slot).inbox slot other (ps.tablet other)
 act_none (Ack operation slot) n ps e = acknowledging_none (pending ps.master operation slot) operation slot (ps.tablet slot)
-act_none (Advance operation) n ps e = advancing_none (progress_of operation.kind ps.master operation) operation
+act_none (Advance operation) n ps e = absurd (let q = e in grind arith)
 act_none (Remove target slots) n ps e = removing_none target.kind target slots n ps
-act_none Prune n ps e = record { none = refl }
+act_none Prune n ps e = absurd (let q = e in grind arith)
 act_none (Restart slot) n ps e = restart_none slot n ps
 act_none (Stats slot) n ps e = record { none = refl }
 
@@ -272,7 +272,7 @@ planned_few ListClones slots n ps asked covered = record { few = none ps.master.
 planned_few (ListTablets namespace) slots n ps asked covered = search (unless_few, answered_few)
 
 act_few : (act : Act) (slots n : ℕ) (ps : Parts) → ActAsked slots act → ActCovered act → DrawsFew n ps.master (outcome act n ps)
-unfolding change
+unfolding change advance prune
 act_few (Change command plan) slots n ps asked covered = unless_few (refusal_in (If (not (same_slots plan (plan_of command ps.master))) (StalePlan (plan_of command ps.master)) ∷ [])) (planned command plan n ps) n ps.master (planned_few command plan n ps asked.0 covered)
 act_few (Look ask) slots n ps asked covered = record { few = told_few _ n ps.master (act_none (Look ask) n ps refl).none }
 act_few (Write place version batch) slots n ps asked covered = record { few = told_few _ n ps.master (act_none (Write place version batch) n ps refl).none }
@@ -282,9 +282,9 @@ act_few (Compact slot) slots n ps asked covered = record { few = told_few _ n ps
 act_few (Send operation slot) slots n ps asked covered = record { few = told_few _ n ps.master (act_none (Send operation slot) n ps refl).none }
 act_few (Process slot other) slots n ps asked covered = record { few = told_few _ n ps.master (act_none (Process slot other) n ps refl).none }
 act_few (Ack operation slot) slots n ps asked covered = record { few = told_few _ n ps.master (act_none (Ack operation slot) n ps refl).none }
-act_few (Advance operation) slots n ps asked covered = record { few = told_few _ n ps.master (act_none (Advance operation) n ps refl).none }
+act_few (Advance operation) slots n ps asked covered = advancing_few (progress_of operation.kind ps.master operation) operation n ps.master
 act_few (Remove target plan) slots n ps asked covered = record { few = told_few _ n ps.master (act_none (Remove target plan) n ps refl).none }
-act_few Prune slots n ps asked covered = record { few = told_few _ n ps.master (act_none Prune n ps refl).none }
+act_few Prune slots n ps asked covered = record { few = none ps.master.drawn }
 act_few (Restart slot) slots n ps asked covered = record { few = told_few _ n ps.master (act_none (Restart slot) n ps refl).none }
 act_few (Stats slot) slots n ps asked covered = record { few = told_few _ n ps.master (act_none (Stats slot) n ps refl).none }
 

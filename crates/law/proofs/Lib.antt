@@ -14,3 +14,4 @@ pub mod Fixing
 pub mod Fixed
 pub mod Newest
 pub mod Schemas
+pub mod Numbering

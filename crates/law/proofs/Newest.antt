@@ -101,9 +101,9 @@ back_latest [] rs point id found s e = inr ((λ q isin is. absurd isin), e)
 back_latest (r ∷ ls) rs point id found s e = elim (back_latest ls rs point id (if same r.id id then Some (back_at rs point r).schema else found) s e) [
   | inl h ↦ inl (record { was = h.was; listed = inr h.listed; id_is = h.id_is; is = h.is })
   | inr h ↦ either_way (same r.id id)
-  (λ b. let q : Some (back_at rs point r).schema ≡ Some s = sym (ap (λ c. cond c (Some (back_at rs point r).schema) found) b) ∙ h.1 in
-  inl (record { was = r; listed = inl refl; id_is = same_equal r.id id b; is = (let k : (back_at rs point r).schema ≡ s = cc in k) }))
-  (λ b. inr ((λ q isin is. elim isin [ inl f ↦ true≢false (sym (ap (λ k. same k.id id) f ∙ ap (λ i. same i id) is ∙ same_self id) ∙ b) | inr rest ↦ h.0 q rest is ]), sym (ap (λ c. cond c (Some (back_at rs point r).schema) found) b) ∙ h.1))
+      (λ b. let q : Some (back_at rs point r).schema ≡ Some s = sym (ap (λ c. cond c (Some (back_at rs point r).schema) found) b) ∙ h.1 in
+      inl (record { was = r; listed = inl refl; id_is = same_equal r.id id b; is = (let k : (back_at rs point r).schema ≡ s = cc in k) }))
+      (λ b. inr ((λ q isin is. elim isin [ inl f ↦ true≢false (sym (ap (λ k. same k.id id) f ∙ ap (λ i. same i id) is ∙ same_self id) ∙ b) | inr rest ↦ h.0 q rest is ]), sym (ap (λ c. cond c (Some (back_at rs point r).schema) found) b) ∙ h.1))
 ]
 
 -- what stood at the time is what the view has in the namespace
@@ -142,18 +142,18 @@ newest_back c time drawn changes ns to point h known all table s e =
     = ap (latest_from (tables_back rs ns to point) table) (sym over) ∙ sym (latest_append (end_tables ns point rs) (tables_back rs ns to point) table None) ∙ e in
     elim (back_latest (tables_at rs ns to) rs point table (latest rs table) s is) [
       | inl b ↦ (
-        let k = latest_there rs b.was None (then_is rs ns to b.was b.listed).0 in
-        let newest_is : newest rs b.was ≡ k.0 = ap (λ o. unwrap_or o b.was.schema) k.1 in
-        let own = all b.was.id k.0 k.1 in
-        let there : is_in ns (table_at changes to b.was.id) ≡ true = then_in c time drawn changes ns to b.was h known b.listed in
-        subst (λ i. IsNewest (record { stamp = point; act = NamespaceRestored ns to } ∷ changes) i s) b.id_is (record {
-          next = ap (λ q. q.next) (sym b.is) ∙ ap (λ q. q.next) newest_is ∙ own.next;
-          version = ap (λ q. q.version) (sym b.is) ∙ ap (λ q. q.version + 1) newest_is ∙ ap (λ v. v + 1) own.version ∙ sym (ap (λ g. if g then version_by changes b.was.id + 1 else version_by changes b.was.id) there);
-        }))
+          let k = latest_there rs b.was None (then_is rs ns to b.was b.listed).0 in
+          let newest_is : newest rs b.was ≡ k.0 = ap (λ o. unwrap_or o b.was.schema) k.1 in
+          let own = all b.was.id k.0 k.1 in
+          let there : is_in ns (table_at changes to b.was.id) ≡ true = then_in c time drawn changes ns to b.was h known b.listed in
+          subst (λ i. IsNewest (record { stamp = point; act = NamespaceRestored ns to } ∷ changes) i s) b.id_is (record {
+            next = ap (λ q. q.next) (sym b.is) ∙ ap (λ q. q.next) newest_is ∙ own.next;
+            version = ap (λ q. q.version) (sym b.is) ∙ ap (λ q. q.version + 1) newest_is ∙ ap (λ v. v + 1) own.version ∙ sym (ap (λ g. if g then version_by changes b.was.id + 1 else version_by changes b.was.id) there);
+          }))
       | inr n ↦ (
-        let own = all table s n.1 in
-        let gone : is_in ns (table_at changes to table) ≡ false = either_way (is_in ns (table_at changes to table)) (λ g. absurd (let k = in_then c time drawn changes ns to table h known g in n.0 k.was k.listed k.id_is)) (λ g. g) in
-        record { next = own.next; version = own.version ∙ sym (ap (λ g. if g then version_by changes table + 1 else version_by changes table) gone) })
+          let own = all table s n.1 in
+          let gone : is_in ns (table_at changes to table) ≡ false = either_way (is_in ns (table_at changes to table)) (λ g. absurd (let k = in_then c time drawn changes ns to table h known g in n.0 k.was k.listed k.id_is)) (λ g. g) in
+          record { next = own.next; version = own.version ∙ sym (ap (λ g. if g then version_by changes table + 1 else version_by changes table) gone) })
     ]
 
 -- Old records go
@@ -180,9 +180,9 @@ pruned_latest (r ∷ rs) old id found s after e = either_way (same r.id id)
     (λ b. either_way (old r)
     (λ o. let rest : latest_from (filter (λ r. not (old r)) rs) id None ≡ Some s = rw o at e in rw b (pruned_latest rs old id (Some r.schema) s after.1 rest))
     (λ o. let whole : latest_from (filter (λ r. not (old r)) rs) id (if same r.id id then Some r.schema else None) ≡ Some s = rw o at e in
-      let mine : latest_from (filter (λ r. not (old r)) rs) id (Some r.schema) ≡ Some s = rw b at whole in
-      rw b (sym (all_young rs old id (Some r.schema) (λ q isin is. after.0 q isin (is ∙ sym (same_equal r.id id b)) o)) ∙ mine)))
+    let mine : latest_from (filter (λ r. not (old r)) rs) id (Some r.schema) ≡ Some s = rw b at whole in
+    rw b (sym (all_young rs old id (Some r.schema) (λ q isin is. after.0 q isin (is ∙ sym (same_equal r.id id b)) o)) ∙ mine)))
     (λ b. let rest : latest_from (filter (λ r. not (old r)) rs) id None ≡ Some s
-      = cond_both (not (old r)) (r ∷ filter (λ r. not (old r)) rs) (filter (λ r. not (old r)) rs) (λ qs. latest_from qs id None ≡ Some s → latest_from (filter (λ r. not (old r)) rs) id None ≡ Some s)
-      (λ k h. sym (ap (λ c. latest_from (filter (λ r. not (old r)) rs) id (cond c (Some r.schema) None)) b) ∙ h) (λ k h. h) e in
-      rw b (pruned_latest rs old id found s after.1 rest))
+    = cond_both (not (old r)) (r ∷ filter (λ r. not (old r)) rs) (filter (λ r. not (old r)) rs) (λ qs. latest_from qs id None ≡ Some s → latest_from (filter (λ r. not (old r)) rs) id None ≡ Some s)
+    (λ k h. sym (ap (λ c. latest_from (filter (λ r. not (old r)) rs) id (cond c (Some r.schema) None)) b) ∙ h) (λ k h. h) e in
+    rw b (pruned_latest rs old id found s after.1 rest))

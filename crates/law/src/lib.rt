@@ -10,7 +10,7 @@ ghost use Rattle.model.specs.Running.{run_of};
 ghost use Rattle.model.specs.Entries.{ActAsked, Entry};
 ghost use Rattle.row_values.specs.Elements.{AllOf};
 ghost use Rattle.model.specs.History.{Legal, replay, journal_of, activity_of};
-ghost use Rattle.model.specs.Drawn.{DrawnBelow, DrawnWithin};
+ghost use Rattle.model.specs.Drawn.{DrawnBelow, DrawnWithin, SchemasDrawn};
 ghost use Rattle.model.specs.Replies.{Right};
 ghost use Rattle.model.specs.Strict.{FixedStays};
 ghost use Rattle.model.specs.Stands.{Cover, RecordFacts, Stands};
@@ -43,10 +43,13 @@ pub fn plans_are_named()
 
 /// A legal history of covered acts draws few numbers: at most as many of each kind as a cluster has
 /// slots, for each entry of the master's log. So numbers of identifiers stay below their bound, of
-/// which code makes its identifiers.
+/// which code makes its identifiers. A new column gets one more than the greatest id that was ever
+/// given to its table; and the newest schema that the catalog keeps of a table has as its version the
+/// changes of columns and the restores that made the table current, counted from 1.
 pub fn numbers_are_drawn()
     ensures within { (slots : ℕ) (history : List Entry) → Legal slots history → Covered history → DrawnWithin slots history }
     ensures below { (slots : ℕ) (history : List Entry) → Legal slots history → Covered history → DrawnBelow (replay slots history).master }
+    ensures schemas { (slots : ℕ) (history : List Entry) → Legal slots history → Covered history → SchemasDrawn (replay slots history).master (journal_of slots history) }
 {}
 
 /// The history of a script whose commands meet what is asked of them, and are of the covered ones, is

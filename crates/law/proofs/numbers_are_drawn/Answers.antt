@@ -1,9 +1,11 @@
--- Each entry draws few, and the master's log has room for so many.
+-- Each entry draws few, the master's log has room for so many, and each change of a table takes the next numbers.
 use Rattle.law.proofs.Drawing.{drawn_within, drawn_below}
+use Rattle.law.proofs.Numbering.{schemas_drawn}
 use Rattle.law.proofs.numbers_are_drawn.Goals as goal
 
 pub returns : goal.returns
 returns c = record {
   within = λ slots history legal covered. drawn_within history slots legal covered;
   below = λ slots history legal covered. drawn_below history slots legal covered;
+  schemas = λ slots history legal covered. schemas_drawn history slots legal covered;
 }

@@ -1,3 +1,4 @@
 pub mod NamedOps
 pub mod Seen
 pub mod Times
+pub mod Scripts

@@ -12,7 +12,7 @@ use Rattle.script_places.specs.Words.{Word}
 use Rattle.script_places.specs.Places.{look_up}
 use Rattle.script_places.specs.Grammar.{all_right, words_differ, SpelledIn, RefusedIn}
 use Rattle.script_places.proofs.TableWords.{found, finds, refused_in, refuses_in}
-use Rattle.script_lang.specs.declared.command.ScriptCommand.{ScriptCommand}
+use Rattle.model.specs.Scripts.{ScriptCommand}
 use Rattle.script_lang.specs.Table.{table, from_rows, from_catalog, command_of}
 use Rattle.script_lang.specs.Script.{of_words, line_of}
 use Rattle.script_lang.specs.Grammar.{IsPlainLine, IsLine, LineRefused}

@@ -7,7 +7,7 @@ use Rattle.std.proofs.lemmas.List.{append-nil}
 use Rattle.script_words.specs.declared.cause.Cause.{Cause}
 use Rattle.script_words.specs.Lines.{begins_with, onto, lines_of}
 use Rattle.script_words.specs.Words.{is_printed, is_plain}
-use Rattle.script_lang.specs.declared.command.ScriptCommand.{ScriptCommand}
+use Rattle.model.specs.Scripts.{ScriptCommand}
 use Rattle.script_lang.specs.declared.script.ScriptLine.{ScriptLine}
 use Rattle.script_lang.specs.Script.{line_of, numbered, after_line, script_from, script_of}
 use Rattle.script_lang.specs.Grammar.{LineRefused, AreLines, IsScript, IsAnyLine, IsFirstRefused, IsRefusedAt, is_text}

@@ -1,10 +1,8 @@
 -- The commands that change namespaces, tables and columns.
 use Rattle.std.specs.Prelude.{List, [], ◌∷◌, codes}
-use Rattle.table_schema.specs.Seen.{column_kind_from}
 use Rattle.script_places.specs.declared.place.Place.TheVariants.{Tablets, Name, Number, Column, Columns}
 use Rattle.script_places.specs.Places.{Form}
-use Rattle.script_lang.specs.declared.command.ScriptCommand.{ScriptCommand}
-use Rattle.script_lang.specs.declared.command.ScriptCommand.TheVariants.{CreateNamespace, DropNamespace, CreateTable, AddColumn, DropColumn, RenameTable, DropTable}
+use Rattle.model.specs.Scripts.{ScriptCommand, CreateNamespace, DropNamespace, CreateTable, AddColumn, DropColumn, RenameTable, DropTable}
 
 abbrev pub create_namespace : Form ScriptCommand
 create_namespace = record { word = codes "create_namespace"; places = Name ∷ []; makes = CreateNamespace }
@@ -23,7 +21,7 @@ abbrev pub add_column : Form ScriptCommand
 add_column = record {
   word = codes "add_column";
   places = Name ∷ Name ∷ Column ∷ [];
-  makes = λ namespace table column. AddColumn namespace table column.name (column_kind_from column.kind);
+  makes = λ namespace table column. AddColumn namespace table column.name column.kind;
 }
 
 abbrev pub drop_column : Form ScriptCommand

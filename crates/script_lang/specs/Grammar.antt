@@ -9,7 +9,7 @@ use Rattle.script_words.specs.Words.{is_printed, is_plain, is_comment, is_open}
 use Rattle.script_words.specs.Layout.{IsLaidOut}
 use Rattle.script_places.specs.Words.{Word}
 use Rattle.script_places.specs.Grammar.{SpelledIn, RefusedIn}
-use Rattle.script_lang.specs.declared.command.ScriptCommand.{ScriptCommand}
+use Rattle.model.specs.Scripts.{ScriptCommand}
 use Rattle.script_lang.specs.declared.script.ScriptLine.{ScriptLine}
 use Rattle.script_lang.specs.declared.script.ScriptRefused.{ScriptRefused}
 use Rattle.script_lang.specs.declared.script.ScriptRefused.TheVariants as refused

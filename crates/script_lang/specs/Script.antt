@@ -3,7 +3,7 @@ use Rattle.std.specs.Prelude.{◌≡◌, ℕ, ◌+◌, List, [], ◌∷◌, ◌+
 use Rattle.script_words.specs.declared.cause.Cause.{Cause}
 use Rattle.script_words.specs.Lines.{lines_of}
 use Rattle.script_words.specs.Reading.{◌>>=◌, words_of_line}
-use Rattle.script_lang.specs.declared.command.ScriptCommand.{ScriptCommand}
+use Rattle.model.specs.Scripts.{ScriptCommand}
 use Rattle.script_lang.specs.declared.script.ScriptLine.{ScriptLine}
 use Rattle.script_lang.specs.declared.script.ScriptLine.TheVariants.{Single}
 use Rattle.script_lang.specs.declared.script.ScriptRefused.{ScriptRefused}

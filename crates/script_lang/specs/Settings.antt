@@ -2,8 +2,7 @@
 use Rattle.std.specs.Prelude.{◌-◌, ◌^◌, List, [], ◌∷◌, codes}
 use Rattle.script_places.specs.declared.place.Place.TheVariants.{Number}
 use Rattle.script_places.specs.Places.{Form}
-use Rattle.script_lang.specs.declared.command.ScriptCommand.{ScriptCommand}
-use Rattle.script_lang.specs.declared.command.ScriptCommand.TheVariants.{Tick}
+use Rattle.model.specs.Scripts.{ScriptCommand, Tick}
 
 abbrev pub tick : Form ScriptCommand
 tick = record { word = codes "tick"; places = Number 0 (2 ^ 49 - 1) ∷ []; makes = Tick }

@@ -4,7 +4,7 @@ use Rattle.script_words.specs.declared.cause.Cause.{Cause}
 use Rattle.script_words.specs.declared.cause.Cause.TheVariants.{UnknownCommand}
 use Rattle.script_places.specs.Words.{Word}
 use Rattle.script_places.specs.Places.{Form, look_up}
-use Rattle.script_lang.specs.declared.command.ScriptCommand.{ScriptCommand}
+use Rattle.model.specs.Scripts.{ScriptCommand}
 use Rattle.script_lang.specs.Settings as settings
 use Rattle.script_lang.specs.Catalog as catalog
 use Rattle.script_lang.specs.Rows as rows

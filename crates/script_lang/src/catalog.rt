@@ -1,20 +1,21 @@
 //! The commands that change namespaces, tables and columns.
 
-ghost use Rattle.script_words.specs.Reading.{Gives, same};
+ghost use Rattle.script_words.specs.Reading.{Gives};
+ghost use Rattle.commands.specs.Scripts.{script_command_of};
 ghost use Rattle.script_places.specs.Places.{read_form};
 ghost use Rattle.script_lang.specs.Catalog as catalog;
 ghost use Rattle.script_lang.specs.Table.{from_catalog};
 
-use crate::command::ScriptCommand;
 use crate::reading::Reading;
 use crate::rows;
+use commands::ScriptCommand;
 use row_values::Bytes;
 use script_places::{Place, column_at, columns, counted, name_at, next_of, number_at};
 use script_words::{Cause, LineError};
 
 #[tactic(auto, unfolding(script_places::specs::Places::read_form))]
 fn create_namespace(with: Reading, words: &[Bytes]) -> Result<ScriptCommand, LineError>
-    ensures exact { Gives same result (read_form with.slots catalog.create_namespace words.now) }
+    ensures exact { Gives script_command_of result (read_form with.slots catalog.create_namespace words.now) }
 {
     counted(&[Place::Name], words)?;
     let (namespace, _) = name_at(with.alloc, words)?;
@@ -23,7 +24,7 @@ fn create_namespace(with: Reading, words: &[Bytes]) -> Result<ScriptCommand, Lin
 
 #[tactic(auto, unfolding(script_places::specs::Places::read_form))]
 fn drop_namespace(with: Reading, words: &[Bytes]) -> Result<ScriptCommand, LineError>
-    ensures exact { Gives same result (read_form with.slots catalog.drop_namespace words.now) }
+    ensures exact { Gives script_command_of result (read_form with.slots catalog.drop_namespace words.now) }
 {
     counted(&[Place::Name], words)?;
     let (namespace, _) = name_at(with.alloc, words)?;
@@ -32,7 +33,7 @@ fn drop_namespace(with: Reading, words: &[Bytes]) -> Result<ScriptCommand, LineE
 
 #[tactic(auto, unfolding(script_places::specs::Places::read_form))]
 fn create_table(with: Reading, words: &[Bytes]) -> Result<ScriptCommand, LineError>
-    ensures exact { Gives same result (read_form with.slots catalog.create_table words.now) }
+    ensures exact { Gives script_command_of result (read_form with.slots catalog.create_table words.now) }
 {
     let count = Place::Number { least: 1, most: 1 };
     counted(
@@ -58,9 +59,9 @@ fn create_table(with: Reading, words: &[Bytes]) -> Result<ScriptCommand, LineErr
     })
 }
 
-#[tactic(auto, using(table_schema::proofs::SameKinds::column_kind_again), unfolding(script_places::specs::Places::read_form))]
+#[tactic(auto, unfolding(script_places::specs::Places::read_form))]
 fn add_column(with: Reading, words: &[Bytes]) -> Result<ScriptCommand, LineError>
-    ensures exact { Gives same result (read_form with.slots catalog.add_column words.now) }
+    ensures exact { Gives script_command_of result (read_form with.slots catalog.add_column words.now) }
 {
     counted(&[Place::Name, Place::Name, Place::Column], words)?;
     let (namespace, rest) = name_at(with.alloc, words)?;
@@ -76,7 +77,7 @@ fn add_column(with: Reading, words: &[Bytes]) -> Result<ScriptCommand, LineError
 
 #[tactic(auto, unfolding(script_places::specs::Places::read_form))]
 fn drop_column(with: Reading, words: &[Bytes]) -> Result<ScriptCommand, LineError>
-    ensures exact { Gives same result (read_form with.slots catalog.drop_column words.now) }
+    ensures exact { Gives script_command_of result (read_form with.slots catalog.drop_column words.now) }
 {
     counted(&[Place::Name, Place::Name, Place::Name], words)?;
     let (namespace, rest) = name_at(with.alloc, words)?;
@@ -91,7 +92,7 @@ fn drop_column(with: Reading, words: &[Bytes]) -> Result<ScriptCommand, LineErro
 
 #[tactic(auto, unfolding(script_places::specs::Places::read_form))]
 fn rename_table(with: Reading, words: &[Bytes]) -> Result<ScriptCommand, LineError>
-    ensures exact { Gives same result (read_form with.slots catalog.rename_table words.now) }
+    ensures exact { Gives script_command_of result (read_form with.slots catalog.rename_table words.now) }
 {
     counted(&[Place::Name, Place::Name, Place::Name], words)?;
     let (namespace, rest) = name_at(with.alloc, words)?;
@@ -106,7 +107,7 @@ fn rename_table(with: Reading, words: &[Bytes]) -> Result<ScriptCommand, LineErr
 
 #[tactic(auto, unfolding(script_places::specs::Places::read_form))]
 fn drop_table(with: Reading, words: &[Bytes]) -> Result<ScriptCommand, LineError>
-    ensures exact { Gives same result (read_form with.slots catalog.drop_table words.now) }
+    ensures exact { Gives script_command_of result (read_form with.slots catalog.drop_table words.now) }
 {
     counted(&[Place::Name, Place::Name], words)?;
     let (namespace, rest) = name_at(with.alloc, words)?;
@@ -118,7 +119,7 @@ fn drop_table(with: Reading, words: &[Bytes]) -> Result<ScriptCommand, LineError
 /// looked for earlier.
 #[tactic(auto, unfolding(crate::specs::Table::from_catalog))]
 pub fn command_of(with: Reading, word: &[u8], rest: &[Bytes]) -> Result<ScriptCommand, LineError>
-    ensures exact { Gives same result (from_catalog with.slots word.now rest.now) }
+    ensures exact { Gives script_command_of result (from_catalog with.slots word.now rest.now) }
 {
     if word == b"create_namespace".as_slice() {
         return create_namespace(with, rest);

@@ -3,7 +3,7 @@
 ghost use Rattle.std.specs.Prelude.{◌≡◌, ℕ, ◌<◌, ◌^◌, List, Option, true, Ok, Err};
 ghost use Rattle.script_words.specs.declared.cause.Cause.{Cause};
 ghost use Rattle.script_places.specs.Grammar.{SpelledIn, RefusedIn};
-ghost use Rattle.script_lang.specs.declared.command.ScriptCommand.{ScriptCommand};
+ghost use Rattle.model.specs.Scripts.{ScriptCommand};
 ghost use Rattle.script_lang.specs.declared.script.ScriptLine.{ScriptLine};
 ghost use Rattle.script_lang.specs.Table.{table, command_of};
 ghost use Rattle.script_lang.specs.Script.{line_of, script_of};

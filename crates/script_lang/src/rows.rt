@@ -1,19 +1,20 @@
 //! The commands that write and read rows.
 
-ghost use Rattle.script_words.specs.Reading.{Gives, same};
+ghost use Rattle.script_words.specs.Reading.{Gives};
+ghost use Rattle.commands.specs.Scripts.{script_command_of};
 ghost use Rattle.script_places.specs.Places.{read_form};
 ghost use Rattle.script_lang.specs.Rows as rows;
 ghost use Rattle.script_lang.specs.Table.{from_rows};
 
-use crate::command::ScriptCommand;
 use crate::reading::Reading;
+use commands::ScriptCommand;
 use row_values::Bytes;
 use script_places::{Place, cells, counted, key_at, name_at, time};
 use script_words::{Cause, LineError};
 
 #[tactic(auto, unfolding(script_places::specs::Places::read_form))]
 fn put(with: Reading, words: &[Bytes]) -> Result<ScriptCommand, LineError>
-    ensures exact { Gives same result (read_form with.slots rows.put words.now) }
+    ensures exact { Gives script_command_of result (read_form with.slots rows.put words.now) }
 {
     counted(&[Place::Name, Place::Name, Place::Key, Place::Cells], words)?;
     let (namespace, rest) = name_at(with.alloc, words)?;
@@ -30,7 +31,7 @@ fn put(with: Reading, words: &[Bytes]) -> Result<ScriptCommand, LineError>
 
 #[tactic(auto, unfolding(script_places::specs::Places::read_form))]
 fn delete(with: Reading, words: &[Bytes]) -> Result<ScriptCommand, LineError>
-    ensures exact { Gives same result (read_form with.slots rows.delete words.now) }
+    ensures exact { Gives script_command_of result (read_form with.slots rows.delete words.now) }
 {
     counted(&[Place::Name, Place::Name, Place::Key], words)?;
     let (namespace, rest) = name_at(with.alloc, words)?;
@@ -45,7 +46,7 @@ fn delete(with: Reading, words: &[Bytes]) -> Result<ScriptCommand, LineError>
 
 #[tactic(auto, unfolding(script_places::specs::Places::read_form))]
 fn get(with: Reading, words: &[Bytes]) -> Result<ScriptCommand, LineError>
-    ensures exact { Gives same result (read_form with.slots rows.get words.now) }
+    ensures exact { Gives script_command_of result (read_form with.slots rows.get words.now) }
 {
     counted(&[Place::Name, Place::Name, Place::Key], words)?;
     let (namespace, rest) = name_at(with.alloc, words)?;
@@ -60,7 +61,7 @@ fn get(with: Reading, words: &[Bytes]) -> Result<ScriptCommand, LineError>
 
 #[tactic(auto, unfolding(script_places::specs::Places::read_form))]
 fn get_at(with: Reading, words: &[Bytes]) -> Result<ScriptCommand, LineError>
-    ensures exact { Gives same result (read_form with.slots rows.get_at words.now) }
+    ensures exact { Gives script_command_of result (read_form with.slots rows.get_at words.now) }
 {
     counted(&[Place::Name, Place::Name, Place::Key, Place::Time], words)?;
     let (namespace, rest) = name_at(with.alloc, words)?;
@@ -77,7 +78,7 @@ fn get_at(with: Reading, words: &[Bytes]) -> Result<ScriptCommand, LineError>
 
 #[tactic(auto, unfolding(script_places::specs::Places::read_form))]
 fn scan(with: Reading, words: &[Bytes]) -> Result<ScriptCommand, LineError>
-    ensures exact { Gives same result (read_form with.slots rows.scan words.now) }
+    ensures exact { Gives script_command_of result (read_form with.slots rows.scan words.now) }
 {
     counted(&[Place::Name, Place::Name], words)?;
     let (namespace, rest) = name_at(with.alloc, words)?;
@@ -87,7 +88,7 @@ fn scan(with: Reading, words: &[Bytes]) -> Result<ScriptCommand, LineError>
 
 #[tactic(auto, unfolding(script_places::specs::Places::read_form))]
 fn scan_at(with: Reading, words: &[Bytes]) -> Result<ScriptCommand, LineError>
-    ensures exact { Gives same result (read_form with.slots rows.scan_at words.now) }
+    ensures exact { Gives script_command_of result (read_form with.slots rows.scan_at words.now) }
 {
     counted(&[Place::Name, Place::Name, Place::Time], words)?;
     let (namespace, rest) = name_at(with.alloc, words)?;
@@ -104,7 +105,7 @@ fn scan_at(with: Reading, words: &[Bytes]) -> Result<ScriptCommand, LineError>
 /// looked for earlier.
 #[tactic(auto, unfolding(crate::specs::Table::from_rows))]
 pub fn command_of(with: Reading, word: &[u8], rest: &[Bytes]) -> Result<ScriptCommand, LineError>
-    ensures exact { Gives same result (from_rows with.slots word.now rest.now) }
+    ensures exact { Gives script_command_of result (from_rows with.slots word.now rest.now) }
 {
     if word == b"put".as_slice() {
         return put(with, rest);

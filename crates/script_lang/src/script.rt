@@ -1,34 +1,45 @@
-ghost use Rattle.std.specs.Prelude.{◌≡◌, ℕ, List, Ok, MatchResult, IfOk, IfErr, IsErr, IsOkUnless};
+ghost use Rattle.std.specs.Prelude.{◌≡◌, ℕ, List, Ok, MatchResult, IfOk, IfErr, IsErr, IsOkUnless, option_map};
 ghost use Rattle.script_words.specs.declared.cause.Cause.{Cause};
-ghost use Rattle.script_words.specs.Reading.{Gives, same};
+ghost use Rattle.script_words.specs.Reading.{Gives};
+ghost use Rattle.commands.specs.Scripts.{script_command_of};
 ghost use Rattle.script_lang.specs.declared.script.ScriptLine.{ScriptLine};
 ghost use Rattle.script_lang.specs.declared.script.ScriptRefused.TheVariants.{NoMemory};
 ghost use Rattle.script_lang.specs.Script.{line_of, script_of, RefusedFor};
 ghost use Rattle.script_lang.specs.Grammar.{IsScript, IsRefusedAt, IsRefusedFor};
 
-use crate::command::ScriptCommand;
 use crate::reading::Reading;
 use crate::settings::command_of;
+use commands::ScriptCommand;
 use row_values::Records;
 use script_words::{Cause, LineError, first_line, words_of_line};
 use std::alloc::Global;
+use std::marker::Model;
 
-/// A command, and the number of its line, counted from 1.
-#[derive(Debug, Drop, PartialEq, Eq)]
+/// A command, and the number of its line, counted from 1. Contracts see it as the book's.
+#[derive(Debug, Drop)]
 pub struct NumberedCommand {
     pub line: u64,
     pub command: ScriptCommand,
 }
 
+impl Model for NumberedCommand {
+    ghost use Rattle.model.specs.Scripts.{Numbered};
+    ghost use Rattle.commands.specs.Scripts.{script_command_of};
+
+    ghost Value = { Numbered };
+
+    ghost view = { λ c. record { line = c.line; command = script_command_of c.command } };
+}
+
 /// What is run as one.
-#[derive(Debug, Drop, PartialEq, Eq)]
+#[derive(Debug, Drop)]
 pub enum ScriptLine {
     /// A command of its own.
     Single(NumberedCommand),
 }
 
 /// The commands of a script in their order.
-#[derive(Debug, Drop, PartialEq, Eq)]
+#[derive(Debug, Drop)]
 pub struct Script {
     pub lines: Records<ScriptLine>,
 }
@@ -44,7 +55,7 @@ pub enum ScriptRefused {
 // The command of a line, None where it does nothing.
 #[tactic(auto, unfolding(crate::specs::Script::line_of))]
 fn line_of(with: Reading, line: &[u8]) -> Result<Option<ScriptCommand>, LineError>
-    ensures exact { Gives same result (line_of with.slots line.now) }
+    ensures exact { Gives (option_map script_command_of) result (line_of with.slots line.now) }
 {
     let words = words_of_line(with.alloc, line)?;
     match words.as_slice() {

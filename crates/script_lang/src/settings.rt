@@ -1,13 +1,14 @@
 //! The commands that set how later lines are run.
 
-ghost use Rattle.script_words.specs.Reading.{Gives, same};
+ghost use Rattle.script_words.specs.Reading.{Gives};
+ghost use Rattle.commands.specs.Scripts.{script_command_of};
 ghost use Rattle.script_places.specs.Places.{read_form};
 ghost use Rattle.script_lang.specs.Settings as settings;
 ghost use Rattle.script_lang.specs.Table.{command_of};
 
 use crate::catalog;
-use crate::command::ScriptCommand;
 use crate::reading::Reading;
+use commands::ScriptCommand;
 use row_values::Bytes;
 use script_places::{Place, counted, number_at};
 use script_words::{Cause, LineError};
@@ -17,7 +18,7 @@ const MOST_MICROS: u64 = (1 << 49) - 1;
 
 #[tactic(auto, unfolding(script_places::specs::Places::read_form))]
 fn tick(with: Reading, words: &[Bytes]) -> Result<ScriptCommand, LineError>
-    ensures exact { Gives same result (read_form with.slots settings.tick words.now) }
+    ensures exact { Gives script_command_of result (read_form with.slots settings.tick words.now) }
 {
     let micros = Place::Number {
         least: 0,
@@ -31,7 +32,7 @@ fn tick(with: Reading, words: &[Bytes]) -> Result<ScriptCommand, LineError>
 /// The command of a line's first word and those behind it.
 #[tactic(auto, unfolding(crate::specs::Table::command_of))]
 pub fn command_of(with: Reading, word: &[u8], rest: &[Bytes]) -> Result<ScriptCommand, LineError>
-    ensures exact { Gives same result (command_of with.slots word.now rest.now) }
+    ensures exact { Gives script_command_of result (command_of with.slots word.now rest.now) }
 {
     if word == b"tick".as_slice() {
         return tick(with, rest);

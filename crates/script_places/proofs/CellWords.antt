@@ -11,7 +11,7 @@ use Rattle.row_values.specs.declared.value.Value.TheVariants.{Int, Text, Null}
 use Rattle.script_words.specs.declared.cause.Cause.{Cause}
 use Rattle.script_words.specs.declared.cause.Cause.TheVariants.{BadName, BadValue}
 use Rattle.script_words.specs.Reading.{◌>>=◌}
-use Rattle.script_places.specs.declared.types.NamedCell.{NamedCell}
+use Rattle.model.specs.Acts.{NamedCell}
 use Rattle.script_places.specs.Words.{Word, before, behind, wanted}
 use Rattle.script_places.specs.Names.{is_name}
 use Rattle.script_places.specs.Numbers.{number_of}

@@ -7,10 +7,7 @@ use Rattle.std.proofs.lemmas.List.{append-nil, length-map}
 use Rattle.script_words.specs.declared.cause.Cause.{Cause}
 use Rattle.script_words.specs.declared.cause.Cause.TheVariants.{BadName, BadKey, BadValue}
 use Rattle.script_words.specs.Reading.{◌>>=◌}
-use Rattle.script_places.specs.declared.types.NamedCell.{NamedCell}
-use Rattle.script_places.specs.declared.types.NamedItem.{NamedItem}
-use Rattle.script_places.specs.declared.types.NamedOp.{NamedOp}
-use Rattle.script_places.specs.declared.types.NamedOp.TheVariants.{Upsert, Delete}
+use Rattle.model.specs.Acts.{NamedCell, NamedItem, NamedOp, NamedUpsert, NamedDelete}
 use Rattle.script_places.specs.Words.{Word}
 use Rattle.script_places.specs.Names.{is_name, is_key, key_at}
 use Rattle.script_places.specs.Numbers.{number_of}
@@ -58,8 +55,8 @@ unfolding is_slash
 delete_no_slash = refl
 
 op_no_slash : (op : NamedOp) → FitsOp op → NoSlash (op_words op)
-op_no_slash (Upsert cells) fits = cells_no_slash cells fits.0
-op_no_slash Delete fits = (delete_no_slash, tt)
+op_no_slash (NamedUpsert cells) fits = cells_no_slash cells fits.0
+op_no_slash NamedDelete fits = (delete_no_slash, tt)
 
 pub no_slashes : (items : List NamedItem) → AllByRecursion FitsItem items → AllByRecursion NoSlash (map item_words items)
 no_slashes [] fits = tt
@@ -78,10 +75,10 @@ no_delete (cell ∷ other ∷ cells) fits = refl
 
 -- items are as long as they may be
 op_count : (op : NamedOp) → FitsOp op → (1 ≤ length (op_words op)) × (length (op_words op) ≤ 16)
-op_count (Upsert cells) fits =
+op_count (NamedUpsert cells) fits =
     let long : length (map cell_word cells) ≡ length cells = length-map cells cell_word in
     (omega (arith, long, fits.1), omega (arith, long, fits.2))
-op_count Delete fits = (omega arith, omega arith)
+op_count NamedDelete fits = (omega arith, omega arith)
 
 pub items_count : (items : List NamedItem) → AllByRecursion FitsItem items → list_all item_fits (map item_words items) ≡ true
 items_count [] fits = refl
@@ -95,8 +92,8 @@ items_count (item ∷ items) fits =
 -- what an operation writes is read as it
 op_again : (op : NamedOp) → FitsOp op → op_of (op_words op) ≡ Ok op
 unfolding op_of
-op_again (Upsert cells) fits = rw (no_delete cells fits.0, cells_again cells [] fits.0) refl
-op_again Delete fits = refl
+op_again (NamedUpsert cells) fits = rw (no_delete cells fits.0, cells_again cells [] fits.0) refl
+op_again NamedDelete fits = refl
 
 item_again : (item : NamedItem) → FitsItem item → item_of (item_words item) ≡ Ok item
 unfolding item_of key_at
@@ -118,18 +115,18 @@ abbrev IsOp : List Word → NamedOp → Type 0
 IsOp ws op = (ws ≡ op_words op) × FitsOp op
 
 cells_is : (ws : List Word) (op : NamedOp) (r : Result (List NamedCell) Cause) → cells_from [] ws ≡ r → 1 ≤ length ws → length ws ≤ 16
-    → (r >>= λ cells. okay (Upsert cells)) ≡ Ok op → IsOp ws op
+    → (r >>= λ cells. okay (NamedUpsert cells)) ≡ Ok op → IsOp ws op
 cells_is ws op (Err d) is low high e = absurd cc
 cells_is ws op (Ok cells) is low high e =
     let c = cells_are ws [] cells is in
     let words : ws ≡ map cell_word cells = c.2 ∙ ap (map cell_word) (sym c.1) in
     let long : length ws ≡ length cells = ap length words ∙ length-map cells cell_word in
-    subst (λ (o : NamedOp). IsOp ws o) (same_ok (Upsert cells) op e)
+    subst (λ (o : NamedOp). IsOp ws o) (same_ok (NamedUpsert cells) op e)
     (words, (subst (λ (cs : List NamedCell). AllByRecursion FitsCell cs) (sym c.1) c.3, omega (arith, low, long), omega (arith, high, long)))
 
 op_by : (ws : List Word) (op : NamedOp) (test : Bool) → is_delete ws ≡ test → 1 ≤ length ws → length ws ≤ 16
-    → cond test (okay Delete) (cells_from [] ws >>= λ cells. Ok (Upsert cells)) ≡ Ok op → IsOp ws op
-op_by ws op true is low high e = subst (λ (o : NamedOp). IsOp ws o) (same_ok Delete op e) (delete_is ws is, tt)
+    → cond test (okay NamedDelete) (cells_from [] ws >>= λ cells. Ok (NamedUpsert cells)) ≡ Ok op → IsOp ws op
+op_by ws op true is low high e = subst (λ (o : NamedOp). IsOp ws o) (same_ok NamedDelete op e) (delete_is ws is, tt)
 op_by ws op false is low high e = cells_is ws op (cells_from [] ws) refl low high e
 
 op_is : (ws : List Word) (op : NamedOp) → 1 ≤ length ws → length ws ≤ 16 → op_of ws ≡ Ok op → IsOp ws op
@@ -200,7 +197,7 @@ items_are (group ∷ groups) kept all fit e =
 abbrev OpRefused : Cause → List Word → Type 0
 OpRefused cause ws = ¬ (ws ≡ delete ∷ []) × CellsRefused cause ws
 
-not_cells : (ws : List Word) (cause : Cause) (r : Result (List NamedCell) Cause) → cells_from [] ws ≡ r → (r >>= λ cells. okay (Upsert cells)) ≡ Err cause → CellsRefused cause ws
+not_cells : (ws : List Word) (cause : Cause) (r : Result (List NamedCell) Cause) → cells_from [] ws ≡ r → (r >>= λ cells. okay (NamedUpsert cells)) ≡ Err cause → CellsRefused cause ws
 not_cells ws cause (Ok cells) is e = absurd cc
 not_cells ws cause (Err d) is e = cells_not ws [] cause (is ∙ ap failed (same_cause {A = NamedOp} d cause e))
 
@@ -208,7 +205,7 @@ delete_again : (ws : List Word) → ws ≡ delete ∷ [] → is_delete ws ≡ tr
 delete_again ws e = ap is_delete e
 
 not_op_by : (ws : List Word) (cause : Cause) (test : Bool) → is_delete ws ≡ test
-    → cond test (okay Delete) (cells_from [] ws >>= λ cells. Ok (Upsert cells)) ≡ Err cause → OpRefused cause ws
+    → cond test (okay NamedDelete) (cells_from [] ws >>= λ cells. Ok (NamedUpsert cells)) ≡ Err cause → OpRefused cause ws
 not_op_by ws cause true is e = absurd cc
 not_op_by ws cause false is e =
     ((λ same. let no : false ≡ true = sym is ∙ delete_again ws same in absurd cc), not_cells ws cause (cells_from [] ws) refl e)

@@ -8,10 +8,8 @@ use Rattle.row_values.specs.Schema.{NewColumn}
 use Rattle.script_words.specs.declared.cause.Cause.{Cause}
 use Rattle.script_words.specs.declared.cause.Cause.TheVariants.{BadName, BadKey, BadNumber, BadIdentifier, BadTime, NoSuchSlot}
 use Rattle.script_words.specs.Reading.{◌>>=◌}
-use Rattle.script_places.specs.declared.types.NamedCell.{NamedCell}
-use Rattle.script_places.specs.declared.types.NamedItem.{NamedItem}
-use Rattle.script_places.specs.declared.types.Time.{Time}
-use Rattle.script_places.specs.declared.types.Time.TheVariants as times
+use Rattle.model.specs.Acts.{NamedCell, NamedItem}
+use Rattle.model.specs.Scripts.{Time, Micros, MinusMinutes, MinusSeconds, Exact}
 use Rattle.script_places.specs.declared.place.Place.{Place}
 use Rattle.script_places.specs.declared.place.Place.TheVariants as places
 use Rattle.script_places.specs.Words.{Word, wanted}
@@ -251,10 +249,10 @@ read_again slots places.Items x front others few bound last w =
 
 -- they are as many as the place asks for
 time_count : (time : Time) → rest_fits places.Time (time_words time) ≡ true
-time_count (times.Micros n) = refl
-time_count (times.MinusMinutes n) = refl
-time_count (times.MinusSeconds n) = refl
-time_count (times.Exact n) = refl
+time_count (Micros n) = refl
+time_count (MinusMinutes n) = refl
+time_count (MinusSeconds n) = refl
+time_count (Exact n) = refl
 
 fit_first : (place : Place) (rest : List Place) (w : Word) (others : List Word) → takes_rest place ≡ false → word_fits place w ≡ true → fits rest others ≡ true
     → fits (place ∷ rest) (w ∷ others) ≡ true

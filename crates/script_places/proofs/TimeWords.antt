@@ -4,8 +4,7 @@ use Rattle.std.specs.Prelude.{◌==◌, bytes_eq, decimal, option_map}
 use Rattle.std.proofs.lemmas.Bool.{eqb-true}
 use Rattle.std.proofs.lemmas.Bool.Decides.{nat_tests}
 use Rattle.std.proofs.lemmas.List.{length-append, take_at}
-use Rattle.script_places.specs.declared.types.Time.{Time}
-use Rattle.script_places.specs.declared.types.Time.TheVariants.{Micros, MinusMinutes, MinusSeconds, Exact}
+use Rattle.model.specs.Scripts.{Time, Micros, MinusMinutes, MinusSeconds, Exact}
 use Rattle.script_places.specs.Words.{Word}
 use Rattle.script_places.specs.Numbers.{number_of}
 use Rattle.script_places.specs.Times.{last_byte, front, most_back, time_back, time_of}

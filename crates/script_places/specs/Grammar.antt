@@ -6,9 +6,8 @@ use Rattle.row_values.specs.Ids.{Kind, Id}
 use Rattle.yb_ident.specs.Seen.{kind_of}
 use Rattle.script_words.specs.declared.cause.Cause.{Cause}
 use Rattle.script_words.specs.declared.cause.Cause.TheVariants.{UnknownCommand, WrongWords, BadName, BadKey, BadValue, BadNumber, BadIdentifier, BadTime, NoSuchSlot, RepeatedColumn}
-use Rattle.script_places.specs.declared.types.NamedCell.{NamedCell}
-use Rattle.script_places.specs.declared.types.NamedItem.{NamedItem}
-use Rattle.script_places.specs.declared.types.Time.{Time}
+use Rattle.model.specs.Acts.{NamedCell, NamedItem}
+use Rattle.model.specs.Scripts.{Time}
 use Rattle.script_places.specs.declared.place.Place.{Place}
 use Rattle.script_places.specs.declared.place.Place.TheVariants as places
 use Rattle.script_places.specs.Words.{Word, before, behind}

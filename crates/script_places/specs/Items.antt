@@ -2,9 +2,7 @@
 use Rattle.std.specs.Prelude.{Bool, false, if◌then◌else◌, List, [], ◌∷◌, ◌++◌, Result, Ok, codes, bytes_eq}
 use Rattle.script_words.specs.declared.cause.Cause.{Cause}
 use Rattle.script_words.specs.Reading.{◌>>=◌}
-use Rattle.script_places.specs.declared.types.NamedItem.{NamedItem}
-use Rattle.script_places.specs.declared.types.NamedOp.{NamedOp}
-use Rattle.script_places.specs.declared.types.NamedOp.TheVariants.{Upsert, Delete}
+use Rattle.model.specs.Acts.{NamedItem, NamedOp, NamedUpsert, NamedDelete}
 use Rattle.script_places.specs.Words.{Word}
 use Rattle.script_places.specs.Names.{key_at}
 use Rattle.script_places.specs.Values.{cells_from}
@@ -17,7 +15,7 @@ is_delete (w ∷ v ∷ ws) = false
 
 -- `delete`, or cells
 unfoldable pub op_of : List Word → Result NamedOp Cause
-op_of ws = if is_delete ws then Ok Delete else (cells_from [] ws >>= λ cells. Ok (Upsert cells))
+op_of ws = if is_delete ws then Ok NamedDelete else (cells_from [] ws >>= λ cells. Ok (NamedUpsert cells))
 
 -- a key, and what is done to its row
 unfoldable pub item_of : List Word → Result NamedItem Cause

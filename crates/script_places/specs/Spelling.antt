@@ -7,12 +7,8 @@ use Rattle.row_values.specs.Schema.{ColumnKind, IntColumn, TextColumn, NewColumn
 use Rattle.row_values.specs.Ids as ids
 use Rattle.yb_ident.specs.Seen.{kind_of}
 use Rattle.yb_ident.specs.Layout.{Reads}
-use Rattle.script_places.specs.declared.types.NamedCell.{NamedCell}
-use Rattle.script_places.specs.declared.types.NamedItem.{NamedItem}
-use Rattle.script_places.specs.declared.types.NamedOp.{NamedOp}
-use Rattle.script_places.specs.declared.types.NamedOp.TheVariants as ops
-use Rattle.script_places.specs.declared.types.Time.{Time}
-use Rattle.script_places.specs.declared.types.Time.TheVariants as times
+use Rattle.model.specs.Acts.{NamedCell, NamedItem, NamedOp, NamedUpsert, NamedDelete}
+use Rattle.model.specs.Scripts.{Time, Micros, MinusMinutes, MinusSeconds, Exact}
 use Rattle.script_places.specs.declared.place.Place.{Place}
 use Rattle.script_places.specs.declared.place.Place.TheVariants as places
 use Rattle.script_places.specs.Words.{Word}
@@ -57,29 +53,29 @@ AreNew earlier [] = Unit {0}
 AreNew earlier (column ∷ columns) = (has_name earlier column.name ≡ false) × AreNew (earlier ++ (column ∷ [])) columns
 
 abbrev pub time_words : Time → List Word
-time_words (times.Micros n) = decimal n ∷ []
-time_words (times.MinusMinutes n) = codes "minus" ∷ (decimal n ++ codes "m") ∷ []
-time_words (times.MinusSeconds n) = codes "minus" ∷ (decimal n ++ codes "s") ∷ []
-time_words (times.Exact n) = codes "ht" ∷ decimal n ∷ []
+time_words (Micros n) = decimal n ∷ []
+time_words (MinusMinutes n) = codes "minus" ∷ (decimal n ++ codes "m") ∷ []
+time_words (MinusSeconds n) = codes "minus" ∷ (decimal n ++ codes "s") ∷ []
+time_words (Exact n) = codes "ht" ∷ decimal n ∷ []
 
 abbrev pub FitsTime : Time → Type 0
-FitsTime (times.Micros n) = n < 2 ^ 50
-FitsTime (times.MinusMinutes n) = n ≤ 10000000
-FitsTime (times.MinusSeconds n) = n ≤ 10000000
-FitsTime (times.Exact n) = n < 2 ^ 62
+FitsTime (Micros n) = n < 2 ^ 50
+FitsTime (MinusMinutes n) = n ≤ 10000000
+FitsTime (MinusSeconds n) = n ≤ 10000000
+FitsTime (Exact n) = n < 2 ^ 62
 
 -- The word is one of the four forms in which the identifier, of this kind, is written as a UUID.
 abbrev pub WritesIdent : ids.Kind → ids.Id → Word → Type 0
 WritesIdent kind i w = (i.kind ≡ kind) × Reads w i
 
 abbrev pub op_words : NamedOp → List Word
-op_words (ops.Upsert cells) = map cell_word cells
-op_words ops.Delete = codes "delete" ∷ []
+op_words (NamedUpsert cells) = map cell_word cells
+op_words NamedDelete = codes "delete" ∷ []
 
 -- 1 to 16 cells, or a delete
 abbrev pub FitsOp : NamedOp → Type 0
-FitsOp (ops.Upsert cells) = AllByRecursion FitsCell cells × (1 ≤ length cells) × (length cells ≤ 16)
-FitsOp ops.Delete = Unit {0}
+FitsOp (NamedUpsert cells) = AllByRecursion FitsCell cells × (1 ≤ length cells) × (length cells ≤ 16)
+FitsOp NamedDelete = Unit {0}
 
 abbrev pub item_words : NamedItem → List Word
 item_words item = item.key ∷ op_words item.op

@@ -1,7 +1,6 @@
 -- The four forms of a time.
 use Rattle.std.specs.Prelude.{ℕ, ◌-◌, ◌^◌, ◌==◌, if◌then◌else◌, List, [], ◌∷◌, length, take, get_or, Option, None, codes, bytes_eq, option_map}
-use Rattle.script_places.specs.declared.types.Time.{Time}
-use Rattle.script_places.specs.declared.types.Time.TheVariants.{Micros, MinusMinutes, MinusSeconds, Exact}
+use Rattle.model.specs.Scripts.{Time, Micros, MinusMinutes, MinusSeconds, Exact}
 use Rattle.script_places.specs.Words.{Word}
 use Rattle.script_places.specs.Numbers.{number_of}
 

@@ -2,13 +2,14 @@
 
 ghost use Rattle.std.specs.Prelude.{◌≡◌, []};
 ghost use Rattle.script_words.specs.Reading.{Gives, same};
+ghost use Rattle.commands.specs.NamedOps.{named_op_of};
 ghost use Rattle.script_places.specs.Groups.{groups};
 ghost use Rattle.script_places.specs.Items.{is_delete, op_of, item_of, items_from};
 
 use crate::groups::first_group;
 use crate::names::key_at;
-use crate::types::{NamedItem, NamedOp};
 use crate::values::cells;
+use commands::{NamedItem, NamedOp};
 use row_values::{Bytes, Records};
 use script_words::LineError;
 use std::alloc::Global;
@@ -24,7 +25,7 @@ fn is_delete(words: &[Bytes]) -> bool
 
 #[tactic(auto, unfolding(crate::specs::Items::op_of))]
 fn op(alloc: Global, words: &[Bytes]) -> Result<NamedOp, LineError>
-    ensures exact { Gives same result (op_of words.now) }
+    ensures exact { Gives named_op_of result (op_of words.now) }
 {
     if is_delete(words) {
         return Ok(NamedOp::Delete);

@@ -14,7 +14,6 @@ mod names;
 mod numbers;
 mod place;
 mod times;
-mod types;
 mod values;
 mod words;
 
@@ -26,7 +25,6 @@ pub use names::{key_at, name_at};
 pub use numbers::{number_at, slot_at};
 pub use place::{Place, counted};
 pub use times::time;
-pub use types::{NamedCell, NamedItem, NamedOp, Time};
 pub use values::cells;
 pub use words::next_of;
 

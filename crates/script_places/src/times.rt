@@ -2,14 +2,15 @@
 
 ghost use Rattle.std.specs.Prelude.{◌≡◌, ◌-◌, ◌^◌, option_map};
 ghost use Rattle.script_words.specs.declared.cause.Cause.TheVariants.{BadTime};
-ghost use Rattle.script_words.specs.Reading.{Gives, same};
-ghost use Rattle.script_places.specs.declared.types.Time.TheVariants.{Exact};
+ghost use Rattle.script_words.specs.Reading.{Gives};
+ghost use Rattle.model.specs.Scripts.{Exact};
+ghost use Rattle.commands.specs.Times.{script_time_of};
 ghost use Rattle.script_places.specs.Words.{wanted};
 ghost use Rattle.script_places.specs.Numbers.{number_of};
 ghost use Rattle.script_places.specs.Times.{time_back, time_of};
 
 use crate::numbers::number;
-use crate::types::Time;
+use commands::Time;
 use hybrid_time::HybridTime;
 use row_values::Bytes;
 use script_words::{Cause, LineError};
@@ -17,7 +18,7 @@ use script_words::{Cause, LineError};
 // A word `5m` or `5s`.
 #[tactic(auto, unfolding(crate::specs::Times::time_back))]
 fn time_back(word: &[u8]) -> Option<Time>
-    ensures exact { result ≡ time_back word.now }
+    ensures exact { option_map script_time_of result ≡ time_back word.now }
 {
     let len = word.len();
     if len == 0 {
@@ -40,7 +41,7 @@ fn time_back(word: &[u8]) -> Option<Time>
 }
 
 fn exact_time(word: &[u8]) -> Option<Time>
-    ensures exact { result ≡ option_map Exact (number_of (2 ^ 62 - 1) word.now) }
+    ensures exact { option_map script_time_of result ≡ option_map Exact (number_of (2 ^ 62 - 1) word.now) }
 {
     match number(word, (1 << 62) - 1) {
         Some(value) => Some(Time::Exact(HybridTime { value })),
@@ -50,7 +51,7 @@ fn exact_time(word: &[u8]) -> Option<Time>
 
 #[tactic(auto, unfolding(crate::specs::Times::time_of))]
 fn time_of(words: &[Bytes]) -> Option<Time>
-    ensures exact { result ≡ time_of words.now }
+    ensures exact { option_map script_time_of result ≡ time_of words.now }
 {
     match words {
         [word] => match number(word.as_slice(), (1 << 50) - 1) {
@@ -72,7 +73,7 @@ fn time_of(words: &[Bytes]) -> Option<Time>
 
 /// The words as a time.
 pub fn time(words: &[Bytes]) -> Result<Time, LineError>
-    ensures exact { Gives same result (wanted BadTime (time_of words.now)) }
+    ensures exact { Gives script_time_of result (wanted BadTime (time_of words.now)) }
 {
     match time_of(words) {
         Some(time) => Ok(time),

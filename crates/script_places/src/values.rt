@@ -11,8 +11,8 @@ ghost use Rattle.script_places.specs.Values.{has_no_quote, is_quoted, unquoted, 
 
 use crate::names::is_name;
 use crate::numbers::number;
-use crate::types::NamedCell;
 use crate::words::{copied, cut};
+use commands::NamedCell;
 use row_values::{Bytes, Name, Records, Value};
 use script_words::{Cause, LineError};
 use std::alloc::Global;

@@ -11,13 +11,13 @@ mod rows;
 mod script;
 mod settings;
 
+pub use commands::{NamedCell, NamedItem, NamedOp, ScriptCommand, Time};
 pub use laws::{
     a_line_has_one_meaning, a_line_is_read_as_the_grammar_says,
     a_text_is_a_script_or_has_a_first_wrong_line, no_other_byte_is_accepted,
     what_spells_a_command_is_read_as_it,
 };
 pub use script::{NumberedCommand, Script, ScriptLine, ScriptRefused, read_script};
-pub use commands::{NamedCell, NamedItem, NamedOp, ScriptCommand, Time};
 pub use script_words::Cause;
 
 #[cfg(test)]

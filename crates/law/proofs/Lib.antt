@@ -8,8 +8,6 @@ pub mod Following
 pub mod Running
 pub mod Runs
 pub mod Drawing
-pub mod Taking
-pub mod Taken
 pub mod Fixing
 pub mod Fixed
 pub mod Newest

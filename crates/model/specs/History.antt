@@ -189,7 +189,7 @@ with_master (Removes target) n m earlier = earlier
 with_master Prunes n m earlier = earlier
 with_master Restarts n m earlier = earlier
 
--- the changes of an entry in front of the earlier ones; an entry that was refused has none
+-- the changes of an act in front of the earlier ones; one that was refused has none
 abbrev pub with_changes : Act → Outcome → ℕ → Parts → List made.Change → List made.Change
 with_changes (Change command slots) o n ps earlier = with_master o.master n ps.master earlier
 with_changes (Advance operation) o n ps earlier = with_master o.master n ps.master earlier
@@ -207,12 +207,13 @@ with_changes Prune o n ps earlier = earlier
 with_changes (Restart slot) o n ps earlier = earlier
 with_changes (Stats slot) o n ps earlier = earlier
 
+abbrev pub with_changes_of : Entry → Parts → List made.Change → List made.Change
+with_changes_of e ps earlier = with_changes e.event.act (outcome e.event.act e.stamp ps) e.stamp ps earlier
+
 -- the changes that a history made, the newest first
 unfoldable pub journal_of : ℕ → List Entry → List made.Change
 journal_of slots [] = []
-journal_of slots (e ∷ earlier) =
-    let ps = replay slots earlier in
-    with_changes e.event.act (outcome e.event.act e.stamp ps) e.stamp ps (journal_of slots earlier)
+journal_of slots (e ∷ earlier) = with_changes_of e (replay slots earlier) (journal_of slots earlier)
 
 -- Activity of all tablets that ever were
 

@@ -1,5 +1,5 @@
 -- The acts that follow a look are asked, and covered: the look's reply has slots of the cluster alone, and for a read at least one.
-use Rattle.std.proofs.Common.{ℕ, ◌≡◌, ◌≤◌, ◌<◌, ◌^◌, List, [], ◌∷◌, true, ◌&&◌, Option, Some, None, inl, inr, refl, sym, ap, subst, arith, leb, leb-true, map, length, take, is_some}
+use Rattle.std.proofs.Common.{ℕ, ◌≡◌, ◌≤◌, ◌<◌, ◌^◌, List, [], ◌∷◌, true, ◌&&◌, Option, Some, None, inl, inr, refl, sym, ap, subst, arith, leb, leb-true, map, length, take, ◌∙◌}
 use Rattle.std.proofs.lemmas.Bool.{cond_both}
 use Rattle.std.proofs.lemmas.List.{length-map}
 use Rattle.row_values.specs.Codes.{code_of}
@@ -8,14 +8,13 @@ use Rattle.row_values.specs.Ids.{Id, same}
 use Rattle.row_values.specs.Elements.{In, AllOf}
 use Rattle.row_values.specs.Ranges.{in_range}
 use Rattle.row_values.specs.Schema.{Column}
-use Rattle.model.specs.Catalog.{TableRecord, namespace_named}
 use Rattle.model.specs.Activity.{Interval, active_at}
 use Rattle.model.specs.Journal.{Change as Made}
 use Rattle.model.specs.Acts as acts
-use Rattle.model.specs.Acts.{NamedOp, NamedUpsert, NamedDelete, NamedItem, Command, Ask, AskPlan, AskKeys, AskTable, AskPresent, Place, Act, Look, Cutoff, Compact, Reply, Placed}
+use Rattle.model.specs.Acts.{NamedOp, NamedUpsert, NamedDelete, NamedItem, Command, Ask, AskPlan, AskKeys, AskTable, AskPresent, Place, Act, Look, Cutoff, Compact, Reply, Placed, Refusal, SlotsFull}
 use Rattle.model.specs.Parts.{Master, Parts}
 use Rattle.row_values.specs.Slots.{rising}
-use Rattle.model.specs.Looks.{look_plan, look_present, plan_of, least_slots, free_slots, family, slots_of_table, family_of, table_of, holding, active_in, place_of}
+use Rattle.model.specs.Looks.{look_plan, look_present, plan_of, least_slots, free_slots, found_namespace, found_table, found_parent, Family, family, found_family, slots_for, slots_of_table, place_of}
 use Rattle.model.specs.Entries.{IsSlot, IsName, IsNamedOp, IsNamedBatch, IsTime, ActAsked, CommandAsked}
 use Rattle.row_values.specs.Batches.{IsKey, IsValue, IsOp, IsBatch}
 use Rattle.model.specs.History.{look}
@@ -23,13 +22,17 @@ use Rattle.model.specs.Replies.{ReplyRight}
 use Rattle.model.specs.Right.{IsActivePlace, PlacesRight, holds_keys}
 use Rattle.model.specs.Scripts.{ScriptCommand, Tick, Lag, CreateNamespace, DropNamespace, CreateTable, AddColumn, DropColumn, RenameTable, DropTable, WriteRows, ReadRow, ReadTable, Split, CreateSchedule, DeleteSchedule, TakeSnapshot, Restore, CloneNamespace, ListSchedules, ListSnapshots, ListRestorations, ListClones, ListTablets, RaiseCutoffs, CompactTablets, CleanUp, Coordinate, Settle, RestartMaster, RestartTablet, ShowStats, ShowHistory, Found, found_by, Course, SetReading, SetLag, Perform, LookFor, WorkOff, ShowEntries, tell, plan_and_tell, course_of, time_at, asked_at, key_alone, at_place, cell_by_id, op_by_id, item_by_id, write_at, write_into, change_under, read_from, at_each, CourseAsked}
 use Rattle.law_invariants.specs.Invariant.{Inv}
-use Rattle.law_invariants.proofs.Finding.{both_pass, passes_both, same_equal, find_is, filter_in, in_mapped}
+use Rattle.law_invariants.proofs.Finding.{both_pass, passes_both, same_equal, in_mapped}
 use Rattle.law_invariants.proofs.Overlap.{code_below, holder_there}
 use Rattle.law_invariants.proofs.Remembering.{still_kept}
 use Rattle.law.specs.Covering.{CommandCovered, ActCovered}
 use Rattle.law.specs.Scripts.{ScriptCovered}
 use Rattle.law_changes.proofs.Plans.{has_in, in_has, rising_has, planned_active}
 use Rattle.law_changes.proofs.Free.{least_free}
+use Rattle.law_invariants.proofs.Judging.{and_found_is}
+use Rattle.law_splits.proofs.Parents.{parent_found}
+use Rattle.law_splits.proofs.Splitting.{family_is, two_long}
+use Rattle.std.specs.Prelude.{Result, Ok, Err}
 
 -- what an act of a run meets
 pub record IsFit (slots : ℕ) (act : Act) : Type 0 where
@@ -89,34 +92,33 @@ least_to m count slot = cond_both (leb count (length (free_slots m))) (take coun
     (λ e isin. (least_free m count (leb-true _ _ e)).to slot isin)
     (λ e isin. absurd isin)
 
-table_to : (found : Option TableRecord) (m : Master) (slot : ℕ) → WithinSlots m → In slot (slots_of_table m found) → slot ≤ m.slots
-table_to None m slot all isin = absurd isin
-table_to (Some t) m slot all isin =
-    let p = planned_active m t.id slot (has_in (slots_of_table m (Some t)) slot isin) in
+table_to : (table : Id) (m : Master) (slot : ℕ) → WithinSlots m → In slot (slots_of_table m table) → slot ≤ m.slots
+table_to table m slot all isin =
+    let p = planned_active m table slot (has_in (slots_of_table m table) slot isin) in
     subst (λ s. s ≤ m.slots) p.1.1.0 (all p.0 p.1.0)
 
-parent_to : (parent : Option Interval) (m : Master) (table : Id) (code slot : ℕ) → WithinSlots m → holding m table code ≡ parent → In slot (family parent (free_slots m)) → slot ≤ m.slots
-parent_to None m table code slot all e isin = absurd isin
-parent_to (Some parent) m table code slot all e isin =
-    let found = find_is (λ i. in_range i.low i.high code) (active_in m table) parent e in
-    let listed = (filter_in m.activity _ parent found.listed).0 in
-    cond_both (leb 2 (length (free_slots m))) (parent.slot ∷ take 2 (free_slots m)) [] (λ l. In slot l → slot ≤ m.slots)
-    (λ e isin. elim isin [ inl q ↦ subst (λ s. s ≤ m.slots) q (all parent listed) | inr free ↦ (least_free m 2 (leb-true _ _ e)).to slot free ])
-    (λ e isin. absurd isin)
-    isin
+found_to : {A : Type 0} (j : Result A Refusal) (slots : A → List ℕ) (m : Master) (slot : ℕ) → ((a : A) → j ≡ Ok a → In slot (slots a) → slot ≤ m.slots) → In slot (slots_for j slots) → slot ≤ m.slots
+found_to (Err why) slots m slot each isin = absurd isin
+found_to (Ok a) slots m slot each isin = each a refl isin
 
-family_to : (found : Option TableRecord) (m : Master) (code slot : ℕ) → WithinSlots m → In slot (family_of m found code) → slot ≤ m.slots
-family_to None m code slot all isin = absurd isin
-family_to (Some t) m code slot all isin = parent_to (holding m t.id code) m t.id code slot all refl isin
+family_to : (namespace table : List ℕ) (code : ℕ) (m : Master) (slot : ℕ) (f : Family) → WithinSlots m → found_family (found_parent m namespace table code) m ≡ Ok f → In slot (f.parent.tablet.slot ∷ f.low_slot ∷ f.high_slot ∷ []) → slot ≤ m.slots
+family_to namespace table code m slot f all e isin =
+    let by = and_found_is (found_parent m namespace table code) (λ p. family p (free_slots m)) (SlotsFull (length (free_slots m)) 2) f e in
+    let is = family_is by.0 (free_slots m) f by.1.1 in
+    let parent = (parent_found m namespace table code f.parent (by.1.0 ∙ ap Ok (sym is.0))).1 in
+    elim isin [
+      | inl q ↦ subst (λ s. s ≤ m.slots) q (all f.parent.tablet parent.listed)
+      | inr free ↦ (least_free m 2 (two_long (free_slots m) f.low_slot f.high_slot is.1)).to slot (subst (In slot) (sym is.1) free)
+    ]
 
 plan_to : (command : Command) (m : Master) (slot : ℕ) → WithinSlots m → In slot (plan_of command m) → slot ≤ m.slots
 unfolding plan_of
 plan_to (acts.CreateTable namespace table tablets columns) m slot all isin =
-    cond_both (is_some (namespace_named m.catalog.namespaces namespace)) (least_slots tablets (free_slots m)) [] (λ l. In slot l → slot ≤ m.slots) (λ _ h. least_to m tablets slot h) (λ _ h. absurd h) isin
-plan_to (acts.AddColumn namespace table name kind) m slot all isin = table_to (table_of m namespace table) m slot all isin
-plan_to (acts.DropColumn namespace table name) m slot all isin = table_to (table_of m namespace table) m slot all isin
-plan_to (acts.DropTable namespace table) m slot all isin = table_to (table_of m namespace table) m slot all isin
-plan_to (acts.Split namespace table code) m slot all isin = family_to (table_of m namespace table) m code slot all isin
+    found_to (found_namespace m namespace) _ m slot (λ ns _ h. least_to m tablets slot h) isin
+plan_to (acts.AddColumn namespace table name kind) m slot all isin = found_to (found_table m namespace table) _ m slot (λ t _ h. table_to t.id m slot all h) isin
+plan_to (acts.DropColumn namespace table name) m slot all isin = found_to (found_table m namespace table) _ m slot (λ t _ h. table_to t.id m slot all h) isin
+plan_to (acts.DropTable namespace table) m slot all isin = found_to (found_table m namespace table) _ m slot (λ t _ h. table_to t.id m slot all h) isin
+plan_to (acts.Split namespace table code) m slot all isin = found_to (found_family (found_parent m namespace table code) m) _ m slot (λ f e h. family_to namespace table code m slot f all e h) isin
 plan_to _ m slot all isin = absurd isin
 
 -- The places of a look

@@ -6,11 +6,10 @@ use Rattle.model.specs.Journal as made
 use Rattle.model.specs.Acts.{Act, Split, CreateSchedule, DeleteSchedule, TakeSnapshot, Restore, Look, Change, Write, Read, Cutoff, Compact, Send, Process, Ack, Advance, Remove, Prune, Restart, Stats}
 use Rattle.model.specs.Parts.{Parts}
 use Rattle.model.specs.Entries.{Entry, slots_of, clock_at, stamp_of, ActAsked}
-use Rattle.model.specs.History.{outcome, told, replay, journal_of, activity_of, Legal}
-use Rattle.model.specs.Replies.{Right}
+use Rattle.model.specs.History.{outcome, replay, journal_of, activity_of, Legal}
+use Rattle.model.specs.Replies.{Right, ReplyRight}
 use Rattle.law_store.proofs.Keys.{either_way}
-use Rattle.law_invariants.specs.Remembered.{activity_after}
-use Rattle.law_invariants.specs.Invariant.{Inv, Keeps, Later}
+use Rattle.law_invariants.specs.Invariant.{Inv, Later}
 use Rattle.law_invariants.proofs.Ticking.{KeepsAll}
 use Rattle.law_changes.proofs.Changing.{catalog_change_keeps}
 use Rattle.law_splits.proofs.Splitting.{split_change_keeps}
@@ -81,6 +80,5 @@ legal_holds (e ∷ earlier) slots legal covered =
     let activity = activity_of slots earlier in
     let keeps : KeepsAll e.event.act e.stamp ps activity (journal_of slots earlier) o
     = act_keeps e.event.act slots e.stamp ps activity (journal_of slots earlier) (stamps_later e ps step.stamp) step.asked.act covered.1 before.inv in
-    let now : Keeps e.event.act e.reply e.stamp ps (told e.event.act o e.stamp ps) (activity_after e.event.act o e.stamp ps activity) (journal_of slots earlier)
-    = subst (λ r. Keeps e.event.act r e.stamp ps (told e.event.act o e.stamp ps) (activity_after e.event.act o e.stamp ps activity) (journal_of slots earlier)) (sym step.reply) keeps in
-    record { inv = now.inv; right = (before.right, (now.right, now.inv.late)) }
+    let right = subst (λ r. ReplyRight e.event.act r e.stamp ps (journal_of slots earlier)) (sym step.reply) keeps.right in
+    record { inv = keeps.inv; right = (before.right, (right, keeps.inv.late)) }

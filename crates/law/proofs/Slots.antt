@@ -5,19 +5,13 @@ use Rattle.std.proofs.lemmas.Bool.{cond_both}
 use Rattle.row_values.specs.Ids.{Id, Kind, Tablet, Snapshot, Restoration, Clone}
 use Rattle.row_values.specs.Slots.{has}
 use Rattle.model.specs.Records.{Schedule, SnapshotRecord, RestorationRecord, RestorationState, Fencing, CloneRecord, CloneState, Accepted, schedule_with, schedule_of}
-use Rattle.model.specs.Acts.{Act, Command, CreateNamespace}
-use Rattle.model.specs.Parts.{Master, Parts, MasterAct, Ticks, Changes, Sends, Acks, Unsends, Moves, Removes, Prunes, Restarts, Outcome}
-use Rattle.model.specs.Changed.{changed}
+use Rattle.model.specs.Acts.{Act}
+use Rattle.model.specs.Parts.{Master, Parts, MasterAct, Ticks, MakesNamespace, DropsNamespace, MakesTable, AddsColumn, DropsColumn, RenamesTable, DropsTable, SplitsTablet, MakesSchedule, DeletesSchedule, TakesSnapshot, BeginsRestoration, BeginsClone, Sends, Acks, Unsends, Moves, Removes, Prunes, Restarts, Outcome}
 use Rattle.model.specs.Coordination.{unfinished_snapshot, unfinished_restoration, unfinished_clone, acked_by}
 use Rattle.model.specs.Moves.{with_own_snapshot, serving_clone, completed, restoration_moved, begins_clone, clone_moved, moved_of}
 use Rattle.model.specs.Cleanup.{removed_of}
 use Rattle.model.specs.Entries.{Entry, slots_of}
 use Rattle.model.specs.History.{master_effect, told, outcome, replay}
-
-changed_slots : (command : Command) (slots : List ℕ) (n : ℕ) (m : Master) → (changed command slots n m).slots ≡ m.slots
-unfolding changed
-changed_slots (CreateNamespace name) slots n m = refl
-changed_slots _ slots n m = refl
 
 acked_slots : (kind : Kind) (operation : Id) (slot n : ℕ) (m : Master) → (acked_by kind operation slot n m).slots ≡ m.slots
 acked_slots Snapshot operation slot n m = refl
@@ -62,7 +56,19 @@ moved_slots _ operation n m = refl
 
 effect_slots : (act : MasterAct) (n : ℕ) (m : Master) → (master_effect act n m).slots ≡ m.slots
 effect_slots Ticks n m = refl
-effect_slots (Changes command slots) n m = changed_slots command slots n m
+effect_slots (MakesNamespace name) n m = refl
+effect_slots (DropsNamespace namespace) n m = refl
+effect_slots (MakesTable namespace name columns slots) n m = refl
+effect_slots (AddsColumn table name kind) n m = refl
+effect_slots (DropsColumn table column) n m = refl
+effect_slots (RenamesTable table name) n m = refl
+effect_slots (DropsTable table) n m = refl
+effect_slots (SplitsTablet parent code low_slot high_slot) n m = refl
+effect_slots (MakesSchedule namespace interval retention) n m = refl
+effect_slots (DeletesSchedule schedule) n m = refl
+effect_slots (TakesSnapshot schedule) n m = refl
+effect_slots (BeginsRestoration schedule to) n m = refl
+effect_slots (BeginsClone namespace source target to) n m = refl
 effect_slots (Sends operation slot) n m = refl
 effect_slots (Acks operation slot) n m = acked_slots operation.kind operation slot n m
 effect_slots (Unsends operation slot) n m = refl

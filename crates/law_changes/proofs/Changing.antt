@@ -1,21 +1,19 @@
 -- Commands under their plans: a stale plan is refused, and each command on namespaces and tables keeps what holds.
 use Rattle.std.proofs.Common.{ℕ, ◌≡◌, List, [], ◌∷◌, Option, Some, None, Bool, true, false, refl, not}
 use Rattle.row_values.specs.Slots.{same_slots}
-use Rattle.model.specs.Catalog.{namespace_named}
 use Rattle.model.specs.Journal.{Change as Made}
-use Rattle.model.specs.Records.{Schedule, schedule_with, schedule_of}
+use Rattle.model.specs.Records.{Schedule, schedule_with}
 use Rattle.model.specs.Entries.{CommandAsked, slots_of}
-use Rattle.model.specs.Acts.{Reply, Command, CreateNamespace, DropNamespace, CreateTable, AddColumn, DropColumn, RenameTable, DropTable, Restore, CloneNamespace, ListSchedules, ListSnapshots, ListRestorations, ListClones, ListTablets, Change, Refused, StalePlan, UnknownNamespace, Schedules, Snapshots, Restorations, Clones, Tablets, Act, Refusal}
-use Rattle.model.specs.Parts.{Master, Parts, Outcome, If, judged, answered, refused}
-use Rattle.model.specs.Looks.{plan_of, known}
+use Rattle.model.specs.Acts.{Reply, Command, CreateNamespace, DropNamespace, CreateTable, AddColumn, DropColumn, RenameTable, DropTable, Restore, CloneNamespace, ListSchedules, ListSnapshots, ListRestorations, ListClones, ListTablets, Change, Refused, StalePlan, Schedules, Snapshots, Restorations, Clones, Tablets, Act, Refusal}
+use Rattle.model.specs.Parts.{Master, Parts, Outcome, If, judged, refused}
+use Rattle.model.specs.Looks.{found_namespace, plan_of}
 use Rattle.model.specs.Lines.{schedule_lines, snapshot_lines, restoration_lines, clone_lines, tablet_lines}
 use Rattle.model.specs.Changes.{change, planned, list_tablets}
 use Rattle.model.specs.History.{outcome}
-use Rattle.model.specs.Replies.{ReplyRight, WindowRightOf, WindowRight, CloneWindowRight}
-use Rattle.std.specs.Prelude.{is_none}
+use Rattle.model.specs.Replies.{ReplyRight, WindowRightOf, WindowRight, CloneWindowRight, schedule_named}
 use Rattle.law_changes.specs.Commands.{IsOfCatalog}
 use Rattle.law_invariants.specs.Invariant.{Inv, Later}
-use Rattle.law_invariants.proofs.Ticking.{by_checks, refused_keeps, nothing_told, KeepsAll}
+use Rattle.law_invariants.proofs.Ticking.{by_judgement, refused_keeps, nothing_told, KeepsAll}
 use Rattle.law_changes.proofs.Namespaces.{create_namespace_keeps, drop_namespace_keeps}
 use Rattle.law_changes.proofs.Schemas.{add_column_keeps, drop_column_keeps, rename_table_keeps}
 use Rattle.law_changes.proofs.Dropping.{drop_table_keeps}
@@ -30,7 +28,7 @@ stale_window (Some s) Judged kept m n to fine = λ free. fine s
 -- a stale plan says nothing of a window
 stale_right : (command : Command) (slots kept : List ℕ) (n : ℕ) (ps : Parts) (changes : List Made) → ReplyRight (Change command slots) (Refused (StalePlan kept)) n ps changes
 stale_right (Restore schedule to) slots kept n ps changes = stale_window (schedule_with ps.master.schedules schedule) WindowRight kept ps.master n to (λ s. tt)
-stale_right (CloneNamespace source target to) slots kept n ps changes = stale_window (schedule_of ps.master.schedules (known (namespace_named ps.master.catalog.namespaces source))) CloneWindowRight kept ps.master n _ (λ s. tt)
+stale_right (CloneNamespace source target to) slots kept n ps changes = stale_window (schedule_named ps.master source) CloneWindowRight kept ps.master n _ (λ s. tt)
 stale_right _ slots kept n ps changes = tt
 
 by_cases : (b : Bool) (why : Refusal) (act : Act) (n : ℕ) (ps : Parts) (activity : List Interval) (changes : List Made) (o : Outcome) → KeepsAll act n ps activity changes (refused why) → (b ≡ true → KeepsAll act n ps activity changes o)
@@ -49,15 +47,13 @@ change_keeps command slots ps activity changes n later inv keeps =
     (refused_keeps (Change command slots) (StalePlan kept) n ps activity changes later inv (stale_right command slots kept n ps changes) refl) keeps
 
 list_tablets_keeps : (ps : Parts) (activity : List Interval) (changes : List Made) (n : ℕ) (namespace slots : List ℕ) → Later (0 ∷ slots) ps n → Inv ps activity changes
-    → KeepsAll (Change (ListTablets namespace) slots) n ps activity changes (list_tablets namespace ps)
+    → KeepsAll (Change (ListTablets namespace) slots) n ps activity changes (list_tablets namespace ps.master)
 unfolding list_tablets
 list_tablets_keeps ps activity changes n namespace slots later inv =
     let act = Change (ListTablets namespace) slots in
-    let m = ps.master in
-    let ns = namespace_named m.catalog.namespaces namespace in
-    by_checks act n ps activity changes (If (is_none ns) UnknownNamespace ∷ []) (answered (Tablets (tablet_lines m (known ns))))
+    by_judgement act n ps activity changes (found_namespace ps.master namespace) _
     (λ why. refused_keeps act why n ps activity changes later inv tt refl)
-    (λ passes. record { right = tt; inv = nothing_told act (Tablets (tablet_lines m (known ns))) n ps activity changes later inv })
+    (λ ns found. record { right = tt; inv = nothing_told act (Tablets (tablet_lines ps.master ns)) n ps activity changes later inv })
 
 planned_keeps : (command : Command) (slots : List ℕ) (ps : Parts) (activity : List Interval) (changes : List Made) (n : ℕ) → IsOfCatalog command → CommandAsked command → Later (0 ∷ slots) ps n → Inv ps activity changes
     → same_slots slots (plan_of command ps.master) ≡ true → KeepsAll (Change command slots) n ps activity changes (planned command slots n ps)

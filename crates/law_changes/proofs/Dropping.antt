@@ -1,6 +1,6 @@
 -- A table is dropped: its tablets are hidden, and their activity ends.
 use Rattle.std.proofs.Common.{ℕ, ◌≡◌, ◌≤◌, ◌<◌, List, [], ◌∷◌, map, Option, Some, None, Bool, true, false, cond, ◌⊎◌, inl, inr, refl, sym, ap, subst, ◌∙◌, arith, eqb, leb, le_trans, le_refl, le_of_lt, ltb-true}
-use Rattle.std.specs.Prelude.{is_none}
+use Rattle.std.specs.Prelude.{Ok}
 use Rattle.std.specs.Option.{is_some}
 use Rattle.std.proofs.lemmas.Bool.{cond_both, true≢false}
 use Rattle.std.proofs.lemmas.Bool.Decides.{nat_tests}
@@ -9,17 +9,16 @@ use Rattle.row_values.specs.Elements.{In}
 use Rattle.row_values.specs.Slots.{has, same_slots, rising}
 use Rattle.model.specs.Times.{before_end, ended, ended_by, is_open}
 use Rattle.model.specs.Activity.{Interval, active_at, end_table_tablets}
-use Rattle.model.specs.Catalog.{TableRecord, namespace_named, owner_of, end_table}
-use Rattle.model.specs.Journal.{Change as Made, ChangeAct, TableDropped, table_at, row_at}
+use Rattle.model.specs.Catalog.{TableRecord, owner_of, end_table}
+use Rattle.model.specs.Journal.{Change as Made, TableDropped, table_at, row_at}
 use Rattle.model.specs.Tablets.{Tablet, Presence, HiddenPart, HideSince, effect, is_empty, is_serving}
 use Rattle.model.specs.Stands.{awaited_in}
-use Rattle.model.specs.Acts.{DropTable, Change, UnknownNamespace, UnknownTable, Busy}
-use Rattle.model.specs.Parts.{Master, Parts, Check, If, Names}
-use Rattle.model.specs.Operations.{holder}
-use Rattle.model.specs.Looks.{known, table_of, the_table, plan_of, active_in, slots_of_table}
-use Rattle.model.specs.Changes.{accepts, tell, drop_table}
-use Rattle.model.specs.Changed.{changed, table_dropped}
-use Rattle.model.specs.History.{with, told}
+use Rattle.model.specs.Acts.{DropTable, Change}
+use Rattle.model.specs.Parts.{Master, Parts, DropsTable}
+use Rattle.model.specs.Looks.{active_in, found_table, slots_of_table, slots_for, plan_of}
+use Rattle.model.specs.Changes.{accepts, tell, unheld_checks, judge_drop_table, drop_table}
+use Rattle.model.specs.Changed.{table_dropped}
+use Rattle.model.specs.History.{with}
 use Rattle.law_store.proofs.Keys.{either_way}
 use Rattle.law_invariants.specs.Remembered.{IsForgotten, Remembered}
 use Rattle.law_invariants.proofs.Remembering.{forgotten_on}
@@ -29,17 +28,17 @@ use Rattle.law_invariants.proofs.Ordering.{SourcesStay, orders_on, obeyed_on, hi
 use Rattle.law_invariants.proofs.Working.{SameFixed, comes_on, before_any, TablesDrawn, tables_drawn, all_listed}
 use Rattle.law_invariants.specs.Invariant.{EndsBy, OverBy, IsPast, TurnsAt, is_awaited, IsGood, SlotGood, SlotWorks, MasterGood, Inv, Later}
 use Rattle.law_invariants.proofs.Finding.{none_or_some, second_fails, same_equal, same_self, in_mapped, map_in, not_passing, both_pass, passes_both}
-use Rattle.law_invariants.proofs.Ticking.{by_checks, refused_keeps, KeepsAll, tablet_before, over_later, tablet_ticked, ends_later}
+use Rattle.law_invariants.proofs.Ticking.{by_judgement, refused_keeps, KeepsAll, tablet_before, over_later, tablet_ticked, ends_later}
+use Rattle.law_invariants.proofs.Judging.{checked_is}
 use Rattle.law_invariants.proofs.Holding.{end_weaker}
 use Rattle.law_invariants.proofs.Journaling.{dropped_before, dropped_others, dropped_rows_before, dropped_rows_others, nothing_late}
 use Rattle.law_invariants.proofs.Covering.{dropped_covers}
-use Rattle.law_invariants.proofs.Cataloguing.{CatalogStands, catalog_of, catalog_table_dropped, table_current}
+use Rattle.law_invariants.proofs.Cataloguing.{CatalogStands, catalog_of, catalog_table_dropped, table_is}
 use Rattle.law_invariants.proofs.Hearing.{clocks_rise, rows_on}
 use Rattle.law_invariants.proofs.Undoing.{one_more, journal_on}
 use Rattle.law_changes.proofs.Told.{slots_told, master_early, tablet_early, told_same, slots_equal}
 use Rattle.law_changes.proofs.Quiet.{ended_tables, same_names, marks_stay}
 use Rattle.law_changes.proofs.Plans.{active_planned, planned_active}
-use Rattle.law_changes.proofs.Schemas.{with_found}
 use Rattle.law_changes.proofs.Awaiting.{AwaitNone, none_await}
 
 -- where an interval ends that may be one of the table's
@@ -320,63 +319,51 @@ heard m n id ps slots later all i isin from = either_way (same i.table id)
     (λ x some. inl (subst (λ j. In j (end_table_tablets id n m.activity)) (ap (λ q. record i { to = q }) (stays_ended id n i (λ opened of_table. let q : None ≡ Some x = sym opened ∙ some in cc))) (map_in (cut_off id n) m.activity i isin))))
     (λ e. inl (subst (λ j. In j (end_table_tablets id n m.activity)) (ap (λ q. record i { to = q }) (stays_ended id n i (λ opened of_table. true≢false (sym of_table ∙ e)))) (map_in (cut_off id n) m.activity i isin)))
 
-abbrev pub drop_table_checks : List ℕ → List ℕ → Master → List Check
-drop_table_checks namespace table m =
-    let ns = namespace_named m.catalog.namespaces namespace in
-    If (is_none ns) UnknownNamespace ∷ If (is_none (table_of m namespace table)) UnknownTable ∷ Names (holder m (known ns)) Busy ∷ []
-
-abbrev pub table_dropped_act : TableRecord → ChangeAct
-table_dropped_act t = TableDropped t.id
-
-slots_found : (m : Master) (found : Option TableRecord) → is_none found ≡ false → slots_of_table m found ≡ rising (map (λ j. j.slot) (active_in m (the_table found).id))
-slots_found m None e = cc
-slots_found m (Some t) e = refl
-
 -- the plan of a found table has the slots of its active tablets
-planned_slots : (m : Master) (namespace table : List ℕ) → is_none (table_of m namespace table) ≡ false → plan_of (DropTable namespace table) m ≡ rising (map (λ j. j.slot) (active_in m (the_table (table_of m namespace table)).id))
+planned_slots : (m : Master) (namespace table : List ℕ) (t : TableRecord) → found_table m namespace table ≡ Ok t → plan_of (DropTable namespace table) m ≡ slots_of_table m t.id
 unfolding plan_of
-planned_slots m namespace table e = slots_found m (table_of m namespace table) e
+planned_slots m namespace table t e = ap (λ j. slots_for j (λ t. slots_of_table m t.id)) e
 
 pub drop_table_keeps : (ps : Parts) (activity : List Interval) (changes : List Made) (n : ℕ) (namespace table slots : List ℕ) → Later (0 ∷ slots) ps n → same_slots slots (plan_of (DropTable namespace table) ps.master) ≡ true → Inv ps activity changes
-    → KeepsAll (Change (DropTable namespace table) slots) n ps activity changes (drop_table namespace table slots n ps)
-unfolding drop_table changed
+    → KeepsAll (Change (DropTable namespace table) slots) n ps activity changes (drop_table namespace table slots n ps.master)
+unfolding drop_table
 drop_table_keeps ps activity changes n namespace table slots later plan inv =
     let m = ps.master in
     let command = DropTable namespace table in
-    let found = table_of m namespace table in
-    let id = (the_table found).id in
-    let new = with n (TableDropped id) changes in
     let before : m.clock < n = master_early slots ps n later in
-    by_checks (Change command slots) n ps activity changes (drop_table_checks namespace table m) (accepts command slots (tell slots (HideSince n)) [])
+    let told_all = tell slots (HideSince n) in
+    by_judgement (Change command slots) n ps activity changes (judge_drop_table namespace table m) _
     (λ why. refused_keeps (Change command slots) why n ps activity changes later inv tt refl)
-    (λ passes.
-    let with_ = with_found found table_dropped_act n changes passes.1.0 in
-    let current = table_current m namespace table passes.1.0 in
-    let calm : AwaitNone m id = none_await m changes (known (namespace_named m.catalog.namespaces namespace)) id inv.master
-    (inv.master.tables.owned (the_table found) current.listed ∙ ap (λ ns. Some ns) current.namespace_is) passes.1.1.0 in
-    let ns = known (namespace_named m.catalog.namespaces namespace) in
-    let owner : owner_of m.catalog.owners id ≡ Some ns = inv.master.tables.owned (the_table found) current.listed ∙ ap (λ k. Some k) current.namespace_is in
-    let free = not_held m ns passes.1.1.0 in
+    (λ t found.
+    let id = t.id in
+    let ns = t.namespace in
+    let act = DropsTable id in
+    let new = with n (TableDropped id) changes in
+    let judged = checked_is (found_table m namespace table) (λ t. unheld_checks t.namespace m) t found in
+    let current = table_is m namespace table t judged.0 in
+    let owner : owner_of m.catalog.owners id ≡ Some ns = inv.master.tables.owned t current.listed in
+    let calm : AwaitNone m id = none_await m changes ns id inv.master owner judged.1.0 in
+    let free = not_held m ns judged.1.0 in
     let catalog = record m.catalog { tables = end_table id n m.catalog.tables } in
     let gone = end_table_tablets id n m.activity in
-    let o = onward_dropped m n id ns (the_table found) changes before (tables_drawn m activity inv.remembered) owner free inv.master current.listed current.namespace_is refl in
+    let o = onward_dropped m n id ns t changes before (tables_drawn m activity inv.remembered) owner free inv.master current.listed refl refl in
     let stays = dropped_sources m n id changes before inv.operations in
     let works_on : (i : ℕ) (t : Tablet) → SlotWorks m changes i t → SlotWorks (table_dropped id n m) new i t = λ i t h. record {
       orders = orders_on m n catalog gone m.drawn m.sent changes new i t o h.orders;
       obeyed = obeyed_on m n catalog gone m.drawn m.sent changes new i t o stays inv.operations h.obeyed;
     } in
-    let all : slots ≡ rising (map (λ j. j.slot) (active_in m id)) = slots_equal slots (plan_of command m) plan ∙ planned_slots m namespace table passes.1.0 in
+    let all : slots ≡ slots_of_table m id = slots_equal slots (plan_of command m) plan ∙ planned_slots m namespace table t judged.0 in
     record {
       right = tt;
-      inv = subst (Inv (told (Change command slots) (accepts command slots (tell slots (HideSince n)) []) n ps) (end_table_tablets id n activity)) (sym with_) (record {
+      inv = record {
         remembered = remembered_dropped m n id activity before inv.remembered;
         cover = dropped_covers activity changes id n inv.cover;
-        master = master_dropped m n changes id before (subst (CatalogStands (changed command slots n m)) with_ (catalog_table_dropped m n namespace table slots [] changes (le_of_lt before) passes.1.0 (catalog_of m changes inv.master))) inv.master;
+        master = master_dropped m n changes id before (catalog_table_dropped m n id changes (le_of_lt before) (catalog_of m changes inv.master)) inv.master;
         operations = operations_on m n catalog gone m.drawn m.sent changes new o (λ k. marks_stay m n catalog gone m.drawn changes k (le_of_lt before) inv.operations) inv.operations.owners (λ mark isin. isin) (all_listed m changes inv.master) inv.operations;
-        rows_past = rows_on m n catalog gone m.drawn m.sent changes new ps.tablet _ (le_of_lt before) (clocks_rise (Change command slots) (accepts command slots (tell slots (HideSince n)) []) n ps (λ slot e. tablet_before (0 ∷ slots) ps n slot later e))
+        rows_past = rows_on m n catalog gone m.drawn m.sent changes new ps.tablet _ (le_of_lt before) (clocks_rise (Change command slots) (accepts act told_all []) n ps (λ slot e. tablet_before (0 ∷ slots) ps n slot later e))
             (λ i isin. heard m n id ps slots later (sym all) i isin ((inv.slots i.slot).each i isin refl).slot_from) (λ c table key op isin is. elim isin as (λ _. In c changes) [ inl e ↦ absurd (let q = ap (λ k. k.act) e ∙ is in grind arith) | inr old ↦ old ]) inv.rows_past;
         journal = journal_on m n catalog gone m.drawn m.sent changes new (one_more changes (record { stamp = n; act = TableDropped id }) (λ table_ key op e. let q = e in grind arith) (λ other point. refl)) o.fixed (le_refl _) (le_refl _) o.owners inv.journal;
-        works = slots_told (SlotWorks (table_dropped id n m) new) command slots (tell slots (HideSince n)) [] n ps
+        works = slots_told (SlotWorks (table_dropped id n m) new) command slots act told_all [] n ps
             (λ i is from. (
             let j = planned_active m id i (sym (ap (λ ss. has ss i) all) ∙ is) in
             let g = (inv.slots i).each j.0 j.1.0 j.1.1.0 in
@@ -386,7 +373,7 @@ drop_table_keeps ps activity changes n namespace table slots later plan inv =
             (works_on i (effect (HideSince n) n (ps.tablet i))
             (hidden_works m changes i (ps.tablet i) n ns j.0 (le_of_lt (tablet_early slots ps n i later is from)) g.present inv.operations (all_listed m changes inv.master) free j.1.0 j.1.1.0 one (inv.works i)))))
             (λ i others. works_on i (ps.tablet i) (inv.works i));
-        slots = slots_told (SlotGood (table_dropped id n m) new) command slots (tell slots (HideSince n)) [] n ps
+        slots = slots_told (SlotGood (table_dropped id n m) new) command slots act told_all [] n ps
             (λ i is from. (
             let j = planned_active m id i (sym (ap (λ ss. has ss i) all) ∙ is) in
             let present : is_empty (ps.tablet i).presence ≡ false = ((inv.slots i).each j.0 j.1.0 j.1.1.0).present in
@@ -399,5 +386,5 @@ drop_table_keeps ps activity changes n namespace table slots later plan inv =
             let apart : eqb i 0 ≡ false = grind (arith, nat_tests) in
             true≢false (sym planned ∙ ap (has slots) is ∙ others apart))) calm (inv.slots i));
         late = nothing_late n (TableDropped id) changes m.clock before inv.master.past inv.late;
-      });
+      };
     })

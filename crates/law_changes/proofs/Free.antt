@@ -6,7 +6,7 @@ use Rattle.row_values.specs.Elements.{In}
 use Rattle.row_values.specs.Slots.{has}
 use Rattle.model.specs.Activity.{Interval}
 use Rattle.model.specs.Parts.{Master}
-use Rattle.model.specs.Looks.{counting, is_free, free_slots, reserved}
+use Rattle.model.specs.Looks.{counting, is_free, free_slots, is_reserved}
 use Rattle.law_invariants.proofs.Finding.{filter_in, map_in}
 use Rattle.law_changes.proofs.Plans.{has_in}
 
@@ -58,12 +58,12 @@ pub record AreFree (m : Master) (count : ℕ) (slots : List ℕ) : Type 0 where
   pub rise : RiseFrom 1 slots
   pub to : (slot : ℕ) → In slot slots → slot ≤ m.slots
   pub vacant : (slot : ℕ) → In slot slots → (i : Interval) → In i m.activity → i.slot ≡ slot → ⊥
-  pub unreserved : (slot : ℕ) → In slot slots → has (reserved m.clones) slot ≡ false
+  pub unreserved : (slot : ℕ) → In slot slots → is_reserved m.clones slot ≡ false
 
 no_tablet : (m : Master) (slot : ℕ) (i : Interval) → is_free m slot ≡ true → In i m.activity → i.slot ≡ slot → ⊥
 no_tablet m slot i free isin is =
     let there : has (map (λ i. i.slot) m.activity) slot ≡ true = ap (has (map (λ i. i.slot) m.activity)) (sym is) ∙ has_in (map (λ i. i.slot) m.activity) i.slot (map_in (λ i. i.slot) m.activity i isin) in
-    let taken : is_free m slot ≡ false = ap (λ b. not (b || has (reserved m.clones) slot)) there in
+    let taken : is_free m slot ≡ false = ap (λ b. not (b || is_reserved m.clones slot)) there in
     true≢false (sym free ∙ taken)
 
 neither_has : (a b : Bool) → not (a || b) ≡ true → b ≡ false
@@ -80,5 +80,5 @@ least_free m count enough =
       rise = rise_take (free_slots m) count 1 (rise_filter all (is_free m) 1 (rise_counting m.slots 1));
       to = λ slot h. (let l : slot < 1 + m.slots = in_counting m.slots 1 slot (isin slot h).0 in omega arith);
       vacant = λ slot h i listed is. no_tablet m slot i (isin slot h).1 listed is;
-      unreserved = λ slot h. neither_has (has (map (λ i. i.slot) m.activity) slot) (has (reserved m.clones) slot) (isin slot h).1;
+      unreserved = λ slot h. neither_has (has (map (λ i. i.slot) m.activity) slot) (is_reserved m.clones slot) (isin slot h).1;
     }

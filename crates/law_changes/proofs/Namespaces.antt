@@ -1,18 +1,18 @@
 -- Namespaces are made and dropped.
-use Rattle.std.proofs.Common.{ℕ, ◌≡◌, ◌≤◌, ◌<◌, ◌+◌, List, [], ◌∷◌, Option, Some, None, Bool, true, false, cond, not, ◌&&◌, ◌⊎◌, inl, inr, refl, sym, ap, subst, ◌∙◌, le_trans, arith, ◌==◌, le_of_lt, le_refl}
-use Rattle.std.specs.Prelude.{is_none, is_some}
+use Rattle.std.proofs.Common.{ℕ, ◌≡◌, ◌≤◌, ◌<◌, ◌+◌, List, [], ◌∷◌, Option, Some, None, Bool, true, false, cond, not, ◌&&◌, ◌⊎◌, inl, inr, refl, sym, ap, subst, ◌∙◌, le_trans, arith, le_of_lt, le_refl}
+use Rattle.std.specs.Prelude.{is_some, Ok}
 use Rattle.model.specs.Journal.{Change as Made, NamespaceMade, NamespaceDropped}
-use Rattle.model.specs.Catalog.{NamespaceRecord, namespace_named, current_tables, by_id, kept_from}
+use Rattle.model.specs.Catalog.{NamespaceRecord, namespace_named, kept_from}
 use Rattle.model.specs.Records.{schedule_of, Schedule as ScheduleRecord, CloneRecord, is_visible}
-use Rattle.model.specs.Acts.{CreateNamespace, DropNamespace, Change, NameTaken, TooMany, UnknownNamespace, Busy, NotEmpty, UnderSchedule}
-use Rattle.model.specs.Parts.{Master, Parts, Drawn, Check, If, Names}
-use Rattle.model.specs.Operations.{holder, time_of_user}
-use Rattle.model.specs.Looks.{known}
-use Rattle.model.specs.Changes.{named, clone_named, count_namespaces, most_namespaces, first_table, schedule_id, accepts, create_namespace, drop_namespace}
-use Rattle.model.specs.Changed.{changed, next_namespace, namespace_made, namespace_dropped}
+use Rattle.model.specs.Acts.{CreateNamespace, DropNamespace, Change}
+use Rattle.model.specs.Parts.{Master, Parts, Drawn, MakesNamespace, DropsNamespace}
+use Rattle.model.specs.Operations.{time_of_user}
+use Rattle.model.specs.Changes.{named, clone_named, create_namespace_checks, judge_create_namespace, judge_drop_namespace, create_namespace, drop_namespace}
+use Rattle.model.specs.Changed.{next_namespace, namespace_made, namespace_dropped}
 use Rattle.model.specs.History.{with}
 use Rattle.law_invariants.specs.Invariant.{Inv, Later}
-use Rattle.law_invariants.proofs.Ticking.{by_checks, refused_keeps, KeepsAll}
+use Rattle.law_invariants.proofs.Ticking.{by_judgement, refused_keeps, KeepsAll}
+use Rattle.law_invariants.proofs.Judging.{checked_is}
 use Rattle.law_invariants.proofs.Journaling.{namespace_made_quiet, namespace_dropped_quiet, nothing_late}
 use Rattle.law_invariants.proofs.Cataloguing.{catalog_of, catalog_namespace_made, catalog_namespace_dropped}
 use Rattle.law_invariants.proofs.Working.{before_any}
@@ -94,9 +94,6 @@ namespace_dropped_keeps m n id changes le ops = record {
     was_open true n (Some x) e = e
     was_open false n (Some x) e = e
 
-abbrev pub create_namespace_checks : List ℕ → Master → List Check
-create_namespace_checks name m = Names (named m name) NameTaken ∷ If (count_namespaces m == most_namespaces) (TooMany most_namespaces) ∷ []
-
 one_drawn : (d : Drawn) (kind : Kind) → drawn_of kind d ≤ drawn_of kind (record d { namespaces = d.namespaces + 1 })
 one_drawn d Namespace = omega arith
 one_drawn d Table = le_refl _
@@ -107,17 +104,21 @@ one_drawn d Restoration = le_refl _
 one_drawn d Clone = le_refl _
 
 pub create_namespace_keeps : (ps : Parts) (activity : List Interval) (changes : List Made) (n : ℕ) (name slots : List ℕ) → Later (0 ∷ slots) ps n → Inv ps activity changes
-    → KeepsAll (Change (CreateNamespace name) slots) n ps activity changes (create_namespace name slots n ps)
-unfolding create_namespace changed
+    → KeepsAll (Change (CreateNamespace name) slots) n ps activity changes (create_namespace name ps.master)
+unfolding create_namespace
 create_namespace_keeps ps activity changes n name slots later inv =
     let m = ps.master in
-    let act = Change (CreateNamespace name) slots in
+    let command = CreateNamespace name in
+    let new = with n (NamespaceMade (next_namespace m) name) changes in
     let before : m.clock < n = master_early slots ps n later in
-    by_checks act n ps activity changes (create_namespace_checks name m) (accepts (CreateNamespace name) slots [] (next_namespace m ∷ []))
-    (λ why. refused_keeps act why n ps activity changes later inv tt refl)
-    (λ passes. record {
+    let quiet = namespace_made_quiet n (next_namespace m) name changes in
+    by_judgement (Change command slots) n ps activity changes (judge_create_namespace name m) _
+    (λ why. refused_keeps (Change command slots) why n ps activity changes later inv tt refl)
+    (λ id is.
+    let passes = (checked_is (Ok (next_namespace m)) (λ id. create_namespace_checks name m) id is).1 in
+    record {
       right = tt;
-      inv = quiet_keeps (CreateNamespace name) slots [] (next_namespace m ∷ []) n ps activity changes (with n (NamespaceMade (next_namespace m) name) changes) later inv refl
+      inv = quiet_keeps command slots (MakesNamespace name) [] (id ∷ []) n ps activity changes new later inv refl
           (record {
             clock = le_of_lt before;
             slots = refl;
@@ -128,37 +129,30 @@ create_namespace_keeps ps activity changes n name slots later inv =
             owners = refl;
             drawn = refl;
             drawn_tables = refl;
-            quiet = namespace_made_quiet n (next_namespace m) name changes;
+            quiet = quiet;
             same_ = record { fixed = λ other to. refl; switched = λ other point is. is; before = λ other point is. before_any changes other point _ changes is };
           })
-          (quiet_works ps activity changes (with n (NamespaceMade (next_namespace m) name) changes) n _ _ inv (le_of_lt before) (one_drawn m.drawn) refl (namespace_made_quiet n (next_namespace m) name changes) (λ ns point is. is) (λ ns point is. before_any changes ns point _ changes is)
+          (quiet_works ps activity changes new n _ _ inv (le_of_lt before) (one_drawn m.drawn) refl quiet (λ ns point is. is) (λ ns point is. before_any changes ns point _ changes is)
           (one_more changes _ (λ table key op e. let q = e in grind arith) (λ ns point. refl))
           (namespace_made_keeps m n name changes (le_of_lt before) passes.0 inv.operations))
-          (catalog_namespace_made m n name slots changes (le_of_lt before) passes.0 (catalog_of m changes inv.master)) (nothing_late n (NamespaceMade (next_namespace m) name) changes m.clock before inv.master.past inv.late) (λ i. tt);
+          (catalog_namespace_made m n name changes (le_of_lt before) passes.0 (catalog_of m changes inv.master)) (nothing_late n (NamespaceMade (next_namespace m) name) changes m.clock before inv.master.past inv.late) (λ i. tt);
     })
 
-abbrev pub drop_namespace_checks : List ℕ → Master → List Check
-drop_namespace_checks name m =
-    let ns = namespace_named m.catalog.namespaces name in
-    If (is_none ns) UnknownNamespace
-    ∷ Names (holder m (known ns)) Busy
-    ∷ Names (first_table (by_id (current_tables m.catalog.tables (known ns)))) NotEmpty
-    ∷ Names (schedule_id (schedule_of m.schedules (known ns))) UnderSchedule
-    ∷ []
-
 pub drop_namespace_keeps : (ps : Parts) (activity : List Interval) (changes : List Made) (n : ℕ) (name slots : List ℕ) → Later (0 ∷ slots) ps n → Inv ps activity changes
-    → KeepsAll (Change (DropNamespace name) slots) n ps activity changes (drop_namespace name slots n ps)
-unfolding drop_namespace changed
+    → KeepsAll (Change (DropNamespace name) slots) n ps activity changes (drop_namespace name ps.master)
+unfolding drop_namespace
 drop_namespace_keeps ps activity changes n name slots later inv =
     let m = ps.master in
-    let act = Change (DropNamespace name) slots in
-    let ns = known (namespace_named m.catalog.namespaces name) in
+    let command = DropNamespace name in
     let before : m.clock < n = master_early slots ps n later in
-    by_checks act n ps activity changes (drop_namespace_checks name m) (accepts (DropNamespace name) slots [] [])
-    (λ why. refused_keeps act why n ps activity changes later inv tt refl)
-    (λ passes. record {
+    by_judgement (Change command slots) n ps activity changes (judge_drop_namespace name m) _
+    (λ why. refused_keeps (Change command slots) why n ps activity changes later inv tt refl)
+    (λ ns is.
+    let new = with n (NamespaceDropped ns) changes in
+    let quiet = namespace_dropped_quiet n ns changes in
+    record {
       right = tt;
-      inv = quiet_keeps (DropNamespace name) slots [] [] n ps activity changes (with n (NamespaceDropped ns) changes) later inv refl
+      inv = quiet_keeps command slots (DropsNamespace ns) [] [] n ps activity changes new later inv refl
           (record {
             clock = le_of_lt before;
             slots = refl;
@@ -169,11 +163,11 @@ drop_namespace_keeps ps activity changes n name slots later inv =
             owners = refl;
             drawn = refl;
             drawn_tables = refl;
-            quiet = namespace_dropped_quiet n ns changes;
+            quiet = quiet;
             same_ = record { fixed = λ other to. refl; switched = λ other point is. is; before = λ other point is. before_any changes other point _ changes is };
           })
-          (quiet_works ps activity changes (with n (NamespaceDropped ns) changes) n _ _ inv (le_of_lt before) (same_drawn m.drawn) refl (namespace_dropped_quiet n ns changes) (λ ns point is. is) (λ ns point is. before_any changes ns point _ changes is)
+          (quiet_works ps activity changes new n _ _ inv (le_of_lt before) (same_drawn m.drawn) refl quiet (λ ns point is. is) (λ ns point is. before_any changes ns point _ changes is)
           (one_more changes _ (λ table key op e. let q = e in grind arith) (λ ns point. refl))
           (namespace_dropped_keeps m n ns changes (le_of_lt before) inv.operations))
-          (catalog_namespace_dropped m n name slots [] changes (le_of_lt before) (catalog_of m changes inv.master)) (nothing_late n (NamespaceDropped ns) changes m.clock before inv.master.past inv.late) (λ i. tt);
+          (catalog_namespace_dropped m n ns changes (le_of_lt before) (catalog_of m changes inv.master)) (nothing_late n (NamespaceDropped ns) changes m.clock before inv.master.past inv.late) (λ i. tt);
     })

@@ -11,10 +11,9 @@ use Rattle.model.specs.Journal.{Change as Made, table_at, row_at}
 use Rattle.model.specs.Tablets.{Tablet, TabletAct, Told, act_for, effect, Clock, SetVersion}
 use Rattle.model.specs.Stands.{awaited_in, before_restore}
 use Rattle.model.specs.Acts.{Command, Change}
-use Rattle.model.specs.Parts.{Master, Parts, Drawn}
+use Rattle.model.specs.Parts.{Master, MasterAct, Parts, Drawn}
 use Rattle.model.specs.Changes.{accepts}
-use Rattle.model.specs.Changed.{changed}
-use Rattle.model.specs.History.{told}
+use Rattle.model.specs.History.{master_effect, told}
 use Rattle.model.specs.Right.{NothingLate}
 use Rattle.law_invariants.specs.Remembered.{activity_after, Remembered}
 use Rattle.law_invariants.proofs.Remembering.{remembered_on, floor_rises}
@@ -244,23 +243,23 @@ quiet_works ps activity changes new n c d inv le drawn owners quiet switched bef
 pub same_drawn : (d : Drawn) (kind : Kind) → drawn_of kind d ≤ drawn_of kind d
 same_drawn d kind = le_refl _
 
-pub quiet_keeps : (command : Command) (slots : List ℕ) (tablets : List Told) (made : List Id) (n : ℕ) (ps : Parts) (activity : List Interval) (changes new : List Made) → Later (0 ∷ slots) ps n
-    → Inv ps activity changes → (changed command slots n (record ps.master { activity = activity })).activity ≡ activity
-    → Follows ps.master (changed command slots n ps.master) changes new → WorksOn ps.master (changed command slots n ps.master) changes new → CatalogStands (changed command slots n ps.master) new → NothingLate new → ((i : ℕ) → IsMild (act_for tablets i))
-    → Inv (told (Change command slots) (accepts command slots tablets made) n ps) (activity_after (Change command slots) (accepts command slots tablets made) n ps activity) new
-quiet_keeps command slots tablets made n ps activity changes new later inv stays f w stands late mild =
-    let k = changed command slots n ps.master in record {
+pub quiet_keeps : (command : Command) (slots : List ℕ) (act : MasterAct) (tablets : List Told) (made : List Id) (n : ℕ) (ps : Parts) (activity : List Interval) (changes new : List Made) → Later (0 ∷ slots) ps n
+    → Inv ps activity changes → activity_after (Change command slots) (accepts act tablets made) n ps activity ≡ activity
+    → Follows ps.master (master_effect act n ps.master) changes new → WorksOn ps.master (master_effect act n ps.master) changes new → CatalogStands (master_effect act n ps.master) new → NothingLate new → ((i : ℕ) → IsMild (act_for tablets i))
+    → Inv (told (Change command slots) (accepts act tablets made) n ps) (activity_after (Change command slots) (accepts act tablets made) n ps activity) new
+quiet_keeps command slots act tablets made n ps activity changes new later inv stays f w stands late mild =
+    let k = master_effect act n ps.master in record {
       master = master_follows ps.master k changes new f stands inv.master;
       remembered = subst (Remembered k) (sym stays) (remembered_on ps.master k activity (record { clock = f.clock; schedules = f.schedules; restorations = f.restorations; clones = f.clones })
           f.owners f.activity (let e = f.drawn in omega arith) (let e = f.drawn_tables in omega arith) inv.remembered);
       cover = subst (λ is. Covered is new) (sym stays) (quiet_covers activity changes new f.quiet inv.cover);
       operations = w.operations;
       journal = w.journal;
-      rows_past = w.rows ps.tablet _ (clocks_rise (Change command slots) (accepts command slots tablets made) n ps (λ slot e. tablet_before (0 ∷ slots) ps n slot later e)) inv.rows_past;
-      works = slots_told (SlotWorks k new) command slots tablets made n ps
+      rows_past = w.rows ps.tablet _ (clocks_rise (Change command slots) (accepts act tablets made) n ps (λ slot e. tablet_before (0 ∷ slots) ps n slot later e)) inv.rows_past;
+      works = slots_told (SlotWorks k new) command slots act tablets made n ps
           (λ i is from. mild_works (act_for tablets i) k n new i (ps.tablet i) (mild i) (le_of_lt (tablet_early slots ps n i later is from)) (w.works i (ps.tablet i) (inv.works i)))
           (λ i others. w.works i (ps.tablet i) (inv.works i));
-      slots = slots_told (SlotGood k new) command slots tablets made n ps
+      slots = slots_told (SlotGood k new) command slots act tablets made n ps
           (λ i is from. mild_keeps (act_for tablets i) k n new i (ps.tablet i) (mild i) (le_of_lt (tablet_early slots ps n i later is from)) (slot_follows ps.master k changes new i (ps.tablet i) f (inv.slots i)))
           (λ i others. slot_follows ps.master k changes new i (ps.tablet i) f (inv.slots i));
       late = late;

@@ -6,7 +6,7 @@ use Rattle.row_values.specs.Ids.{Id}
 use Rattle.row_values.specs.Slots.{has, same_slots}
 use Rattle.model.specs.Tablets.{Tablet, TabletAct, Told, act_for, effect, Clock}
 use Rattle.model.specs.Acts.{Act, Command, Change}
-use Rattle.model.specs.Parts.{Parts, Outcome}
+use Rattle.model.specs.Parts.{Parts, MasterAct, Outcome}
 use Rattle.model.specs.Entries.{clock_at, slots_of}
 use Rattle.model.specs.Changes.{accepts, tell}
 use Rattle.model.specs.History.{told}
@@ -44,11 +44,11 @@ slots_hear P act slots o n ps named mine others i =
     (λ e. others i (untouched_has i slots (ap (λ ss. has ss i && not (eqb i 0)) (sym named) ∙ e)))
 
 -- as those of a command's plan
-pub slots_told : (P : ℕ → Tablet → Type 0) (command : Command) (slots : List ℕ) (tablets : List Told) (made : List Id) (n : ℕ) (ps : Parts)
+pub slots_told : (P : ℕ → Tablet → Type 0) (command : Command) (slots : List ℕ) (act : MasterAct) (tablets : List Told) (made : List Id) (n : ℕ) (ps : Parts)
     → ((i : ℕ) → has slots i ≡ true → eqb i 0 ≡ false → P i (effect (act_for tablets i) n (ps.tablet i)))
     → ((i : ℕ) → (eqb i 0 ≡ false → has slots i ≡ false) → P i (ps.tablet i))
-    → (i : ℕ) → P i ((told (Change command slots) (accepts command slots tablets made) n ps).tablet i)
-slots_told P command slots tablets made n ps mine others = slots_hear P (Change command slots) slots (accepts command slots tablets made) n ps refl mine others
+    → (i : ℕ) → P i ((told (Change command slots) (accepts act tablets made) n ps).tablet i)
+slots_told P command slots act tablets made n ps mine others = slots_hear P (Change command slots) slots (accepts act tablets made) n ps refl mine others
 
 -- the clocks of the master and of the plan's tablets are below the stamp
 pub master_early : (slots : List ℕ) (ps : Parts) (n : ℕ) → Later (0 ∷ slots) ps n → ps.master.clock < n

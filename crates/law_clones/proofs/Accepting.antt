@@ -4,7 +4,6 @@ use Rattle.std.specs.Option.{is_some, option_or, option_map, option_map_or}
 use Rattle.std.proofs.lemmas.Bool.{true≢false}
 use Rattle.row_values.specs.Ids.{Kind, Namespace, Table, Tablet as TabletKind, Schedule as ScheduleKind, Snapshot, Restoration, Clone, Id, same}
 use Rattle.row_values.specs.Elements.{In}
-use Rattle.row_values.specs.Slots.{has}
 use Rattle.model.specs.Times.{holds_at, before_end, ended_by}
 use Rattle.row_values.specs.Ranges.{in_range}
 use Rattle.model.specs.Catalog.{TableRecord, Owner, tables_at, owner_of, owns, is_owned_by, namespace_named, kept_from}
@@ -16,7 +15,7 @@ use Rattle.model.specs.Records.{Schedule, RestorationRecord, IdPair, TabletPair,
 use Rattle.model.specs.Schedules.{floor, low}
 use Rattle.model.specs.Stands.{holders}
 use Rattle.model.specs.Lists.{tablets_active_at, intervals_in}
-use Rattle.model.specs.Looks.{free_slots, reserved}
+use Rattle.model.specs.Looks.{free_slots, is_reserved}
 use Rattle.model.specs.Operations.{restoration_of, clone_with, time_of_user}
 use Rattle.model.specs.Cleanup.{floor_of}
 use Rattle.model.specs.Drawn.{drawn_of}
@@ -27,7 +26,7 @@ use Rattle.law_store.proofs.Keys.{either_way}
 use Rattle.law_invariants.specs.Operations.{Uses, takers, CloneGood}
 use Rattle.law_invariants.specs.Invariant.{Inv, view_of, view_at}
 use Rattle.law_invariants.proofs.Finding.{none_or_some, both_pass, passes_both, same_equal, same_self, in_mapped, filter_in, in_filter}
-use Rattle.law_invariants.proofs.Operating.{is_reserved}
+use Rattle.law_invariants.proofs.Operating.{target_reserved}
 use Rattle.law_invariants.proofs.Overlap.{one_holder, holder_there}
 use Rattle.law_invariants.proofs.Records.{record_at_is, owners_first}
 use Rattle.law_invariants.proofs.Remembering.{floor_rises}
@@ -353,7 +352,7 @@ new_adds ps activity changes ns s source target to n le may counted inv =
     let taken : (p : TabletPair) → In p (tablets_of m ns to) → IsTaken m ns to p = λ p paired. is_taken ps activity changes ns s target to n p le may inv paired in
     let not_next : (k : Id) → k.number ≤ m.drawn.namespaces → next_namespace m ≡ k → ⊥ = λ k l e. (let q : m.drawn.namespaces + 1 ≡ k.number = ap (λ i. i.number) e in omega arith) in
     let unreserved : (d : CloneRecord) (p q : TabletPair) → In d m.clones → is_cloned d.state ≡ false → In p d.tablets → In q (tablets_of m ns to) → p.slot ≡ q.slot → ⊥ = λ d p q isin unfinished in_p in_q e.
-    true≢false (sym (is_reserved m.clones d p isin unfinished in_p) ∙ ap (has (reserved m.clones)) e ∙ free.unreserved q.slot (taken q in_q).of.isin) in
+    true≢false (sym (target_reserved m.clones d p isin unfinished in_p) ∙ ap (is_reserved m.clones) e ∙ free.unreserved q.slot (taken q in_q).of.isin) in
     record {
       accepted = refl;
       empty = refl;

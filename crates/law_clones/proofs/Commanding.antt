@@ -1,10 +1,9 @@
 -- A clone of a namespace is asked for.
-use Rattle.std.proofs.Common.{ℕ, ◌≡◌, ◌≤◌, ◌<◌, List, [], ◌∷◌, length, Option, Some, None, true, false, refl, sym, ap, subst, ◌∙◌, arith, leb, ltb, leb-true, ltb-true, le_of_lt, eqb}
-use Rattle.std.specs.Prelude.{is_none, is_some}
+use Rattle.std.proofs.Common.{ℕ, ◌≡◌, ◌≤◌, ◌<◌, List, [], ◌∷◌, length, Option, Some, None, true, refl, sym, ap, subst, ◌∙◌, arith, leb, ltb, leb-true, ltb-true, le_of_lt, eqb}
+use Rattle.std.specs.Prelude.{is_some}
+use Rattle.std.specs.Option.{option_and_then, ok_or}
 use Rattle.std.proofs.lemmas.Bool.{true≢false}
-use Rattle.std.proofs.lemmas.Bool.Decides.{nat_tests}
-use Rattle.row_values.specs.Ids.{Id, no_id}
-use Rattle.row_values.specs.Elements.{In}
+use Rattle.row_values.specs.Ids.{Id}
 use Rattle.row_values.specs.Slots.{same_slots}
 use Rattle.model.specs.Activity.{Interval}
 use Rattle.model.specs.Catalog.{namespace_named}
@@ -12,101 +11,105 @@ use Rattle.model.specs.Journal.{Change as Made}
 use Rattle.model.specs.Records.{Schedule, schedule_of}
 use Rattle.model.specs.Schedules.{low}
 use Rattle.model.specs.Operations.{user}
-use Rattle.model.specs.Acts.{Reply, Change, CloneNamespace, Refused, UnknownNamespace, Busy, NoSchedule, NameTaken, TooMany, TooEarly, Future, SlotsFull, Ok}
-use Rattle.model.specs.Looks.{free_slots, known}
-use Rattle.model.specs.Changed.{changed, next_clone, the_schedule, no_schedule, sources, clone_time, clone_begun}
-use Rattle.model.specs.Changes.{accepts, clone_namespace, named, count_namespaces, most_namespaces}
-use Rattle.model.specs.Parts.{Master, Parts, Check, If, Names}
-use Rattle.model.specs.Replies.{CloneWindowRight, WindowRightOf}
+use Rattle.model.specs.Acts.{Reply, Refusal, Change, CloneNamespace, Refused, UnknownNamespace, Busy, NoSchedule, NameTaken, TooMany, TooEarly, Future, SlotsFull, Ok}
+use Rattle.model.specs.Looks.{free_slots}
+use Rattle.model.specs.Changed.{next_clone, sources, clone_time, clone_begun}
+use Rattle.model.specs.Changes.{accepts, named, count_namespaces, most_namespaces, unused_checks, scheduled, clone_checks, clone_namespace}
+use Rattle.model.specs.Parts.{Master, Parts, BeginsClone, Outcome, Check, If, refusal_in, either, checked, decided, refused}
+use Rattle.model.specs.Replies.{ReplyRight, CloneWindowRight, WindowRightOf, schedule_named}
 use Rattle.law_invariants.specs.Invariant.{Inv, Later}
-use Rattle.law_invariants.proofs.Finding.{some_is}
+use Rattle.law_invariants.proofs.Judging.{step_if, step_names}
 use Rattle.law_invariants.proofs.Names.{named_is}
 use Rattle.law_invariants.proofs.Ticking.{refused_keeps, KeepsAll}
 use Rattle.law_moves.proofs.Acting.{alone_keeps}
-use Rattle.law_moves.proofs.Restoring.{check_keeps, name_keeps, used_not}
+use Rattle.law_moves.proofs.Restoring.{at_least, below}
 use Rattle.law_moves.proofs.Using.{not_used, schedule_of_is}
 use Rattle.law_clones.proofs.Accepting.{MayClone, CountedIn, begun_keeps}
 
--- what is right of a window, where the schedule is found
-window_by : (found : Option Schedule) (reply : Reply) (m : Master) (n to : ℕ) → ((s : Schedule) → found ≡ Some s → user m s.namespace ≡ None → CloneWindowRight reply s n to) → WindowRightOf CloneWindowRight found reply m n to
-window_by None reply m n to h = tt
-window_by (Some s) reply m n to h = λ free. h s refl free
+-- where the schedule of the source's name is this one
+window_of : (o found : Option Schedule) (reply : Reply) (m : Master) (n to : ℕ) → o ≡ found → WindowRightOf CloneWindowRight found reply m n to → WindowRightOf CloneWindowRight o reply m n to
+window_of o found reply m n to e h = subst (λ s. WindowRightOf CloneWindowRight s reply m n to) (sym e) h
 
-at_least : (a b : ℕ) → ltb a b ≡ false → b ≤ a
-at_least a b e = grind (arith, nat_tests)
+-- a used namespace has no window
+window_used : (found : Option Schedule) (ns by : Id) (m : Master) (n to : ℕ) → schedule_of m.schedules ns ≡ found → user m ns ≡ Some by → WindowRightOf CloneWindowRight found (Refused (Busy by)) m n to
+window_used None ns by m n to e used = tt
+window_used (Some s) ns by m n to e used = λ free. absurd (let q : None ≡ Some by = sym free ∙ ap (user m) (schedule_of_is m.schedules ns s e).1 ∙ used in grind arith)
 
-below : (a b : ℕ) → leb a b ≡ false → b < a
-below a b e = grind (arith, nat_tests)
+-- what accepts a clone by its source's schedule
+abbrev accepted : List ℕ → List ℕ → Option ℕ → ℕ → Master → Schedule → Outcome
+accepted source target at n m s = accepts (BeginsClone s.namespace source target (clone_time at n)) [] (next_clone m ∷ [])
 
-the_is : (found : Option Schedule) (s : Schedule) → found ≡ Some s → the_schedule found ≡ s
-the_is None s e = absurd (let q = e in grind arith)
-the_is (Some t) s e = let is : t ≡ s = cc in is
-
-there_not : {A : Type 0} (o : Option A) (a : A) → o ≡ Some a → is_none o ≡ true → ⊥
-there_not None a e f = let q = e in grind arith
-there_not (Some b) a e f = true≢false (sym f)
-
--- where the master counts intervals as all activity does, and no schedule has the namespace of nothing
-pub clone_namespace_keeps : (ps : Parts) (activity : List Interval) (changes : List Made) (n : ℕ) (source target : List ℕ) (at : Option ℕ) (slots : List ℕ) → Later (0 ∷ slots) ps n → same_slots slots [] ≡ true
-    → CountedIn ps.master activity → ((s : Schedule) → In s ps.master.schedules → s.namespace ≡ no_id → ⊥) → Inv ps activity changes
-    → KeepsAll (Change (CloneNamespace source target at) slots) n ps activity changes (clone_namespace source target at slots n ps)
-unfolding clone_namespace changed
-clone_namespace_keeps ps activity changes n source target at (slot ∷ slots) later plan counted nameless inv = absurd (true≢false (sym plan))
-clone_namespace_keeps ps activity changes n source target at [] later plan counted nameless inv =
+-- by the source's schedule
+scheduled_keeps : (s : Schedule) (ns : Id) (ps : Parts) (activity : List Interval) (changes : List Made) (n : ℕ) (source target : List ℕ) (at : Option ℕ) → Later (0 ∷ []) ps n → CountedIn ps.master activity
+    → namespace_named ps.master.catalog.namespaces source ≡ Some ns → schedule_of ps.master.schedules ns ≡ Some s → user ps.master ns ≡ None → Inv ps activity changes
+    → KeepsAll (Change (CloneNamespace source target at) []) n ps activity changes (decided (either (refusal_in (clone_checks s target (clone_time at n) n ps.master)) s) (accepted source target at n ps.master))
+scheduled_keeps s ns ps activity changes n source target at later counted named_ scheduled_ unused inv =
     let m = ps.master in
     let act = Change (CloneNamespace source target at) [] in
-    let named_ = namespace_named m.catalog.namespaces source in
-    let ns = known named_ in
-    let found = schedule_of m.schedules ns in
-    let s = the_schedule found in
     let to = clone_time at n in
     let free_ = length (free_slots m) in
-    let needed = length (sources m ns to) in
+    let needed = length (sources m s.namespace to) in
     let before : m.clock < n = later 0 refl in
-    let done = accepts (CloneNamespace source target at) [] [] (next_clone m ∷ []) in
+    let P : Option Refusal → Type 0 = λ why. KeepsAll act n ps activity changes (decided (either why s) (accepted source target at n m)) in
+    let right : (reply : Reply) → CloneWindowRight reply s n to → ReplyRight act reply n ps changes =
+    λ reply h. window_of (schedule_named m source) (Some s) reply m n to (ap (option_and_then (schedule_of m.schedules)) named_ ∙ scheduled_) (λ _. h) in
+    let refuse : (why : Refusal) → CloneWindowRight (Refused why) s n to → KeepsAll act n ps activity changes (refused why) =
+    λ why h. refused_keeps act why n ps activity changes later inv (right (Refused why) h) refl in
     let full : List Check = If (ltb free_ needed) (SlotsFull free_ needed) ∷ [] in
     let future : List Check = If (leb n to) (Future n) ∷ full in
     let early : List Check = If (ltb to (low s n)) (TooEarly (low s n)) ∷ future in
     let many : List Check = If (eqb (count_namespaces m) most_namespaces) (TooMany most_namespaces) ∷ early in
-    let taken : List Check = Names (named m target) NameTaken ∷ many in
-    let unscheduled : List Check = If (is_none found) (NoSchedule ns) ∷ taken in
-    let busy : List Check = Names (user m ns) Busy ∷ unscheduled in
-    let of : (t : Schedule) → found ≡ Some t → user m t.namespace ≡ None → user m ns ≡ None = λ t e free. ap (user m) (sym (schedule_of_is m.schedules ns t e).1) ∙ free in
-    check_keeps act n ps activity changes (is_none named_) UnknownNamespace busy done
-    (λ none. refused_keeps act UnknownNamespace n ps activity changes later inv (window_by found (Refused UnknownNamespace) m n to
-    (λ t e free. let k = schedule_of_is m.schedules ns t e in absurd (nameless t k.0 (k.1 ∙ unknown named_ none)))) refl)
-    (λ some. name_keeps act n ps activity changes (user m ns) Busy unscheduled done
-    (λ by used. refused_keeps act (Busy by) n ps activity changes later inv (window_by found (Refused (Busy by)) m n to (λ t e free. absurd (used_not (user m ns) (ap is_some used) (of t e free)))) refl)
-    (λ free. check_keeps act n ps activity changes (is_none found) (NoSchedule ns) taken done
-    (λ none. refused_keeps act (NoSchedule ns) n ps activity changes later inv (window_by found (Refused (NoSchedule ns)) m n to (λ t e unused. absurd (there_not found t e none))) refl)
-    (λ scheduled. name_keeps act n ps activity changes (named m target) NameTaken many done
-    (λ by b. refused_keeps act (NameTaken by) n ps activity changes later inv (window_by found (Refused (NameTaken by)) m n to (λ t e unused. tt)) refl)
-    (λ unnamed. check_keeps act n ps activity changes (eqb (count_namespaces m) most_namespaces) (TooMany most_namespaces) early done
-    (λ b. refused_keeps act (TooMany most_namespaces) n ps activity changes later inv (window_by found (Refused (TooMany most_namespaces)) m n to (λ t e unused. tt)) refl)
-    (λ few. check_keeps act n ps activity changes (ltb to (low s n)) (TooEarly (low s n)) future done
-    (λ l. refused_keeps act (TooEarly (low s n)) n ps activity changes later inv (window_by found (Refused (TooEarly (low s n))) m n to
-    (λ t e unused. let is = the_is found t e in (ap (λ k. low k n) is, ltb-true to (low s n) l))) refl)
-    (λ l. check_keeps act n ps activity changes (leb n to) (Future n) full done
-    (λ g. refused_keeps act (Future n) n ps activity changes later inv (window_by found (Refused (Future n)) m n to
-    (λ t e unused. (refl, (subst (λ k. low k n ≤ to) (the_is found t e) (at_least to (low s n) l), leb-true n to g)))) refl)
-    (λ g. check_keeps act n ps activity changes (ltb free_ needed) (SlotsFull free_ needed) [] done
-    (λ f. refused_keeps act (SlotsFull free_ needed) n ps activity changes later inv (window_by found (Refused (SlotsFull free_ needed)) m n to
-    (λ t e unused. (subst (λ k. low k n ≤ to) (the_is found t e) (at_least to (low s n) l), below n to g))) refl)
+    step_names P (named m target) NameTaken many (λ by taken. refuse (NameTaken by) tt)
+    (λ unnamed. step_if P (eqb (count_namespaces m) most_namespaces) (TooMany most_namespaces) early (λ _. refuse (TooMany most_namespaces) tt)
+    (λ few. step_if P (ltb to (low s n)) (TooEarly (low s n)) future (λ l. refuse (TooEarly (low s n)) (refl, ltb-true to (low s n) l))
+    (λ l. step_if P (leb n to) (Future n) full (λ g. refuse (Future n) (refl, (at_least to (low s n) l, leb-true n to g)))
+    (λ g. step_if P (ltb free_ needed) (SlotsFull free_ needed) [] (λ f. refuse (SlotsFull free_ needed) (at_least to (low s n) l, below n to g))
     (λ enough.
-    let current = named_is m.catalog.namespaces source ns (some_is named_ no_id some) in
-    let may : MayClone m ns s target to n = record {
-      drawn = subst (λ i. i.number ≤ m.drawn.namespaces) current.id_is (inv.master.namespaces.drawn_before current.record_ current.listed);
-      scheduled = some_is found no_schedule scheduled;
-      free = not_used m ns (ap is_some free);
+    let is = schedule_of_is m.schedules ns s scheduled_ in
+    let current = named_is m.catalog.namespaces source ns named_ in
+    let drawn : ns.number ≤ m.drawn.namespaces = subst (λ i. i.number ≤ m.drawn.namespaces) current.id_is (inv.master.namespaces.drawn_before current.record_ current.listed) in
+    let may : MayClone m s.namespace s target to n = record {
+      drawn = subst (λ i. i.number ≤ m.drawn.namespaces) (sym is.1) drawn;
+      scheduled = ap (schedule_of m.schedules) is.1 ∙ scheduled_;
+      free = not_used m s.namespace (ap is_some (ap (user m) is.1 ∙ unused));
       unnamed = ap is_some unnamed;
       from = at_least to (low s n) l;
       before = below n to g;
       enough = at_least free_ needed enough;
     } in
-    alone_keeps act done n ps activity activity changes changes (clone_begun ns source target to n m) refl refl refl refl
-    (window_by found (Ok (next_clone m ∷ [])) m n to (λ t e unused. (subst (λ k. low k n ≤ to) (the_is found t e) (at_least to (low s n) l), below n to g))) refl
-    (begun_keeps ps activity changes ns s source target to n (le_of_lt before) may counted inv)))))))))
+    alone_keeps act (accepted source target at n m s) n ps activity activity changes changes (clone_begun s.namespace source target to n m) refl refl refl refl
+    (right (Ok (next_clone m ∷ [])) (at_least to (low s n) l, below n to g)) refl
+    (begun_keeps ps activity changes s.namespace s source target to n (le_of_lt before) may counted inv))))))
+
+-- by the source's namespace, and whether it has a schedule
+source_keeps : (ns : Option Id) (ps : Parts) (activity : List Interval) (changes : List Made) (n : ℕ) (source target : List ℕ) (at : Option ℕ) → Later (0 ∷ []) ps n → CountedIn ps.master activity
+    → namespace_named ps.master.catalog.namespaces source ≡ ns → Inv ps activity changes
+    → KeepsAll (Change (CloneNamespace source target at) []) n ps activity changes
+    (decided (checked (scheduled (checked (ok_or ns UnknownNamespace) (λ ns. unused_checks ns ps.master)) ps.master) (λ s. clone_checks s target (clone_time at n) n ps.master)) (accepted source target at n ps.master))
+source_keeps None ps activity changes n source target at later counted e inv =
+    let m = ps.master in
+    refused_keeps (Change (CloneNamespace source target at) []) UnknownNamespace n ps activity changes later inv
+    (window_of (schedule_named m source) None (Refused UnknownNamespace) m n (clone_time at n) (ap (option_and_then (schedule_of m.schedules)) e) tt) refl
+source_keeps (Some ns) ps activity changes n source target at later counted e inv =
+    let m = ps.master in
+    let act = Change (CloneNamespace source target at) [] in
+    let to = clone_time at n in
+    let P : Option Refusal → Type 0 = λ why. KeepsAll act n ps activity changes (decided (checked (scheduled (either why ns) m) (λ s. clone_checks s target to n m)) (accepted source target at n m)) in
+    step_names P (user m ns) Busy []
+    (λ by used. refused_keeps act (Busy by) n ps activity changes later inv
+    (window_of (schedule_named m source) (schedule_of m.schedules ns) (Refused (Busy by)) m n to (ap (option_and_then (schedule_of m.schedules)) e) (window_used (schedule_of m.schedules ns) ns by m n to refl used)) refl)
+    (λ unused. by_schedule (schedule_of m.schedules ns) refl unused)
   where
-    unknown : (o : Option Id) → is_none o ≡ true → known o ≡ no_id
-    unknown None e = refl
-    unknown (Some id) e = absurd (true≢false (sym e))
+    by_schedule : (found : Option Schedule) → schedule_of ps.master.schedules ns ≡ found → user ps.master ns ≡ None
+        → KeepsAll (Change (CloneNamespace source target at) []) n ps activity changes
+        (decided (checked (ok_or found (NoSchedule ns)) (λ s. clone_checks s target (clone_time at n) n ps.master)) (accepted source target at n ps.master))
+    by_schedule None is unused = refused_keeps (Change (CloneNamespace source target at) []) (NoSchedule ns) n ps activity changes later inv
+        (window_of (schedule_named ps.master source) None (Refused (NoSchedule ns)) ps.master n (clone_time at n) (ap (option_and_then (schedule_of ps.master.schedules)) e ∙ is) tt) refl
+    by_schedule (Some s) is unused = scheduled_keeps s ns ps activity changes n source target at later counted e is unused inv
+
+-- where the master counts intervals as all activity does
+pub clone_namespace_keeps : (ps : Parts) (activity : List Interval) (changes : List Made) (n : ℕ) (source target : List ℕ) (at : Option ℕ) (slots : List ℕ) → Later (0 ∷ slots) ps n → same_slots slots [] ≡ true
+    → CountedIn ps.master activity → Inv ps activity changes → KeepsAll (Change (CloneNamespace source target at) slots) n ps activity changes (clone_namespace source target at n ps.master)
+unfolding clone_namespace
+clone_namespace_keeps ps activity changes n source target at (slot ∷ slots) later plan counted inv = absurd (true≢false (sym plan))
+clone_namespace_keeps ps activity changes n source target at [] later plan counted inv = source_keeps (namespace_named ps.master.catalog.namespaces source) ps activity changes n source target at later counted refl inv

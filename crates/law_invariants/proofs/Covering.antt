@@ -8,10 +8,9 @@ use Rattle.row_values.specs.Ids.{Id, same}
 use Rattle.row_values.specs.Elements.{In}
 use Rattle.model.specs.Activity.{Interval, end_table_tablets}
 use Rattle.model.specs.Stands.{holders}
-use Rattle.model.specs.Changed.{shares, next_table}
+use Rattle.model.specs.Changed.{shares}
 use Rattle.row_values.specs.Schema.{Column}
 use Rattle.model.specs.Journal.{Change, TableMade, TableDropped, table_at}
-use Rattle.model.specs.Parts.{Master}
 use Rattle.model.specs.History.{with}
 use Rattle.law_store.proofs.Keys.{either_way}
 use Rattle.law_invariants.specs.Invariant.{Covered}
@@ -27,23 +26,22 @@ quiet_covers activity changes new quiet h = record {
 }
 
 -- where a table is made that had no tablet and was never in the view, and the codes are shared out among its tablets
-pub made_covers : (activity : List Interval) (changes : List Change) (slots : List ℕ) (tablets n : ℕ) (m : Master) (ns : Id) (name : List ℕ) (columns : List Column) → 0 < tablets → length slots ≡ tablets
-    → ((i : Interval) → In i activity → same i.table (next_table m) ≡ false) → ((x : ℕ) → is_some (table_at changes x (next_table m)) ≡ false) → Covered activity changes
-    → Covered (activity ++ shares slots 0 tablets n m) (with n (TableMade (next_table m) ns name columns) changes)
-made_covers activity changes slots tablets n m ns name columns pos long apart unmade h =
-    let id = next_table m in
+pub made_covers : (activity : List Interval) (changes : List Change) (slots : List ℕ) (tablets n : ℕ) (drawn : ℕ) (id : Id) (ns : Id) (name : List ℕ) (columns : List Column) → 0 < tablets → length slots ≡ tablets
+    → ((i : Interval) → In i activity → same i.table id ≡ false) → ((x : ℕ) → is_some (table_at changes x id) ≡ false) → Covered activity changes
+    → Covered (activity ++ shares slots 0 tablets n drawn id) (with n (TableMade id ns name columns) changes)
+made_covers activity changes slots tablets n drawn id ns name columns pos long apart unmade h =
     let new = with n (TableMade id ns name columns) changes in
-    let both : (table : Id) (code x : ℕ) → holders (activity ++ shares slots 0 tablets n m) table code x ≡ holders activity table code x + holders (shares slots 0 tablets n m) table code x =
-    λ table code x. holders_append activity (shares slots 0 tablets n m) table code x in
-    let others : (table : Id) (code x : ℕ) → same id table ≡ false → holders (activity ++ shares slots 0 tablets n m) table code x ≡ holders activity table code x =
-    λ table code x e. (let b = both table code x in let z = shares_others slots 0 tablets n m table code x e in omega arith) in
-    let before : (table : Id) (code x : ℕ) → x < n → holders (activity ++ shares slots 0 tablets n m) table code x ≡ holders activity table code x =
-    λ table code x l. (let b = both table code x in let z = shares_early slots 0 tablets n m table code x l in omega arith) in
-    let mine : (code x : ℕ) → code < 65536 → n ≤ x → holders (activity ++ shares slots 0 tablets n m) id code x ≡ 1 =
+    let both : (table : Id) (code x : ℕ) → holders (activity ++ shares slots 0 tablets n drawn id) table code x ≡ holders activity table code x + holders (shares slots 0 tablets n drawn id) table code x =
+    λ table code x. holders_append activity (shares slots 0 tablets n drawn id) table code x in
+    let others : (table : Id) (code x : ℕ) → same id table ≡ false → holders (activity ++ shares slots 0 tablets n drawn id) table code x ≡ holders activity table code x =
+    λ table code x e. (let b = both table code x in let z = shares_others slots 0 tablets n drawn id table code x e in omega arith) in
+    let before : (table : Id) (code x : ℕ) → x < n → holders (activity ++ shares slots 0 tablets n drawn id) table code x ≡ holders activity table code x =
+    λ table code x l. (let b = both table code x in let z = shares_early slots 0 tablets n drawn id table code x l in omega arith) in
+    let mine : (code x : ℕ) → code < 65536 → n ≤ x → holders (activity ++ shares slots 0 tablets n drawn id) id code x ≡ 1 =
     λ code x small late. (
     let b = both id code x in
     let z = none_hold activity id code x apart in
-    let s = shares_hold slots 0 tablets n m code x pos (omega (arith, long)) small late in
+    let s = shares_hold slots 0 tablets n drawn id code x pos (omega (arith, long)) small late in
     let low : 0 * 65536 / tablets ≤ 0 = div-le_self (0 * 65536) tablets in
     let is : leb (0 * 65536 / tablets) code ≡ true = grind (arith, nat_tests) in
     let o : one (leb (0 * 65536 / tablets) code) ≡ 1 = ap one is in
@@ -51,13 +49,13 @@ made_covers activity changes slots tablets n m ns name columns pos long apart un
     record {
       once = λ table code x small. either_way (same id table)
           (λ e. either_way (leb n x)
-          (λ l. let q : holders (activity ++ shares slots 0 tablets n m) table code x ≡ 1 =
-          subst (λ t. holders (activity ++ shares slots 0 tablets n m) t code x ≡ 1) (same_equal id table e) (mine code x small (leb-true n x l)) in omega arith)
+          (λ l. let q : holders (activity ++ shares slots 0 tablets n drawn id) table code x ≡ 1 =
+          subst (λ t. holders (activity ++ shares slots 0 tablets n drawn id) t code x ≡ 1) (same_equal id table e) (mine code x small (leb-true n x l)) in omega arith)
           (λ l. let q = before table code x (let k : x < n = grind (arith, nat_tests) in k) in let o = h.once table code x small in omega arith))
           (λ e. let q = others table code x e in let o = h.once table code x small in omega arith);
       whole = λ table code x small is. either_way (same id table)
           (λ e. either_way (leb n x)
-          (λ l. subst (λ t. holders (activity ++ shares slots 0 tablets n m) t code x ≡ 1) (same_equal id table e) (mine code x small (leb-true n x l)))
+          (λ l. subst (λ t. holders (activity ++ shares slots 0 tablets n drawn id) t code x ≡ 1) (same_equal id table e) (mine code x small (leb-true n x l)))
           (λ l. let k : x < n = grind (arith, nat_tests) in
           let was : is_some (table_at changes x table) ≡ true = ap is_some (sym (made_before n id ns name columns changes x table k)) ∙ is in
           absurd (true≢false (sym was ∙ ap (λ t. is_some (table_at changes x t)) (sym (same_equal id table e)) ∙ unmade x))))

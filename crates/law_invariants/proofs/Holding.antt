@@ -10,8 +10,7 @@ use Rattle.model.specs.Times.{before_end, ended}
 use Rattle.row_values.specs.Ranges.{in_range}
 use Rattle.model.specs.Activity.{Interval, active_at, end_table_tablets}
 use Rattle.model.specs.Stands.{holders}
-use Rattle.model.specs.Changed.{begins, shares, next_table, next_tablet}
-use Rattle.model.specs.Parts.{Master}
+use Rattle.model.specs.Changed.{begins, shares, next_tablet}
 use Rattle.law_store.proofs.Keys.{either_way}
 use Rattle.law_invariants.proofs.Overlap.{holds}
 use Rattle.law_invariants.proofs.Finding.{same_equal, same_self, first_fails}
@@ -81,26 +80,26 @@ ended_others (i ∷ is) gone n table code x apart =
 
 -- The tablets of a new table
 
-pub shares_early : (slots : List ℕ) (place count n : ℕ) (m : Master) (table : Id) (code x : ℕ) → x < n → holders (shares slots place count n m) table code x ≡ 0
-shares_early [] place count n m table code x l = refl
-shares_early (slot ∷ slots) place count n m table code x l =
-    let rest = shares_early slots (place + 1) count n m table code x l in
+pub shares_early : (slots : List ℕ) (place count n : ℕ) (drawn : ℕ) (made : Id) (table : Id) (code x : ℕ) → x < n → holders (shares slots place count n drawn made) table code x ≡ 0
+shares_early [] place count n drawn made table code x l = refl
+shares_early (slot ∷ slots) place count n drawn made table code x l =
+    let rest = shares_early slots (place + 1) count n drawn made table code x l in
     let late : leb n x ≡ false = grind (arith, nat_tests) in
     let low = place * 65536 / count in
     let high = (place + 1) * 65536 / count in
-    let here : one (same (next_table m) table && ((leb n x && true) && in_range low high code)) ≡ 0 =
-    ap (λ b. one (same (next_table m) table && ((b && true) && in_range low high code))) late ∙ ap one (off (same (next_table m) table)) in
+    let here : one (same made table && ((leb n x && true) && in_range low high code)) ≡ 0 =
+    ap (λ b. one (same made table && ((b && true) && in_range low high code))) late ∙ ap one (off (same made table)) in
     omega arith
   where
     off : (a : Bool) → (a && false) ≡ false
     off true = refl
     off false = refl
 
-pub shares_others : (slots : List ℕ) (place count n : ℕ) (m : Master) (table : Id) (code x : ℕ) → same (next_table m) table ≡ false → holders (shares slots place count n m) table code x ≡ 0
-shares_others [] place count n m table code x apart = refl
-shares_others (slot ∷ slots) place count n m table code x apart =
-    let rest = shares_others slots (place + 1) count n m table code x apart in
-    let here : one (holds (begins slot (next_tablet m (place + 1)) (next_table m) (place * 65536 / count) ((place + 1) * 65536 / count) n) table code x) ≡ 0 = ap one (first_fails _ _ apart) in
+pub shares_others : (slots : List ℕ) (place count n : ℕ) (drawn : ℕ) (made : Id) (table : Id) (code x : ℕ) → same made table ≡ false → holders (shares slots place count n drawn made) table code x ≡ 0
+shares_others [] place count n drawn made table code x apart = refl
+shares_others (slot ∷ slots) place count n drawn made table code x apart =
+    let rest = shares_others slots (place + 1) count n drawn made table code x apart in
+    let here : one (holds (begins slot (next_tablet drawn (place + 1)) made (place * 65536 / count) ((place + 1) * 65536 / count) n) table code x) ≡ 0 = ap one (first_fails _ _ apart) in
     omega arith
 
 div_up : (a b k : ℕ) → 0 < k → a ≤ b → a / k ≤ b / k
@@ -110,19 +109,19 @@ div_up a b k pos le = le-div (a / k) b k pos (le_trans (div-mul-le_self a k) le)
 parts : (low high code : ℕ) → low ≤ high → one (in_range low high code) + one (leb high code) ≡ one (leb low code)
 parts low high code le = grind (arith, nat_tests)
 
-pub shares_hold : (slots : List ℕ) (place count n : ℕ) (m : Master) (code x : ℕ) → 0 < count → length slots + place ≡ count → code < 65536 → n ≤ x
-    → holders (shares slots place count n m) (next_table m) code x ≡ one (leb (place * 65536 / count) code)
-shares_hold [] place count n m code x pos places small late =
+pub shares_hold : (slots : List ℕ) (place count n : ℕ) (drawn : ℕ) (made : Id) (code x : ℕ) → 0 < count → length slots + place ≡ count → code < 65536 → n ≤ x
+    → holders (shares slots place count n drawn made) made code x ≡ one (leb (place * 65536 / count) code)
+shares_hold [] place count n drawn made code x pos places small late =
     let all : place * 65536 / count ≡ 65536 = ap (λ p. p * 65536 / count) (let e : place ≡ count = omega arith in e) ∙ (ap (λ p. p / count) (let e : count * 65536 ≡ 65536 * count = omega arith in e) ∙ mul-div_cancel 65536 pos) in
     let l : leb (place * 65536 / count) code ≡ false = ap (λ p. leb p code) all ∙ (let q : leb 65536 code ≡ false = grind (arith, nat_tests) in q) in
     sym (ap one l)
-shares_hold (slot ∷ slots) place count n m code x pos places small late =
-    let rest = shares_hold slots (place + 1) count n m code x pos (omega (arith, places)) small late in
+shares_hold (slot ∷ slots) place count n drawn made code x pos places small late =
+    let rest = shares_hold slots (place + 1) count n drawn made code x pos (omega (arith, places)) small late in
     let low = place * 65536 / count in
     let high = (place + 1) * 65536 / count in
     let up : low ≤ high = div_up (place * 65536) ((place + 1) * 65536) count pos (omega arith) in
     let begun : leb n x ≡ true = grind (arith, nat_tests) in
-    let here : one (same (next_table m) (next_table m) && ((leb n x && true) && in_range low high code)) ≡ one (in_range low high code) =
-    ap (λ b. one (b && ((leb n x && true) && in_range low high code))) (same_self (next_table m)) ∙ ap (λ b. one ((b && true) && in_range low high code)) begun in
+    let here : one (same made made && ((leb n x && true) && in_range low high code)) ≡ one (in_range low high code) =
+    ap (λ b. one (b && ((leb n x && true) && in_range low high code))) (same_self made) ∙ ap (λ b. one ((b && true) && in_range low high code)) begun in
     let sum = parts low high code up in
     omega arith

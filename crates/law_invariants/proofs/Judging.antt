@@ -1,9 +1,11 @@
 -- What holds of a judgement, by the refusals that come.
-use Rattle.std.proofs.Common.{◌≡◌, Bool, true, false, List, ◌∷◌, Option, Some, None, refl}
-use Rattle.std.specs.Option.{option_map}
+use Rattle.std.proofs.Common.{◌≡◌, Bool, true, false, List, [], ◌∷◌, Option, Some, None, refl, ap, subst}
+use Rattle.std.specs.Prelude.{Result, Ok, Err}
+use Rattle.std.specs.Option.{option_map, ok_or}
 use Rattle.row_values.specs.Ids.{Id}
 use Rattle.model.specs.Acts.{Refusal}
-use Rattle.model.specs.Parts.{Check, If, Names, Fault, refusal_in}
+use Rattle.model.specs.Parts.{Check, If, Names, Fault, refusal_in, either, checked, and_found}
+use Rattle.law_invariants.specs.Invariant.{Passes}
 
 -- One refusal after the other: where it comes, and where it doesn't
 
@@ -27,3 +29,31 @@ pub step_found : {A : Type 0} (P : Option Refusal → Type 0) (found : Option A)
     → (found ≡ None → P (refusal_in checks)) → P (refusal_in (Fault (option_map why found) ∷ checks))
 step_found P (Some a) why checks it goes = it a refl
 step_found P None why checks it goes = goes refl
+
+-- What a judgement found
+
+pub found_is : {A : Type 0} (o : Option A) (why : Refusal) (a : A) → ok_or o why ≡ Ok a → o ≡ Some a
+found_is None why a e = cc
+found_is (Some b) why a e = cc
+
+pub and_found_is : {A B : Type 0} (j : Result A Refusal) (look : A → Option B) (why : Refusal) (b : B) → and_found j look why ≡ Ok b → (a : A) × ((j ≡ Ok a) × (look a ≡ Some b))
+and_found_is (Err other) look why b e = cc
+and_found_is (Ok a) look why b e = (a, (refl, found_is (look a) why b e))
+
+passes_none : (checks : List Check) → refusal_in checks ≡ None → Passes checks
+passes_none [] e = tt
+passes_none (If true why ∷ checks) e = cc
+passes_none (If false why ∷ checks) e = (refl, passes_none checks e)
+passes_none (Names (Some id) why ∷ checks) e = cc
+passes_none (Names None why ∷ checks) e = (refl, passes_none checks e)
+passes_none (Fault (Some why) ∷ checks) e = cc
+passes_none (Fault None ∷ checks) e = (refl, passes_none checks e)
+
+either_is : {A : Type 0} (why : Option Refusal) (a b : A) → either why a ≡ Ok b → (why ≡ None) × (a ≡ b)
+either_is (Some why) a b e = cc
+either_is None a b e = (refl, cc)
+
+-- and no check of it comes
+pub checked_is : {A : Type 0} (j : Result A Refusal) (checks : A → List Check) (a : A) → checked j checks ≡ Ok a → (j ≡ Ok a) × Passes (checks a)
+checked_is (Err why) checks a e = cc
+checked_is (Ok b) checks a e = let r = either_is (refusal_in (checks b)) b a e in (ap Ok r.1, subst (λ k. Passes (checks k)) r.1 (passes_none (checks b) r.0))

@@ -1,23 +1,24 @@
 -- What the looks for keys and for a table answer is right.
-use Rattle.std.proofs.Common.{ℕ, ◌≡◌, ◌<◌, ◌≤◌, true, false, List, [], ◌∷◌, map, Option, Some, None, refl, sym, ap, subst, ◌∙◌, le_trans, le_of_lt}
-use Rattle.std.specs.Option.{option_map, is_some, is_none, option_or, option_to_list}
+use Rattle.std.proofs.Common.{ℕ, ◌≡◌, ◌<◌, ◌≤◌, true, false, List, [], ◌∷◌, Option, Some, None, refl, sym, ap, subst, ◌∙◌, le_trans, le_of_lt, Result, Ok, Err, ok_or}
+use Rattle.std.specs.Option.{option_map, is_some, option_or, option_to_list}
 use Rattle.std.proofs.lemmas.Bool.{ltb-false, cond_both}
-use Rattle.row_values.specs.Ids.{Id, no_id}
+use Rattle.row_values.specs.Ids.{Id}
 use Rattle.row_values.specs.Elements.{In}
 use Rattle.model.specs.Times.{holds_at, time_of, is_future, is_below}
 use Rattle.row_values.specs.Schema.{Column, column_named, is_of_kind}
 use Rattle.model.specs.Catalog.{TableRecord, namespace_named, name_of, table_named, current_named, current_table, kept_from}
 use Rattle.model.specs.Restored.{record_at}
 use Rattle.model.specs.Journal.{Change, namespace_at, table_at}
-use Rattle.model.specs.Looks as looks
-use Rattle.model.specs.Looks.{holding, first_code, other_code, place_of, known, the_table, table_asked, if_current, value_fault, cells_fault, op_fault, batch_fault, look_keys, look_table}
-use Rattle.model.specs.Acts.{NamedCell, NamedOp, NamedUpsert, NamedDelete, NamedItem, Refusal, UnknownNamespace, UnknownTable, UnknownColumn, WrongKind, CrossTablet, Future, TooOld, Placed, Refused}
-use Rattle.model.specs.Parts.{Master, Check, If, Fault, Outcome, unless, judged, answered}
+use Rattle.model.specs.Looks.{holding, active_in, first_code, other_code, placed, found_at, table_asked, if_current, value_fault, cells_fault, op_fault, batch_fault, look_keys, look_table}
+use Rattle.model.specs.Acts.{NamedCell, NamedOp, NamedUpsert, NamedDelete, NamedItem, Refusal, UnknownNamespace, UnknownTable, UnknownColumn, WrongKind, CrossTablet, Future, TooOld, Refused}
+use Rattle.model.specs.Parts.{Master, Check, If, Fault, Outcome, either, checked, and_found, decided}
+use Rattle.model.specs.Activity.{Interval}
+use Rattle.model.specs.Lists.{by_range}
 use Rattle.model.specs.Right.{NamespaceFound, TableFound, LookReplyRight}
 use Rattle.law_store.proofs.Keys.{either_way}
 use Rattle.law_invariants.specs.Invariant.{NamespacesStand, TablesStand, MasterGood, view_of, view_at}
 use Rattle.law_invariants.proofs.Judging.{step_if, step_fault, step_found}
-use Rattle.law_invariants.proofs.Finding.{none_or_some, none_is, some_is}
+use Rattle.law_invariants.proofs.Finding.{none_or_some}
 use Rattle.law_invariants.proofs.Names.{named_by_name, name_by_named}
 use Rattle.law_invariants.proofs.Records.{current_named_at, current_table_at, table_named_is, record_at_is, IsNamedAt}
 
@@ -179,70 +180,68 @@ fault_right changes x n namespace table batch f _ kind is = absurd kind
 
 -- Looks
 
--- the four refusals that both looks begin with, before what follows
-opening : (m : Master) (namespace table : List ℕ) (at : Option ℕ) (n : ℕ) → List Check → List Check
-opening m namespace table at n checks =
-    let ns = namespace_named m.catalog.namespaces namespace in
-    let from = kept_from m.catalog.kept_from (known ns) in
-    If (is_none ns) UnknownNamespace
-    ∷ If (is_future at n) (Future n)
-    ∷ If (is_below at from) (TooOld (time_of at n) from)
-    ∷ If (is_none (table_asked m.catalog.tables (known ns) table at)) UnknownTable
-    ∷ checks
+-- the table of a look, where this namespace is found
+abbrev at_namespace : Option Id → List ℕ → Option ℕ → ℕ → Master → Result TableRecord Refusal
+at_namespace ns table at n m =
+    let kept : Id → ℕ = kept_from m.catalog.kept_from in
+    and_found
+    (checked (ok_or ns UnknownNamespace) (λ ns. If (is_future at n) (Future n) ∷ If (is_below at (kept ns)) (TooOld (time_of at n) (kept ns)) ∷ []))
+    (λ ns. table_asked m.catalog.tables ns table at) UnknownTable
 
-opening_right : (m : Master) (n : ℕ) (changes : List Change) (namespace table : List ℕ) (at : Option ℕ) (batch : List NamedItem) (checks : List Check) (o : Outcome) → IsAsked m n changes
-    → ((f : TableFound changes (time_of at n) n namespace table) → f.view ≡ view_of (the_table (table_asked m.catalog.tables (known (namespace_named m.catalog.namespaces namespace)) table at))
-    → LookReplyRight (judged checks o).reply changes (time_of at n) n namespace table batch)
-    → LookReplyRight (judged (opening m namespace table at n checks) o).reply changes (time_of at n) n namespace table batch
-unfolding opening
-opening_right m n changes namespace table at batch checks o h rest =
-    let ns = namespace_named m.catalog.namespaces namespace in
-    let from = kept_from m.catalog.kept_from (known ns) in
-    let found = table_asked m.catalog.tables (known ns) table at in
-    let P : Option Refusal → Type 0 = λ why. LookReplyRight (unless why o).reply changes (time_of at n) n namespace table batch in
-    let fourth : List Check = If (is_none found) UnknownTable ∷ checks in
-    let third : List Check = If (is_below at from) (TooOld (time_of at n) from) ∷ fourth in
-    step_if P (is_none ns) UnknownNamespace (If (is_future at n) (Future n) ∷ third)
-    (λ none. no_namespace m n changes namespace h (none_is ns none))
-    (λ some.
-    let named : ns ≡ Some (known ns) = some_is ns no_id some in
-    let here : NamespaceFound changes n namespace = record { id = known ns; named = namespace_found m n changes namespace (known ns) h named } in
-    step_if P (is_future at n) (Future n) third (λ _. here)
-    (λ _. step_if P (is_below at from) (TooOld (time_of at n) from) fourth (λ _. here)
-    (λ below.
-    let kept = asked_kept m n changes (known ns) at h below in
-    step_if P (is_none found) UnknownTable checks
-    (λ none. (here, no_table m n changes namespace table (known ns) at h named kept (none_is found none)))
-    (λ there.
-    let is : found ≡ Some (the_table found) = some_is found looks.no_table there in
-    let seen = view_found m n (time_of at n) changes namespace table (known ns) (the_table found) h named kept (table_found m n changes (known ns) table at (the_table found) h is) in
-    rest seen.0 seen.1.0))))
+-- a look is refused rightly, or finds the table that the view has
+pub found_at_right : (P : Result TableRecord Refusal → Type 0) (m : Master) (n : ℕ) (changes : List Change) (namespace table : List ℕ) (at : Option ℕ) (batch : List NamedItem) → IsAsked m n changes
+    → ((why : Refusal) → LookReplyRight (Refused why) changes (time_of at n) n namespace table batch → P (Err why))
+    → ((t : TableRecord) (f : TableFound changes (time_of at n) n namespace table) → f.view ≡ view_of t → f.id ≡ t.id → P (Ok t))
+    → P (found_at namespace table at n m)
+found_at_right P m n changes namespace table at batch h no_ yes_ = by_namespace (namespace_named m.catalog.namespaces namespace) refl
+  where
+    by_table : (ns : Id) (found : Option TableRecord) → namespace_named m.catalog.namespaces namespace ≡ Some ns → is_below at (kept_from m.catalog.kept_from ns) ≡ false
+        → table_asked m.catalog.tables ns table at ≡ found → P (ok_or found UnknownTable)
+    by_table ns None named below e =
+        let kept = asked_kept m n changes ns at h below in
+        no_ UnknownTable (record { id = ns; named = namespace_found m n changes namespace ns h named }, no_table m n changes namespace table ns at h named kept e)
+    by_table ns (Some t) named below e =
+        let kept = asked_kept m n changes ns at h below in
+        let seen = view_found m n (time_of at n) changes namespace table ns t h named kept (table_found m n changes ns table at t h e) in
+        yes_ t seen.0 seen.1.0 seen.1.1
+
+    by_namespace : (ns : Option Id) → namespace_named m.catalog.namespaces namespace ≡ ns → P (at_namespace ns table at n m)
+    by_namespace None e = no_ UnknownNamespace (no_namespace m n changes namespace h e)
+    by_namespace (Some ns) e =
+        let from = kept_from m.catalog.kept_from ns in
+        let here : NamespaceFound changes n namespace = record { id = ns; named = namespace_found m n changes namespace ns h e } in
+        let Q : Option Refusal → Type 0 = λ why. P (and_found (either why ns) (λ ns. table_asked m.catalog.tables ns table at) UnknownTable) in
+        step_if Q (is_future at n) (Future n) (If (is_below at from) (TooOld (time_of at n) from) ∷ []) (λ _. no_ (Future n) here)
+        (λ _. step_if Q (is_below at from) (TooOld (time_of at n) from) [] (λ _. no_ (TooOld (time_of at n) from) here)
+        (λ below. by_table ns (table_asked m.catalog.tables ns table at) e below refl))
 
 -- the look for all tablets of a table
 pub look_table_right : (m : Master) (n : ℕ) (changes : List Change) (namespace table : List ℕ) (at : Option ℕ) → IsAsked m n changes
     → LookReplyRight (look_table namespace table at n m).reply changes (time_of at n) n namespace table []
-unfolding look_table opening
+unfolding look_table
 look_table_right m n changes namespace table at h =
-    opening_right m n changes namespace table at [] [] _ h (λ f is. record { found = f; columns_are = ap (λ v. v.columns) (sym is); judged = refl })
+    let P : Result TableRecord Refusal → Type 0 = λ j. LookReplyRight (decided j (λ t. placed (by_range (active_in m t.id)) t)).reply changes (time_of at n) n namespace table [] in
+    found_at_right P m n changes namespace table at [] h (λ why right. right) (λ t f is here. record { found = f; columns_are = ap (λ v. v.columns) (sym is); judged = refl })
 
 -- the look for the tablet of the keys of a batch
 pub look_keys_right : (m : Master) (n : ℕ) (changes : List Change) (namespace table : List ℕ) (batch : List NamedItem) (at : Option ℕ) → IsAsked m n changes
     → LookReplyRight (look_keys namespace table batch at n m).reply changes (time_of at n) n namespace table batch
-unfolding look_keys opening
+unfolding look_keys
 look_keys_right m n changes namespace table batch at h =
-    let t = the_table (table_asked m.catalog.tables (known (namespace_named m.catalog.namespaces namespace)) table at) in
+    let first = first_code batch in
+    let home : TableRecord → Option Interval = λ t. holding m t.id first in
+    let last : TableRecord → List Check = λ t. Fault (option_map (CrossTablet first) (other_code (home t) batch)) ∷ [] in
+    let go : TableRecord → Outcome = λ t. placed (option_to_list (home t)) t in
+    let P : Result TableRecord Refusal → Type 0 = λ j. LookReplyRight (decided (checked j (λ t. Fault (batch_fault t.schema.columns batch) ∷ last t)) go).reply changes (time_of at n) n namespace table batch in
+    found_at_right P m n changes namespace table at batch h (λ why right. right)
+    (λ t f is here.
     let fault = batch_fault t.schema.columns batch in
-    let home = holding m t.id (first_code batch) in
-    let o = answered (Placed (map place_of (option_to_list home)) t.schema.version t.schema.columns) in
-    let P : Option Refusal → Type 0 = λ why. LookReplyRight (unless why o).reply changes (time_of at n) n namespace table batch in
-    let last : List Check = Fault (option_map (CrossTablet (first_code batch)) (other_code home batch)) ∷ [] in
-    opening_right m n changes namespace table at batch (Fault fault ∷ last) o h
-    (λ f is.
     let same_fault : batch_fault f.view.columns batch ≡ fault = ap (λ v. batch_fault v.columns batch) is in
-    step_fault P fault last
+    let Q : Option Refusal → Type 0 = λ why. LookReplyRight (decided (either why t) go).reply changes (time_of at n) n namespace table batch in
+    step_fault Q fault (last t)
     (λ why some. fault_right changes (time_of at n) n namespace table batch f why (subst IsColumnFault some (batch_faults t.schema.columns batch)) (same_fault ∙ some))
     (λ none.
     let fine : batch_fault f.view.columns batch ≡ None = same_fault ∙ none in
-    step_found P (other_code home batch) (CrossTablet (first_code batch)) []
+    step_found Q (other_code (home t) batch) (CrossTablet first) []
     (λ _ _. record { found = f; columns_are = tt; judged = fine })
     (λ _. record { found = f; columns_are = ap (λ v. v.columns) (sym is); judged = fine })))

@@ -1,13 +1,11 @@
 -- What has records in the catalog keeps a mark of how far it is kept.
-use Rattle.std.proofs.Common.{ℕ, ◌≡◌, List, [], ◌∷◌, ◌++◌, Option, Some, None, true, false, cond, ◌||◌, refl, sym, ap, ◌∙◌, max}
-use Rattle.std.specs.Option.{is_none}
+use Rattle.std.proofs.Common.{ℕ, ◌≡◌, List, [], ◌∷◌, ◌++◌, Some, None, true, false, cond, ◌||◌, sym, ap, ◌∙◌, max}
 use Rattle.std.proofs.lemmas.Bool.{cond_both, true≢false}
 use Rattle.row_values.specs.Ids.{Id, same}
 use Rattle.row_values.specs.Elements.{In}
 use Rattle.model.specs.Times.{ended}
 use Rattle.row_values.specs.Schema.{Schema}
 use Rattle.model.specs.Catalog.{Catalog, NamespaceRecord, TableRecord, KeptFrom, Owner, namespace_named, set_kept_from, end_namespace, end_table, change_table}
-use Rattle.model.specs.Looks.{known}
 use Rattle.law_store.proofs.Keys.{either_way}
 use Rattle.law_invariants.specs.Invariant.{is_marked, MarksStand}
 use Rattle.law_invariants.proofs.Finding.{either_passes, in_added, in_mapped, same_equal, same_self}
@@ -29,12 +27,8 @@ marked_stays (k ∷ ks) ns from id h = cond_both (same k.namespace ns) (record {
     (λ is. either_passes (same k.namespace id) (is_marked (set_kept_from ks ns from) id) (marked_stays ks ns from id (let q : (same k.namespace id || is_marked ks id) ≡ true = h in let r : is_marked ks id ≡ true = rw is at q in r))))
 
 -- a current namespace has one
-pub marked_named : (c : Catalog) (name : List ℕ) → is_none (namespace_named c.namespaces name) ≡ false → MarksStand c → is_marked c.kept_from (known (namespace_named c.namespaces name)) ≡ true
-marked_named c name found h = by_found (namespace_named c.namespaces name) refl found
-  where
-    by_found : (o : Option Id) → namespace_named c.namespaces name ≡ o → is_none o ≡ false → is_marked c.kept_from (known o) ≡ true
-    by_found None e none = absurd (true≢false none)
-    by_found (Some id) e some = let r = named_is c.namespaces name id e in ap (is_marked c.kept_from) (sym r.id_is) ∙ h.namespaces r.record_ r.listed
+pub marked_named : (c : Catalog) (name : List ℕ) (id : Id) → namespace_named c.namespaces name ≡ Some id → MarksStand c → is_marked c.kept_from id ≡ true
+marked_named c name id e h = let r = named_is c.namespaces name id e in ap (is_marked c.kept_from) (sym r.id_is) ∙ h.namespaces r.record_ r.listed
 
 -- Through commands
 

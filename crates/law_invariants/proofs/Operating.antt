@@ -1,11 +1,10 @@
 -- The records of operations go on to be good while the master's clock, catalog and activity go on, and no record changes.
-use Rattle.std.proofs.Common.{ℕ, ◌≡◌, ◌≤◌, ◌<◌, ◌+◌, List, [], ◌∷◌, ◌++◌, map, Option, Some, None, true, false, cond, ◌&&◌, ◌⊎◌, inl, inr, refl, sym, ap, subst, ◌∙◌, arith, not, eqb, leb, ltb, lt-ltb, leb-true, le_trans, lt_of_lt_of_le}
+use Rattle.std.proofs.Common.{ℕ, ◌≡◌, ◌≤◌, ◌<◌, ◌+◌, List, [], ◌∷◌, Option, Some, None, true, false, ◌&&◌, ◌⊎◌, inl, inr, refl, sym, ap, subst, ◌∙◌, arith, not, eqb, leb, ltb, lt-ltb, leb-true, le_trans, lt_of_lt_of_le}
 use Rattle.std.specs.Option.{is_some, option_or, option_map}
 use Rattle.std.proofs.lemmas.Bool.{true≢false}
 use Rattle.std.proofs.lemmas.Bool.Decides.{nat_tests}
 use Rattle.row_values.specs.Ids.{Kind, Namespace, Table, Tablet, Schedule as ScheduleKind, Snapshot, Restoration, Clone, Id, same}
 use Rattle.row_values.specs.Elements.{In}
-use Rattle.row_values.specs.Slots.{has}
 use Rattle.model.specs.Times.{is_open, ended_by, before_end}
 use Rattle.model.specs.Catalog.{Catalog, NamespaceRecord, TableRecord, owner_of, kept_from}
 use Rattle.model.specs.Activity.{Interval, active_at, active_within}
@@ -13,14 +12,14 @@ use Rattle.model.specs.Journal.{Change}
 use Rattle.model.specs.Records.{Listed, Schedule, SnapshotRecord, RestorationRecord, RestorationState, Fencing, Snapshotting, Switching, Restoring, Releasing, Restored, TabletPair, CloneRecord, CloneState, Accepted, CloneSnapshot, Copying, CloneReleasing, CloneComplete, Sent, is_restored, is_cloned, is_visible}
 use Rattle.model.specs.Stands.{before_restore}
 use Rattle.model.specs.Operations.{holder, restoration_of, clone_to}
-use Rattle.model.specs.Looks.{reserved}
+use Rattle.model.specs.Looks.{has_target, is_reserved}
 use Rattle.model.specs.Cleanup.{floor_of}
 use Rattle.model.specs.Drawn.{drawn_of}
 use Rattle.model.specs.Right.{is_fixed}
 use Rattle.model.specs.Parts.{Master, Drawn}
 use Rattle.law_store.proofs.Keys.{either_way}
 use Rattle.law_invariants.specs.Operations.{IsSent, IsKnown, IsListed, IsOpenOf, ScheduleGood, SnapshotGood, IsServing, is_switched, IsPoint, BeforePoint, IsBack, IsActive, RestorationStateGood, RestorationGood, IsSource, IsReserved, CloneStateGood, CloneGood, OperationsGood}
-use Rattle.law_invariants.proofs.Finding.{both_pass, passes_both, same_self}
+use Rattle.law_invariants.proofs.Finding.{both_pass, passes_both, same_self, either_passes}
 use Rattle.law_invariants.proofs.Remembering.{floor_rises}
 
 -- What holds a namespace, and reserves a slot
@@ -73,22 +72,19 @@ not_held m ns free = record {
       true≢false (sym held ∙ ap (λ k. is_some (holder m k)) is ∙ free));
 }
 
-has_later : (xs ys : List ℕ) (slot : ℕ) → has ys slot ≡ true → has (xs ++ ys) slot ≡ true
-has_later [] ys slot h = h
-has_later (x ∷ xs) ys slot h = either_way (eqb x slot) (λ e. rw e refl) (λ e. rw e (has_later xs ys slot h))
-
-has_first : (ps : List TabletPair) (ys : List ℕ) (p : TabletPair) → In p ps → has (map (λ p. p.slot) ps ++ ys) p.slot ≡ true
-has_first [] ys p isin = absurd isin
-has_first (q ∷ ps) ys p (inl e) = let k : eqb q.slot p.slot ≡ true = ap (λ z. eqb z.slot p.slot) e ∙ (let s : eqb p.slot p.slot ≡ true = grind (arith, nat_tests) in s) in rw k refl
-has_first (q ∷ ps) ys p (inr isin) = either_way (eqb q.slot p.slot) (λ e. rw e refl) (λ e. rw e (has_first ps ys p isin))
+has_its : (ps : List TabletPair) (p : TabletPair) → In p ps → has_target ps p.slot ≡ true
+has_its [] p isin = absurd isin
+has_its (q ∷ ps) p (inl e) = let k : eqb q.slot p.slot ≡ true = ap (λ z. eqb z.slot p.slot) e ∙ (let s : eqb p.slot p.slot ≡ true = grind (arith, nat_tests) in s) in rw k refl
+has_its (q ∷ ps) p (inr isin) = either_passes (eqb q.slot p.slot) (has_target ps p.slot) (has_its ps p isin)
 
 -- an unfinished clone has reserved the slots of its targets
-pub is_reserved : (cs : List CloneRecord) (c : CloneRecord) (p : TabletPair) → In c cs → is_cloned c.state ≡ false → In p c.tablets → has (reserved cs) p.slot ≡ true
-is_reserved [] c p isin unfinished paired = absurd isin
-is_reserved (q ∷ cs) c p (inl e) unfinished paired =
-    let here : is_cloned q.state ≡ false = ap (λ k. is_cloned k.state) e ∙ unfinished in
-    rw here (has_first q.tablets (reserved cs) p (subst (λ k. In p k.tablets) (sym e) paired))
-is_reserved (q ∷ cs) c p (inr isin) unfinished paired = has_later (cond (is_cloned q.state) [] (map (λ p. p.slot) q.tablets)) (reserved cs) p.slot (is_reserved cs c p isin unfinished paired)
+pub target_reserved : (cs : List CloneRecord) (c : CloneRecord) (p : TabletPair) → In c cs → is_cloned c.state ≡ false → In p c.tablets → is_reserved cs p.slot ≡ true
+target_reserved [] c p isin unfinished paired = absurd isin
+target_reserved (q ∷ cs) c p (inl e) unfinished paired =
+    let open_ : is_cloned q.state ≡ false = ap (λ k. is_cloned k.state) e ∙ unfinished in
+    let has_it : has_target q.tablets p.slot ≡ true = has_its q.tablets p (subst (λ k. In p k.tablets) (sym e) paired) in
+    rw (open_, has_it) refl
+target_reserved (q ∷ cs) c p (inr isin) unfinished paired = either_passes (not (is_cloned q.state) && has_target q.tablets p.slot) (is_reserved cs p.slot) (target_reserved cs c p isin unfinished paired)
 
 -- How a master goes on
 
@@ -106,7 +102,7 @@ pub record IsNew (m : Master) (c : Catalog) (j : Interval) : Type 0 where
   pub drawn : m.drawn.tablets < j.tablet.number
   pub later : m.clock < j.from
   pub free : (ns : Id) → owner_of c.owners j.table ≡ Some ns → NotHeld m ns
-  pub unreserved : has (reserved m.clones) j.slot ≡ false
+  pub unreserved : is_reserved m.clones j.slot ≡ false
   pub vacant : (i : Interval) → In i m.activity → i.slot ≡ j.slot → ⊥
 
 -- the master with another clock, catalog, activity, other drawn numbers and sent marks
@@ -389,12 +385,12 @@ source_on m n c a d s changes new k p o past h = let j = o.kept h.interval h.kep
   target_is = h.target_is;
 }
 
-reserved_on : (m : Master) (n : ℕ) (c : Catalog) (a : List Interval) (d : Drawn) (s : List Sent) (changes new : List Change) (p : TabletPair) → Onward m n c a d changes new → has (reserved m.clones) p.slot ≡ true
+reserved_on : (m : Master) (n : ℕ) (c : Catalog) (a : List Interval) (d : Drawn) (s : List Sent) (changes new : List Change) (p : TabletPair) → Onward m n c a d changes new → is_reserved m.clones p.slot ≡ true
     → p.target.number ≤ m.drawn.tablets → IsReserved m p → IsReserved (going m n c a d s) p
 reserved_on m n c a d s changes new p o taken drawn h = record {
   free = λ j there is. elim (o.came j there) [
     | inl old ↦ h.free old.0 old.1.0 (sym (alike_on m n old.0 j old.1.1).slot ∙ is)
-    | inr made ↦ true≢false (sym taken ∙ ap (has (reserved m.clones)) (sym is) ∙ made.unreserved)
+    | inr made ↦ true≢false (sym taken ∙ ap (is_reserved m.clones) (sym is) ∙ made.unreserved)
   ];
   unknown = λ j there is. elim (o.came j there) [
     | inl old ↦ h.unknown old.0 old.1.0 (sym (alike_on m n old.0 j old.1.1).tablet ∙ is)
@@ -476,7 +472,7 @@ clone_on m n c a d s changes new k o isin h = record {
   covers = h.covers;
   scheduled = h.scheduled;
   sources = λ unfinished p paired. source_on m n c a d s changes new k p o h.past (h.sources unfinished p paired);
-  reserved = λ unseen p paired. reserved_on m n c a d s changes new p o (is_reserved m.clones k p isin (visible_later k.state unseen) paired) (h.pairs p paired).drawn (h.reserved unseen p paired);
+  reserved = λ unseen p paired. reserved_on m n c a d s changes new p o (target_reserved m.clones k p isin (visible_later k.state unseen) paired) (h.pairs p paired).drawn (h.reserved unseen p paired);
   no_tablet = λ unseen i there owner. (let w = held_came m n c a d changes new k.target_id i o there owner (held_target m k isin unseen) in h.no_tablet unseen i w.0 w.1);
   no_table = λ unseen r there of. h.no_table unseen r (o.tables_held k.target_id r there of (held_target m k isin unseen)) of;
   no_schedule = h.no_schedule;

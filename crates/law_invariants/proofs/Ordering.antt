@@ -4,12 +4,11 @@ use Rattle.std.proofs.Common.{ℕ, ◌≡◌, ◌≤◌, ◌<◌, List, [], Opti
 use Rattle.std.proofs.lemmas.Bool.{true≢false}
 use Rattle.row_values.specs.Ids.{Kind, Namespace, Table, Tablet as TabletKind, Schedule, Snapshot, Restoration, Clone, Id}
 use Rattle.row_values.specs.Elements.{In}
-use Rattle.row_values.specs.Slots.{has}
 use Rattle.row_values.specs.Store.{Version, of_rows, rows_at}
 use Rattle.model.specs.Catalog.{Catalog, owner_of}
 use Rattle.model.specs.Activity.{Interval}
 use Rattle.model.specs.Journal.{Change, row_at}
-use Rattle.model.specs.Looks.{reserved}
+use Rattle.model.specs.Looks.{is_reserved}
 use Rattle.model.specs.Tablets.{Tablet, Presence, HiddenPart, BodyKind, Command, Mark, is_empty, is_serving, placed}
 use Rattle.model.specs.Records.{Listed, RestorationRecord, RestorationState, Fencing, Snapshotting, Switching, Restoring, Releasing, Restored, TabletPair, IdPair, CloneRecord, CloneState, Accepted, CloneSnapshot, Copying, CloneReleasing, CloneComplete, Sent, is_restored, is_cloned, is_visible}
 use Rattle.model.specs.Coordination.{pending_of}
@@ -18,7 +17,7 @@ use Rattle.model.specs.Parts.{Master, Drawn}
 use Rattle.law_invariants.specs.Operations.{IsKnown, RestorationStateGood, CloneStateGood, OperationsGood}
 use Rattle.law_invariants.specs.Invariant.{SlotWorks}
 use Rattle.law_invariants.specs.Orders.{FencePlace, ClonePlace, IsFence, IsAfter, IsOrder, IsMark, OrdersGood, FencedSlot, RestoringSlot, ReleasingSlot, RestorationSlot, IsCopy, CloneSlot, IsHome, IsTarget, ObeyedGood}
-use Rattle.law_invariants.proofs.Operating.{NotHeld, Onward, ListedOf, going, is_reserved, alike_on, open_on, open_was}
+use Rattle.law_invariants.proofs.Operating.{NotHeld, Onward, ListedOf, going, target_reserved, alike_on, open_on, open_was}
 
 -- The master goes on
 
@@ -293,13 +292,13 @@ obeyed_mild m changes slot t n version vs cutoff inbox le stays capped h = recor
 -- a slot that was free: no interval is in it, and no unfinished clone has reserved it
 pub record IsFreeSlot (m : Master) (slot : ℕ) : Type 0 where
   pub vacant : (i : Interval) → In i m.activity → i.slot ≡ slot → ⊥
-  pub unreserved : has (reserved m.clones) slot ≡ false
+  pub unreserved : is_reserved m.clones slot ≡ false
 
 unknown_there : (m : Master) (slot : ℕ) (l : Listed) → IsFreeSlot m slot → IsKnown m l → l.slot ≡ slot → ⊥
 unknown_there m slot l free h is = free.vacant h.interval h.kept (h.slot_is ∙ is)
 
 unreserved_there : (m : Master) (slot : ℕ) (c : CloneRecord) (p : TabletPair) → IsFreeSlot m slot → In c m.clones → is_cloned c.state ≡ false → In p c.tablets → p.slot ≡ slot → ⊥
-unreserved_there m slot c p free isin unfinished paired is = true≢false (sym (is_reserved m.clones c p isin unfinished paired) ∙ ap (has (reserved m.clones)) is ∙ free.unreserved)
+unreserved_there m slot c p free isin unfinished paired is = true≢false (sym (target_reserved m.clones c p isin unfinished paired) ∙ ap (is_reserved m.clones) is ∙ free.unreserved)
 
 placed_restorations : (state : RestorationState) (m : Master) (n : ℕ) (c : Catalog) (a : List Interval) (d : Drawn) (s : List Sent) (changes new : List Change) (r : RestorationRecord) (slot : ℕ) (t : Tablet) → Onward m n c a d changes new
     → IsFreeSlot m slot → (is_restored state ≡ false → NotHeld m r.namespace → ⊥) → (is_restored state ≡ false → (l : Listed) → In l r.listed → IsKnown m l)

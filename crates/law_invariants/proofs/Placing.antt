@@ -1,30 +1,29 @@
 -- The places of a look are the table's tablets that are active at its stamp: all of them, or the one that holds the keys.
-use Rattle.std.proofs.Common.{ℕ, ◌≡◌, ◌≤◌, ◌<◌, List, [], ◌∷◌, Option, Some, None, Bool, true, ◌&&◌, inl, inr, refl, sym, ap, subst, ◌∙◌, arith, eqb, eqb-true, le-leb, le_of_lt, map, length, is_none, ltb-true, option_map}
+use Rattle.std.proofs.Common.{ℕ, ◌≡◌, ◌≤◌, ◌<◌, List, [], ◌∷◌, Option, Some, None, Bool, true, ◌&&◌, inl, inr, refl, sym, ap, subst, ◌∙◌, arith, eqb, eqb-true, le-leb, le_of_lt, map, length, ltb-true, option_map, Result}
 use Rattle.std.proofs.lemmas.Bool.{true≢false}
 use Rattle.std.proofs.lemmas.Bool.Decides.{nat_tests}
 use Rattle.std.specs.List.{filter}
 use Rattle.std.specs.Option.{option_to_list}
 use Rattle.row_values.specs.Codes.{code_of}
-use Rattle.row_values.specs.Ids.{Id, same, no_id}
+use Rattle.row_values.specs.Ids.{Id, same}
 use Rattle.row_values.specs.Elements.{In, put_in, in_order}
-use Rattle.model.specs.Times.{time_of, is_future, is_below, is_open, before_end}
+use Rattle.model.specs.Times.{time_of, is_open, before_end}
 use Rattle.row_values.specs.Ranges.{in_range}
-use Rattle.model.specs.Catalog.{namespace_named, kept_from}
+use Rattle.model.specs.Catalog.{TableRecord}
 use Rattle.model.specs.Activity.{Interval, active_at}
 use Rattle.model.specs.Journal.{Change}
-use Rattle.model.specs.Acts.{NamedItem, Placed, UnknownNamespace, UnknownTable, Future, TooOld, CrossTablet, Refusal}
-use Rattle.model.specs.Parts.{Master, Parts, Check, If, Fault, unless, Outcome, judged, answered}
+use Rattle.model.specs.Acts.{NamedItem, CrossTablet, Refusal}
+use Rattle.model.specs.Parts.{Master, Parts, Check, Fault, Outcome, either, checked, decided}
 use Rattle.model.specs.Lists.{by_range}
-use Rattle.model.specs.Looks as looks
-use Rattle.model.specs.Looks.{look_keys, look_table, table_asked, known, the_table, batch_fault, holding, first_code, other_code, code_outside, place_of, active_in}
+use Rattle.model.specs.Looks.{look_keys, look_table, batch_fault, holding, first_code, other_code, code_outside, place_of, placed, active_in}
 use Rattle.model.specs.Right.{TableFound, IsActivePlace, PlacesRight, LookPlacesRight, holds_keys}
 use Rattle.law_store.proofs.Keys.{either_way}
 use Rattle.law_invariants.specs.Remembered.{Remembered}
 use Rattle.law_invariants.specs.Invariant.{MasterGood, Covered, Inv, IsPast, EndsBy}
-use Rattle.law_invariants.proofs.Finding.{both_pass, passes_both, same_equal, same_self, map_in, in_mapped, find_is, find_none, some_is}
+use Rattle.law_invariants.proofs.Finding.{both_pass, passes_both, same_equal, same_self, map_in, in_mapped, find_is, find_none}
 use Rattle.law_invariants.proofs.Overlap.{two_holders, holds, code_below}
-use Rattle.law_invariants.proofs.Looking.{IsAsked, asked, view_found, table_found, asked_kept}
-use Rattle.law_invariants.proofs.Judging.{step_if, step_fault, step_found}
+use Rattle.law_invariants.proofs.Looking.{asked, found_at_right}
+use Rattle.law_invariants.proofs.Judging.{step_fault, step_found}
 
 -- Lists in order have the same items
 
@@ -96,40 +95,12 @@ active_only m n table i less past isin =
     let b = both_pass (is_open i.to) (same i.table table) k.1 in
     (k.0, (same_equal i.table table b.1, is_active i m.clock n less (past i k.0) b.0))
 
--- What both looks begin with refuses, or the table is found
-
-places_opening : (m : Master) (n : ℕ) (changes : List Change) (namespace table : List ℕ) (at : Option ℕ) (batch : List NamedItem) (checks : List Check) (o : Outcome) → IsAsked m n changes
-    → ((f : TableFound changes (time_of at n) n namespace table) → f.id ≡ (the_table (table_asked m.catalog.tables (known (namespace_named m.catalog.namespaces namespace)) table at)).id
-    → LookPlacesRight (judged checks o).reply changes (time_of at n) n namespace table batch m.activity)
-    → LookPlacesRight (judged (If (is_none (namespace_named m.catalog.namespaces namespace)) UnknownNamespace ∷ If (is_future at n) (Future n)
-    ∷ If (is_below at (kept_from m.catalog.kept_from (known (namespace_named m.catalog.namespaces namespace)))) (TooOld (time_of at n) (kept_from m.catalog.kept_from (known (namespace_named m.catalog.namespaces namespace))))
-    ∷ If (is_none (table_asked m.catalog.tables (known (namespace_named m.catalog.namespaces namespace)) table at)) UnknownTable ∷ checks) o).reply
-    changes (time_of at n) n namespace table batch m.activity
-places_opening m n changes namespace table at batch checks o h rest =
-    let ns = namespace_named m.catalog.namespaces namespace in
-    let from = kept_from m.catalog.kept_from (known ns) in
-    let found = table_asked m.catalog.tables (known ns) table at in
-    let P : Option Refusal → Type 0 = λ why. LookPlacesRight (unless why o).reply changes (time_of at n) n namespace table batch m.activity in
-    let fourth : List Check = If (is_none found) UnknownTable ∷ checks in
-    let third : List Check = If (is_below at from) (TooOld (time_of at n) from) ∷ fourth in
-    step_if P (is_none ns) UnknownNamespace (If (is_future at n) (Future n) ∷ third) (λ _. tt)
-    (λ some. step_if P (is_future at n) (Future n) third (λ _. tt)
-    (λ _. step_if P (is_below at from) (TooOld (time_of at n) from) fourth (λ _. tt)
-    (λ below. step_if P (is_none found) UnknownTable checks (λ _. tt)
-    (λ there.
-    let named : ns ≡ Some (known ns) = some_is ns no_id some in
-    let kept = asked_kept m n changes (known ns) at h below in
-    let is : found ≡ Some (the_table found) = some_is found looks.no_table there in
-    let seen = view_found m n (time_of at n) changes namespace table (known ns) (the_table found) h named kept (table_found m n changes (known ns) table at (the_table found) h is) in
-    rest seen.0 seen.1.1))))
-
 pub table_places : (m : Master) (n : ℕ) (changes : List Change) (namespace table : List ℕ) (at : Option ℕ) → m.clock < n → MasterGood m changes → AllPast m
     → LookPlacesRight (look_table namespace table at n m).reply changes (time_of at n) n namespace table [] m.activity
 unfolding look_table
 table_places m n changes namespace table at less good past =
-    let t = the_table (table_asked m.catalog.tables (known (namespace_named m.catalog.namespaces namespace)) table at) in
-    places_opening m n changes namespace table at [] [] (answered (Placed (map place_of (by_range (active_in m t.id))) t.schema.version t.schema.columns)) (asked m n changes less good)
-    (λ f is. record {
+    let P : Result TableRecord Refusal → Type 0 = λ j. LookPlacesRight (decided j (λ t. placed (by_range (active_in m t.id)) t)).reply changes (time_of at n) n namespace table [] m.activity in
+    found_at_right P m n changes namespace table at [] (asked m n changes less good) (λ why right. tt) (λ t f seen is. record {
       found = f;
       each = λ place isin. in_mapped place_of (IsActivePlace m.activity n f.id []) (by_range (active_in m t.id))
           (λ i k. let a = active_only m n t.id i less past (ordered_only _ (active_in m t.id) i k) in
@@ -199,13 +170,14 @@ pub keys_places : (ps : Parts) (n : ℕ) (activity : List Interval) (changes : L
 unfolding look_keys
 keys_places ps n activity changes namespace table batch at less inv some =
     let m = ps.master in
-    let t = the_table (table_asked m.catalog.tables (known (namespace_named m.catalog.namespaces namespace)) table at) in
-    let fault = batch_fault t.schema.columns batch in
-    let home = holding m t.id (first_code batch) in
-    let o = answered (Placed (map place_of (option_to_list home)) t.schema.version t.schema.columns) in
-    let P : Option Refusal → Type 0 = λ why. LookPlacesRight (unless why o).reply changes (time_of at n) n namespace table batch m.activity in
-    let last : List Check = Fault (option_map (CrossTablet (first_code batch)) (other_code home batch)) ∷ [] in
-    places_opening m n changes namespace table at batch (Fault fault ∷ last) o (asked m n changes less inv.master)
-    (λ f is. step_fault P fault last (λ _ _. tt)
-    (λ _. step_found P (other_code home batch) (CrossTablet (first_code batch)) [] (λ _ _. tt)
-    (λ none. one_home home m n activity changes namespace table (time_of at n) batch t.id f is less inv.remembered inv.cover (all_past ps activity changes inv) (alike ps activity changes inv) some refl none)))
+    let first = first_code batch in
+    let home : TableRecord → Option Interval = λ t. holding m t.id first in
+    let last : TableRecord → List Check = λ t. Fault (option_map (CrossTablet first) (other_code (home t) batch)) ∷ [] in
+    let go : TableRecord → Outcome = λ t. placed (option_to_list (home t)) t in
+    let P : Result TableRecord Refusal → Type 0 = λ j. LookPlacesRight (decided (checked j (λ t. Fault (batch_fault t.schema.columns batch) ∷ last t)) go).reply changes (time_of at n) n namespace table batch m.activity in
+    found_at_right P m n changes namespace table at batch (asked m n changes less inv.master) (λ why right. tt)
+    (λ t f seen is.
+    let Q : Option Refusal → Type 0 = λ why. LookPlacesRight (decided (either why t) go).reply changes (time_of at n) n namespace table batch m.activity in
+    step_fault Q (batch_fault t.schema.columns batch) (last t) (λ _ _. tt)
+    (λ _. step_found Q (other_code (home t) batch) (CrossTablet first) [] (λ _ _. tt)
+    (λ none. one_home (home t) m n activity changes namespace table (time_of at n) batch t.id f is less inv.remembered inv.cover (all_past ps activity changes inv) (alike ps activity changes inv) some refl none)))

@@ -1,5 +1,5 @@
 -- Clocks that rise to a stamp keep what holds; and an act keeps it where each of its refusals, or else its outcome, does.
-use Rattle.std.proofs.Common.{ℕ, ◌≡◌, ◌≤◌, ◌<◌, ◌+◌, List, [], ◌∷◌, Option, Some, None, Bool, true, false, cond, ◌&&◌, refl, sym, subst, arith, not, le_trans, le_of_lt, lt_of_lt_of_le, eqb}
+use Rattle.std.proofs.Common.{ℕ, ◌≡◌, ◌≤◌, ◌<◌, ◌+◌, List, [], ◌∷◌, Option, Some, None, Bool, true, false, cond, ◌&&◌, refl, sym, subst, arith, not, le_trans, le_of_lt, lt_of_lt_of_le, eqb, Result, Ok, Err}
 use Rattle.std.proofs.lemmas.Bool.{cond_both}
 use Rattle.row_values.specs.Slots.{has}
 use Rattle.row_values.specs.Store.{Version, Below}
@@ -8,7 +8,7 @@ use Rattle.model.specs.Activity.{Interval}
 use Rattle.model.specs.Journal.{Change}
 use Rattle.model.specs.Tablets.{Tablet}
 use Rattle.model.specs.Acts.{Act, Reply, Refused, Refusal}
-use Rattle.model.specs.Parts.{Master, Parts, Check, If, Names, Fault, Outcome, judged, refused, answered}
+use Rattle.model.specs.Parts.{Master, Parts, Check, If, Names, Fault, Outcome, judged, refused, answered, decided}
 use Rattle.model.specs.Entries.{slots_of, clock_at}
 use Rattle.model.specs.History.{told, with_changes}
 use Rattle.model.specs.Replies.{ReplyRight}
@@ -213,11 +213,11 @@ nothing_told act reply n ps activity changes later inv = let is = sym (activity_
 
 -- what is to be shown of an act's outcome
 abbrev pub KeepsAll : Act → ℕ → Parts → List Interval → List Change → Outcome → Type 0
-KeepsAll act n ps activity changes o = Keeps act o.reply n ps (told act o n ps) (activity_after act o n ps activity) changes
+KeepsAll act n ps activity changes o = Keeps act o n ps (told act o n ps) (activity_after act o n ps activity) changes
 
 -- an act that is refused keeps what holds, where its reply says nothing more
 pub refused_keeps : (act : Act) (why : Refusal) (n : ℕ) (ps : Parts) (activity : List Interval) (changes : List Change) → Later (slots_of act) ps n → Inv ps activity changes
-    → ReplyRight act (Refused why) n ps changes → with_changes act (Refused why) n ps changes ≡ changes → KeepsAll act n ps activity changes (refused why)
+    → ReplyRight act (Refused why) n ps changes → with_changes act (refused why) n ps changes ≡ changes → KeepsAll act n ps activity changes (refused why)
 refused_keeps act why n ps activity changes later inv right same_ = record {
   right = right;
   inv = subst (Inv (told act (refused why) n ps) (activity_after act (refused why) n ps activity)) (sym same_) (nothing_told act (Refused why) n ps activity changes later inv);
@@ -233,3 +233,9 @@ by_checks act n ps activity changes (Names None why ∷ checks) o no_ go = by_ch
 by_checks act n ps activity changes (Names (Some id) why ∷ checks) o no_ go = no_ (why id)
 by_checks act n ps activity changes (Fault None ∷ checks) o no_ go = by_checks act n ps activity changes checks o no_ (λ p. go (refl, p))
 by_checks act n ps activity changes (Fault (Some why) ∷ checks) o no_ go = no_ why
+
+-- and where it does for a refusal, and for what a judgement finds
+pub by_judgement : {A : Type 0} (act : Act) (n : ℕ) (ps : Parts) (activity : List Interval) (changes : List Change) (judgement : Result A Refusal) (go : A → Outcome)
+    → ((why : Refusal) → KeepsAll act n ps activity changes (refused why)) → ((a : A) → judgement ≡ Ok a → KeepsAll act n ps activity changes (go a)) → KeepsAll act n ps activity changes (decided judgement go)
+by_judgement act n ps activity changes (Err why) go no_ accepted = no_ why
+by_judgement act n ps activity changes (Ok a) go no_ accepted = accepted a refl

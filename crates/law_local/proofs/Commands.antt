@@ -1,61 +1,54 @@
 -- A command reads the master; a split reads its parent's part too, which its plan names.
-use Rattle.std.proofs.Common.{ℕ, ◌≡◌, ◌≤◌, List, [], ◌∷◌, Option, Some, None, Bool, true, false, not, refl, ap, subst, ◌∙◌, arith}
-use Rattle.std.specs.Prelude.{is_none, unwrap_or, nat_lt, nat_le, length, ◌==◌}
-use Rattle.std.proofs.lemmas.Bool.Decides.{nat_tests}
+use Rattle.std.proofs.Common.{ℕ, ◌≡◌, ◌≤◌, List, [], ◌∷◌, Option, Some, None, Bool, true, false, not, refl, sym, ap, subst, ◌∙◌}
+use Rattle.std.specs.Prelude.{Result, Ok, Err, length}
+use Rattle.std.specs.Option.{ok_or}
 use Rattle.row_values.specs.Slots.{same_slots, has}
-use Rattle.model.specs.Catalog.{TableRecord, namespace_named}
-use Rattle.model.specs.Activity.{Interval}
-use Rattle.model.specs.Tablets.{Tablet, HideSince}
-use Rattle.model.specs.Acts.{Command, CreateNamespace, DropNamespace, CreateTable, AddColumn, DropColumn, RenameTable, DropTable, Split, CreateSchedule, DeleteSchedule, TakeSnapshot, Restore, CloneNamespace, ListSchedules, ListSnapshots, ListRestorations, ListClones, ListTablets, Change, UnknownNamespace, UnknownTable, Busy, TooNarrow, SlotsFull, StalePlan}
-use Rattle.model.specs.Parts.{Master, Parts, Outcome, If, Check, Names}
-use Rattle.model.specs.Operations.{holder}
-use Rattle.model.specs.Looks.{free_slots, known, table_of, the_table, holding, family, family_of, plan_of}
-use Rattle.model.specs.Changed.{no_interval, parent_of, next_tablet, children}
-use Rattle.model.specs.Changes.{accepts, tell_children, split, planned, change, create_namespace, drop_namespace, create_table, add_column, drop_column, rename_table, drop_table, create_schedule, delete_schedule, take_snapshot, restore, clone_namespace, list_tablets}
+use Rattle.model.specs.Tablets.{Tablet}
+use Rattle.model.specs.Acts.{Command, CreateNamespace, DropNamespace, CreateTable, AddColumn, DropColumn, RenameTable, DropTable, Split, CreateSchedule, DeleteSchedule, TakeSnapshot, Restore, CloneNamespace, ListSchedules, ListSnapshots, ListRestorations, ListClones, ListTablets, Change, Refusal, SlotsFull, StalePlan}
+use Rattle.model.specs.Parts.{Master, Parts, Outcome, Check, If, refusal_in, either, checked, decided}
+use Rattle.model.specs.Looks.{free_slots, Parent, found_parent, Family, family, found_family, slots_for, plan_of}
+use Rattle.model.specs.Changes.{judge_split, splitting, split, planned, change}
 use Rattle.law_local.specs.Agreeing.{Agree, PlanNames}
 use Rattle.law_local.proofs.Agreement.{has_first, has_rest}
 use Rattle.law_local.proofs.Judging.{judged_same, same_has}
 
-home_has : (home : Option Interval) (free : List ℕ) → nat_lt (length free) 2 ≡ false → 1 ≤ (unwrap_or home no_interval).slot → has (family home free) (unwrap_or home no_interval).slot ≡ true
-home_has None free room least = absurd (omega arith)
-home_has (Some parent) free room least =
-    let k : nat_le 2 (length free) ≡ true = grind (arith, nat_tests) in rw k (has_first parent.slot _)
+-- where a split is judged, its plan has the slots of its family
 
--- the plan of a split names the parent's slot
-family_has : (m : Master) (found : Option TableRecord) (code : ℕ) → is_none found ≡ false → nat_lt (length (free_slots m)) 2 ≡ false
-    → 1 ≤ (unwrap_or (holding m (the_table found).id code) no_interval).slot → has (family_of m found code) (unwrap_or (holding m (the_table found).id code) no_interval).slot ≡ true
-family_has m None code some room least = cc
-family_has m (Some t) code some room least = home_has (holding m t.id code) (free_slots m) room least
+family_found : (j : Result Parent Refusal) (checks : Parent → List Check) (m : Master) (f : Family) → found_family (checked j checks) m ≡ Ok f → (p : Parent) × ((j ≡ Ok p) × (family p (free_slots m) ≡ Some f))
+family_found (Err why) checks m f e = cc
+family_found (Ok p) checks m f e = (p, (refl, passed (refusal_in (checks p)) e))
+  where
+    found : (o : Option Family) (why : Refusal) → ok_or o why ≡ Ok f → o ≡ Some f
+    found None why e = cc
+    found (Some g) why e = cc
 
--- the master's checks of a split
-abbrev split_checks : List ℕ → List ℕ → ℕ → Master → List Check
-split_checks namespace table code m =
-    If (is_none (namespace_named m.catalog.namespaces namespace)) UnknownNamespace
-    ∷ If (is_none (table_of m namespace table)) UnknownTable
-    ∷ Names (holder m (known (namespace_named m.catalog.namespaces namespace))) Busy
-    ∷ If (code == (parent_of m namespace table code).low) (TooNarrow (parent_of m namespace table code).low)
-    ∷ If (nat_lt (length (free_slots m)) 2) (SlotsFull (length (free_slots m)) 2)
-    ∷ []
+    passed : (r : Option Refusal) → found_family (either r p) m ≡ Ok f → family p (free_slots m) ≡ Some f
+    passed (Some why) e = cc
+    passed None e = found (family p (free_slots m)) (SlotsFull (length (free_slots m)) 2) e
+
+-- a parent stands in its family
+parent_in : (p : Parent) (free : List ℕ) (f : Family) → family p free ≡ Some f → f.parent ≡ p
+parent_in p [] f e = cc
+parent_in p (slot ∷ []) f e = cc
+parent_in p (low ∷ high ∷ free) f e = cc
 
 -- what a command reads of the tablets' parts is equal
 abbrev ReadsAlike : Command → Master → (ℕ → Tablet) → (ℕ → Tablet) → Type 0
-ReadsAlike (Split namespace table code) m f g =
-    is_none (table_of m namespace table) ≡ false → nat_lt (length (free_slots m)) 2 ≡ false → f (parent_of m namespace table code).slot ≡ g (parent_of m namespace table code).slot
+ReadsAlike (Split namespace table code) m f g = (family : Family) → judge_split namespace table code m ≡ Ok family → f family.parent.tablet.slot ≡ g family.parent.tablet.slot
 ReadsAlike _ m f g = Unit {0}
 
-split_same : (namespace table : List ℕ) (code : ℕ) (slots : List ℕ) (n : ℕ) (m : Master) (f g : ℕ → Tablet)
-    → ReadsAlike (Split namespace table code) m f g → split namespace table code slots n (record { master = m; tablet = f }) ≡ split namespace table code slots n (record { master = m; tablet = g })
+decided_same : {A : Type 0} (j : Result A Refusal) (go other : A → Outcome) → ((a : A) → j ≡ Ok a → go a ≡ other a) → decided j go ≡ decided j other
+decided_same (Err why) go other same = refl
+decided_same (Ok a) go other same = same a refl
+
+split_same : (namespace table : List ℕ) (code n : ℕ) (m : Master) (f g : ℕ → Tablet)
+    → ReadsAlike (Split namespace table code) m f g → split namespace table code n (record { master = m; tablet = f }) ≡ split namespace table code n (record { master = m; tablet = g })
 unfolding split
-split_same namespace table code slots n m f g alike =
-    let parent = parent_of m namespace table code in
-    let made : Tablet → Outcome = λ t. accepts (Split namespace table code) slots
-    (record { slot = parent.slot; act = HideSince n } ∷ tell_children (children parent code slots n m) (the_table (table_of m namespace table)).schema.version t)
-    (next_tablet m 1 ∷ next_tablet m 2 ∷ []) in
-    judged_same (split_checks namespace table code m) (made (f parent.slot)) (made (g parent.slot)) (λ passes. ap made (alike passes.1.0 passes.1.1.1.1.0))
+split_same namespace table code n m f g alike =
+    decided_same (judge_split namespace table code m) _ _ (λ family is. ap (splitting family code n m) (alike family is))
 
 planned_same : (command : Command) (slots : List ℕ) (n : ℕ) (m : Master) (f g : ℕ → Tablet)
     → ReadsAlike command m f g → planned command slots n (record { master = m; tablet = f }) ≡ planned command slots n (record { master = m; tablet = g })
-unfolding create_namespace drop_namespace create_table add_column drop_column rename_table drop_table create_schedule delete_schedule take_snapshot restore clone_namespace list_tablets
 planned_same (CreateNamespace name) slots n m f g alike = refl
 planned_same (DropNamespace name) slots n m f g alike = refl
 planned_same (CreateTable namespace table tablets columns) slots n m f g alike = refl
@@ -63,7 +56,7 @@ planned_same (AddColumn namespace table name kind) slots n m f g alike = refl
 planned_same (DropColumn namespace table name) slots n m f g alike = refl
 planned_same (RenameTable namespace table name) slots n m f g alike = refl
 planned_same (DropTable namespace table) slots n m f g alike = refl
-planned_same (Split namespace table code) slots n m f g alike = split_same namespace table code slots n m f g alike
+planned_same (Split namespace table code) slots n m f g alike = split_same namespace table code n m f g alike
 planned_same (CreateSchedule interval retention namespace) slots n m f g alike = refl
 planned_same (DeleteSchedule schedule) slots n m f g alike = refl
 planned_same (TakeSnapshot schedule) slots n m f g alike = refl
@@ -79,10 +72,17 @@ planned_same (ListTablets namespace) slots n m f g alike = refl
 reads_alike : (command : Command) (slots : List ℕ) (m : Master) (f g : ℕ → Tablet) → PlanNames (Change command slots) m → same_slots slots (plan_of command m) ≡ true
     → ((slot : ℕ) → 1 ≤ slot → has slots slot ≡ true → f slot ≡ g slot) → ReadsAlike command m f g
 unfolding plan_of
-reads_alike (Split namespace table code) slots m f g named kept same = λ some room.
-    let least : 1 ≤ (parent_of m namespace table code).slot = named some in
-    same (parent_of m namespace table code).slot least
-    (same_has slots (family_of m (table_of m namespace table) code) (parent_of m namespace table code).slot kept (family_has m (table_of m namespace table) code some room least))
+reads_alike (Split namespace table code) slots m f g named kept same = λ one is.
+    let found = family_found (found_parent m namespace table code) _ m one is in
+    let p = found.0 in
+    let here : one.parent ≡ p = parent_in p (free_slots m) one found.1.1 in
+    let slots_are : List ℕ = one.parent.tablet.slot ∷ one.low_slot ∷ one.high_slot ∷ [] in
+    let planned : plan_of (Split namespace table code) m ≡ slots_are =
+    ap (λ j. slots_for (found_family j m) (λ f. f.parent.tablet.slot ∷ f.low_slot ∷ f.high_slot ∷ [])) found.1.0
+    ∙ ap (λ o. slots_for (ok_or o (SlotsFull (length (free_slots m)) 2)) (λ f. f.parent.tablet.slot ∷ f.low_slot ∷ f.high_slot ∷ [])) found.1.1 in
+    let least : 1 ≤ one.parent.tablet.slot = subst (λ q. 1 ≤ q.tablet.slot) (sym here) (named p found.1.0) in
+    same one.parent.tablet.slot least
+    (same_has slots slots_are one.parent.tablet.slot (subst (λ plan. same_slots slots plan ≡ true) planned kept) (has_first one.parent.tablet.slot (one.low_slot ∷ one.high_slot ∷ [])))
 reads_alike _ slots m f g named kept same = tt
 
 tablets_alike : (command : Command) (slots : List ℕ) (n : ℕ) (m : Master) (f g : ℕ → Tablet) → PlanNames (Change command slots) m

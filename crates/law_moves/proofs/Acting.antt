@@ -41,14 +41,14 @@ activity_alone act o n ps activity e keeps =
 
 -- it keeps what holds where the master that it leaves does, beside the tablets as they are
 pub alone_keeps : (act : Act) (o : Outcome) (n : ℕ) (ps : Parts) (activity after : List Interval) (changes new : List Made) (k : Master) → slots_of act ≡ 0 ∷ [] → is_removal o.master ≡ false
-    → master_effect o.master n ps.master ≡ k → (master_effect o.master n (record ps.master { activity = activity })).activity ≡ after → ReplyRight act o.reply n ps changes → with_changes act o.reply n ps changes ≡ new
+    → master_effect o.master n ps.master ≡ k → (master_effect o.master n (record ps.master { activity = activity })).activity ≡ after → ReplyRight act o.reply n ps changes → with_changes act o n ps changes ≡ new
     → Inv (record { master = k; tablet = ps.tablet }) after new → KeepsAll act n ps activity changes o
 alone_keeps act o n ps activity after changes new k slots keeps is stays right journal inv =
     let with_master : Master → Parts = λ m. record { master = m; tablet = ps.tablet } in
     let parts : told act o n ps ≡ with_master k = told_alone act o n ps slots ∙ ap with_master is in
     record {
       right = right;
-      inv = subst (λ q. Inv q (activity_after act o n ps activity) (with_changes act o.reply n ps changes)) (sym parts)
-          (subst (λ a. Inv (with_master k) a (with_changes act o.reply n ps changes)) (sym (activity_alone act o n ps activity slots keeps ∙ stays))
+      inv = subst (λ q. Inv q (activity_after act o n ps activity) (with_changes act o n ps changes)) (sym parts)
+          (subst (λ a. Inv (with_master k) a (with_changes act o n ps changes)) (sym (activity_alone act o n ps activity slots keeps ∙ stays))
           (subst (Inv (with_master k) after) (sym journal) inv));
     }

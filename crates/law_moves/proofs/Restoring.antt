@@ -1,7 +1,7 @@
 -- A restoration of a schedule's namespace begins.
-use Rattle.std.proofs.Common.{ℕ, ◌≡◌, ◌≤◌, ◌<◌, ◌+◌, List, [], ◌∷◌, ◌++◌, Option, Some, None, Bool, true, false, cond, ◌&&◌, ◌⊎◌, inl, inr, refl, sym, ap, subst, ◌∙◌, arith, not, leb, ltb, ltb-true, leb-true, le_trans, le_refl, le_of_lt}
-use Rattle.std.specs.Prelude.{is_none, is_some}
-use Rattle.std.specs.Option.{option_or, option_map}
+use Rattle.std.proofs.Common.{ℕ, ◌≡◌, ◌≤◌, ◌<◌, ◌+◌, List, [], ◌∷◌, ◌++◌, Option, Some, None, true, false, cond, ◌&&◌, ◌⊎◌, inl, inr, refl, sym, ap, subst, ◌∙◌, arith, not, leb, ltb, ltb-true, leb-true, le_trans, le_refl, le_of_lt}
+use Rattle.std.specs.Prelude.{is_some}
+use Rattle.std.specs.Option.{option_or, option_map, ok_or}
 use Rattle.std.proofs.lemmas.Bool.{true≢false}
 use Rattle.std.proofs.lemmas.Bool.Decides.{nat_tests}
 use Rattle.row_values.specs.Ids.{Kind, Namespace, Table, Tablet as TabletKind, Schedule as ScheduleKind, Snapshot, Restoration, Clone, Id, same}
@@ -15,18 +15,18 @@ use Rattle.model.specs.Records.{Listed, Schedule, RestorationRecord, Fencing, is
 use Rattle.model.specs.Schedules.{floor, low, least_with}
 use Rattle.model.specs.Stands.{awaited_in, awaited_of, first_of_two}
 use Rattle.model.specs.Drawn.{drawn_of}
-use Rattle.model.specs.Acts.{Act, Reply, Refusal, Refused, Ok, Restore, Change, UnknownSchedule, Busy, TooEarly, Future}
+use Rattle.model.specs.Acts.{Reply, Refusal, Refused, Ok, Restore, Change, UnknownSchedule, Busy, TooEarly, Future}
 use Rattle.model.specs.Operations.{user, time_of_user, restoration_of, clone_with}
 use Rattle.model.specs.Cleanup.{floor_of}
 use Rattle.model.specs.Lists.{active_tablets, listing}
-use Rattle.model.specs.Parts.{Master, Parts, Drawn, Check, If, Outcome, judged, refused, Names, unless}
-use Rattle.model.specs.Changes.{accepts, restore}
-use Rattle.model.specs.Changed.{changed, next_restoration, the_schedule, no_schedule}
+use Rattle.model.specs.Parts.{Master, Parts, Drawn, BeginsRestoration, Check, If, Outcome, either, checked, decided, refused}
+use Rattle.model.specs.Changes.{accepts, restore_checks, restore}
+use Rattle.model.specs.Changed.{next_restoration}
 use Rattle.model.specs.Replies.{WindowRight, WindowRightOf}
 use Rattle.law_store.proofs.Keys.{either_way}
 use Rattle.law_invariants.specs.Operations.{IsKnown, IsOpenOf, Uses}
 use Rattle.law_invariants.specs.Invariant.{Inv, Later}
-use Rattle.law_invariants.proofs.Finding.{some_is, same_equal, in_append, in_added, in_first, passes_both}
+use Rattle.law_invariants.proofs.Finding.{same_equal, in_append, in_added, in_first, passes_both}
 use Rattle.law_invariants.proofs.Remembering.{floor_rises}
 use Rattle.law_invariants.proofs.Judging.{step_if, step_names}
 use Rattle.law_invariants.proofs.Ticking.{refused_keeps, KeepsAll}
@@ -37,26 +37,6 @@ use Rattle.law_moves.proofs.Acting.{alone_keeps}
 use Rattle.law_moves.proofs.Listing.{IsLineOf, listing_only, listing_has, active_only, active_has, one_place}
 use Rattle.law_moves.proofs.Pending.{point_complete, pending_drawn, pending_unmoved, pending_stays, fence_stays, restoration_added}
 use Rattle.law_moves.proofs.Using.{alone_added, same_on, schedule_with_is, schedule_of_is, schedule_there, NotUsed, not_used, none_restores, no_time}
-
--- One refusal after the other
-
-pub check_keeps : (act : Act) (n : ℕ) (ps : Parts) (activity : List Interval) (changes : List Made) (comes : Bool) (why : Refusal) (checks : List Check) (o : Outcome) → (comes ≡ true → KeepsAll act n ps activity changes (refused why))
-    → (comes ≡ false → KeepsAll act n ps activity changes (judged checks o)) → KeepsAll act n ps activity changes (judged (If comes why ∷ checks) o)
-check_keeps act n ps activity changes comes why checks o it goes = step_if (λ r. KeepsAll act n ps activity changes (unless r o)) comes why checks it goes
-
-pub name_keeps : (act : Act) (n : ℕ) (ps : Parts) (activity : List Interval) (changes : List Made) (found : Option Id) (why : Id → Refusal) (checks : List Check) (o : Outcome)
-    → ((id : Id) → found ≡ Some id → KeepsAll act n ps activity changes (refused (why id))) → (found ≡ None → KeepsAll act n ps activity changes (judged checks o)) → KeepsAll act n ps activity changes (judged (Names found why ∷ checks) o)
-name_keeps act n ps activity changes found why checks o it goes = step_names (λ r. KeepsAll act n ps activity changes (unless r o)) found why checks it goes
-
--- what is right of a window, where the schedule is found and no operation uses its namespace
-pub window_by : (Judged : Reply → Schedule → ℕ → ℕ → Type 0) (found : Option Schedule) (reply : Reply) (m : Master) (n to : ℕ) → (is_none found ≡ false → user m (the_schedule found).namespace ≡ None → Judged reply (the_schedule found) n to)
-    → WindowRightOf Judged found reply m n to
-window_by Judged None reply m n to h = tt
-window_by Judged (Some s) reply m n to h = λ free. h refl free
-
-pub used_not : (u : Option Id) → is_some u ≡ true → u ≡ None → ⊥
-used_not None e f = true≢false (sym e)
-used_not (Some x) e f = let q = f in grind arith
 
 -- The restorations with one more
 
@@ -251,39 +231,44 @@ begun_onto ps activity changes n to s before may inv =
       unmoved = λ operation slot l r e v is. pending_unmoved m changes operation slot l r ops e v is;
     }
 
-at_least : (a b : ℕ) → ltb a b ≡ false → b ≤ a
+pub at_least : (a b : ℕ) → ltb a b ≡ false → b ≤ a
 at_least a b e = grind (arith, nat_tests)
 
-below : (a b : ℕ) → leb a b ≡ false → b < a
+pub below : (a b : ℕ) → leb a b ≡ false → b < a
 below a b e = grind (arith, nat_tests)
 
-pub restore_keeps : (ps : Parts) (activity : List Interval) (changes : List Made) (n : ℕ) (schedule : Id) (to : ℕ) (slots : List ℕ) → Later (0 ∷ slots) ps n → same_slots slots [] ≡ true → Inv ps activity changes
-    → KeepsAll (Change (Restore schedule to) slots) n ps activity changes (restore schedule to slots n ps)
-unfolding restore changed
-restore_keeps ps activity changes n schedule to (slot ∷ slots) later plan inv = absurd (true≢false (sym plan))
-restore_keeps ps activity changes n schedule to [] later plan inv =
+-- by the schedule that is found
+restore_found : (found : Option Schedule) (ps : Parts) (activity : List Interval) (changes : List Made) (n : ℕ) (schedule : Id) (to : ℕ) → Later (0 ∷ []) ps n → schedule_with ps.master.schedules schedule ≡ found → Inv ps activity changes
+    → KeepsAll (Change (Restore schedule to) []) n ps activity changes
+    (decided (checked (ok_or found UnknownSchedule) (λ s. restore_checks s to n ps.master)) (λ s. accepts (BeginsRestoration s to) [] (next_restoration ps.master ∷ [])))
+restore_found None ps activity changes n schedule to later e inv =
+    refused_keeps (Change (Restore schedule to) []) UnknownSchedule n ps activity changes later inv (subst (λ o. WindowRightOf WindowRight o (Refused UnknownSchedule) ps.master n to) (sym e) tt) refl
+restore_found (Some s) ps activity changes n schedule to later e inv =
     let m = ps.master in
     let act = Change (Restore schedule to) [] in
-    let found = schedule_with m.schedules schedule in
-    let s = the_schedule found in
     let before : m.clock < n = later 0 refl in
-    let done = accepts (Restore schedule to) [] [] (next_restoration m ∷ []) in
+    let go : Schedule → Outcome = λ s. accepts (BeginsRestoration s to) [] (next_restoration m ∷ []) in
+    let P : Option Refusal → Type 0 = λ why. KeepsAll act n ps activity changes (decided (either why s) go) in
+    let right : (reply : Reply) → (user m s.namespace ≡ None → WindowRight reply s n to) → WindowRightOf WindowRight (schedule_with m.schedules schedule) reply m n to =
+    λ reply h. subst (λ o. WindowRightOf WindowRight o reply m n to) (sym e) h in
+    let refuse : (why : Refusal) → (user m s.namespace ≡ None → WindowRight (Refused why) s n to) → KeepsAll act n ps activity changes (refused why) =
+    λ why h. refused_keeps act why n ps activity changes later inv (right (Refused why) h) refl in
     let future : List Check = If (leb n to) (Future n) ∷ [] in
     let early : List Check = If (ltb to (low s n)) (TooEarly (low s n)) ∷ future in
-    let busy : List Check = Names (user m s.namespace) Busy ∷ early in
-    check_keeps act n ps activity changes (is_none found) UnknownSchedule busy done
-    (λ none. refused_keeps act UnknownSchedule n ps activity changes later inv (window_by WindowRight found (Refused UnknownSchedule) m n to (λ some free. absurd (true≢false (sym none ∙ some)))) refl)
-    (λ some. name_keeps act n ps activity changes (user m s.namespace) Busy early done
-    (λ by used. refused_keeps act (Busy by) n ps activity changes later inv
-    (window_by WindowRight found (Refused (Busy by)) m n to (λ there free. absurd (used_not (user m s.namespace) (ap is_some used) free))) refl)
-    (λ free. check_keeps act n ps activity changes (ltb to (low s n)) (TooEarly (low s n)) future done
-    (λ l. refused_keeps act (TooEarly (low s n)) n ps activity changes later inv (window_by WindowRight found (Refused (TooEarly (low s n))) m n to (λ there unused. (refl, ltb-true to (low s n) l))) refl)
-    (λ l. check_keeps act n ps activity changes (leb n to) (Future n) [] done
-    (λ g. refused_keeps act (Future n) n ps activity changes later inv
-    (window_by WindowRight found (Refused (Future n)) m n to (λ there unused. (refl, (at_least to (low s n) l, leb-true n to g)))) refl)
+    step_names P (user m s.namespace) Busy early
+    (λ by used. refuse (Busy by) (λ free. absurd (let q : None ≡ Some by = sym free ∙ used in grind arith)))
+    (λ free. step_if P (ltb to (low s n)) (TooEarly (low s n)) future
+    (λ l. refuse (TooEarly (low s n)) (λ _. (refl, ltb-true to (low s n) l)))
+    (λ l. step_if P (leb n to) (Future n) []
+    (λ g. refuse (Future n) (λ _. (refl, (at_least to (low s n) l, leb-true n to g))))
     (λ g.
-    let is = schedule_with_is m.schedules schedule s (some_is found no_schedule some) in
+    let is = schedule_with_is m.schedules schedule s e in
     let may : MayRestore m s to n = record { there = is.0; free = not_used m s.namespace (ap is_some free); from = at_least to (low s n) l; before = below n to g } in
-    alone_keeps act done n ps activity activity changes changes (recorded m (begun s to n m)) refl refl refl refl
-    (window_by WindowRight found (Ok (next_restoration m ∷ [])) m n to (λ there unused. (may.from, may.before))) refl
-    (records_keep ps activity changes (begun s to n m) (begun_onto ps activity changes n to s before may inv) inv)))))
+    alone_keeps act (go s) n ps activity activity changes changes (recorded m (begun s to n m)) refl refl refl refl (right (Ok (next_restoration m ∷ [])) (λ _. (may.from, may.before))) refl
+    (records_keep ps activity changes (begun s to n m) (begun_onto ps activity changes n to s before may inv) inv))))
+
+pub restore_keeps : (ps : Parts) (activity : List Interval) (changes : List Made) (n : ℕ) (schedule : Id) (to : ℕ) (slots : List ℕ) → Later (0 ∷ slots) ps n → same_slots slots [] ≡ true → Inv ps activity changes
+    → KeepsAll (Change (Restore schedule to) slots) n ps activity changes (restore schedule to n ps.master)
+unfolding restore
+restore_keeps ps activity changes n schedule to (slot ∷ slots) later plan inv = absurd (true≢false (sym plan))
+restore_keeps ps activity changes n schedule to [] later plan inv = restore_found (schedule_with ps.master.schedules schedule) ps activity changes n schedule to later refl inv

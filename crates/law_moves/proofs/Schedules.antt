@@ -1,47 +1,39 @@
 -- Schedules are made and deleted.
 use Rattle.std.proofs.Common.{ℕ, ◌≡◌, ◌≤◌, ◌<◌, ◌+◌, List, [], ◌∷◌, ◌++◌, Option, Some, None, Bool, true, false, cond, ◌⊎◌, inl, inr, refl, sym, ap, subst, ◌∙◌, arith, not, le_trans, le_refl, le_of_lt}
-use Rattle.std.specs.Prelude.{is_none, is_some}
+use Rattle.std.specs.Prelude.{is_some}
 use Rattle.std.specs.List.{filter}
 use Rattle.std.proofs.lemmas.Bool.{true≢false}
-use Rattle.row_values.specs.Ids.{Kind, Namespace, Table, Tablet as TabletKind, Schedule as ScheduleKind, Snapshot, Restoration, Clone, Id, same, no_id}
+use Rattle.row_values.specs.Ids.{Kind, Namespace, Table, Tablet as TabletKind, Schedule as ScheduleKind, Snapshot, Restoration, Clone, Id, same}
 use Rattle.row_values.specs.Elements.{In}
 use Rattle.row_values.specs.Slots.{same_slots}
 use Rattle.model.specs.Activity.{Interval}
-use Rattle.model.specs.Catalog.{namespace_named}
 use Rattle.model.specs.Journal.{Change as Made}
-use Rattle.model.specs.Records.{Schedule, schedule_with, schedule_of, unfinished_of}
-use Rattle.model.specs.Schedules.{is_period, floor, low, complete_to}
+use Rattle.model.specs.Records.{Schedule, schedule_of, unfinished_of}
+use Rattle.model.specs.Schedules.{floor, low, complete_to}
 use Rattle.model.specs.Drawn.{drawn_of}
-use Rattle.model.specs.Acts.{CreateSchedule, DeleteSchedule, Change, UnknownNamespace, UnknownSchedule, Busy, ScheduleExists, BadPeriod}
-use Rattle.model.specs.Operations.{holder, user, time_of_user}
+use Rattle.model.specs.Acts.{CreateSchedule, DeleteSchedule, Change}
+use Rattle.model.specs.Operations.{user, time_of_user}
 use Rattle.model.specs.Cleanup.{floor_of}
-use Rattle.model.specs.Looks.{known}
-use Rattle.model.specs.Parts.{Master, Parts, Drawn, Check, If, Names}
-use Rattle.model.specs.Changes.{accepts, create_schedule, delete_schedule, schedule_id, schedule_user}
-use Rattle.model.specs.Changed.{changed, next_schedule, the_schedule, no_schedule}
+use Rattle.model.specs.Looks.{found_namespace}
+use Rattle.model.specs.Parts.{Master, Parts, Drawn, MakesSchedule, DeletesSchedule}
+use Rattle.model.specs.Changes.{accepts, schedule_id, create_schedule_checks, judge_create_schedule, create_schedule, found_schedule, delete_schedule_checks, judge_delete_schedule, delete_schedule}
+use Rattle.model.specs.Changed.{next_schedule}
 use Rattle.law_store.proofs.Keys.{either_way}
 use Rattle.law_invariants.specs.Operations.{Alone, ScheduleGood}
 use Rattle.law_invariants.specs.Invariant.{Inv, Later}
-use Rattle.law_invariants.proofs.Finding.{none_or_some, some_is, same_equal, same_self, in_append, in_added, in_first, filter_in, in_filter}
+use Rattle.law_invariants.proofs.Finding.{none_or_some, same_equal, same_self, in_append, in_added, in_first, filter_in, in_filter}
 use Rattle.law_invariants.proofs.Names.{named_is}
 use Rattle.law_invariants.proofs.Operating.{not_held, visible_later}
 use Rattle.law_invariants.proofs.Remembering.{floor_rises}
-use Rattle.law_invariants.proofs.Ticking.{by_checks, refused_keeps, KeepsAll}
+use Rattle.law_invariants.proofs.Ticking.{by_judgement, refused_keeps, KeepsAll}
+use Rattle.law_invariants.proofs.Judging.{checked_is}
+use Rattle.law_invariants.proofs.Cataloguing.{namespace_is}
 use Rattle.law_moves.proofs.Recording.{Records, recorded, WasSchedule, NewSchedule, Onto}
 use Rattle.law_moves.proofs.Staying.{schedule_on}
 use Rattle.law_moves.proofs.Slots.{records_keep}
 use Rattle.law_moves.proofs.Acting.{alone_keeps}
 use Rattle.law_moves.proofs.Pending.{point_complete, pending_drawn, pending_unmoved, pending_stays, fence_stays}
-use Rattle.law_moves.proofs.Using.{alone_added, same_on, schedule_of_is, schedule_with_is, schedule_none, schedule_before, schedule_last, schedule_free, unfinished_none, neither_is, NotUsed, not_used, no_time}
-
-abbrev create_schedule_checks : ℕ → ℕ → List ℕ → Master → List Check
-create_schedule_checks interval retention namespace m =
-    let ns = namespace_named m.catalog.namespaces namespace in
-    If (is_none ns) UnknownNamespace
-    ∷ Names (holder m (known ns)) Busy
-    ∷ Names (schedule_id (schedule_of m.schedules (known ns))) ScheduleExists
-    ∷ If (not (is_period interval retention)) (BadPeriod interval retention)
-    ∷ []
+use Rattle.law_moves.proofs.Using.{alone_added, same_on, schedule_of_is, schedule_is, schedule_none, schedule_before, schedule_last, schedule_free, unfinished_none, neither_is, NotUsed, not_used, no_time}
 
 abbrev made_schedule : Id → ℕ → ℕ → ℕ → Master → Schedule
 made_schedule ns interval retention n m = record { id = next_schedule m; namespace = ns; interval = interval; retention = retention; kept_low = n; last = None; complete = None }
@@ -168,22 +160,21 @@ made_onto ps activity changes n interval retention ns before drawn none free inv
         subst (λ y. n ≤ y) (sym is) l
 
 pub create_schedule_keeps : (ps : Parts) (activity : List Interval) (changes : List Made) (n interval retention : ℕ) (namespace slots : List ℕ) → Later (0 ∷ slots) ps n → same_slots slots [] ≡ true → Inv ps activity changes
-    → KeepsAll (Change (CreateSchedule interval retention namespace) slots) n ps activity changes (create_schedule interval retention namespace slots n ps)
-unfolding create_schedule changed
+    → KeepsAll (Change (CreateSchedule interval retention namespace) slots) n ps activity changes (create_schedule interval retention namespace ps.master)
+unfolding create_schedule
 create_schedule_keeps ps activity changes n interval retention namespace (slot ∷ slots) later plan inv = absurd (true≢false (sym plan))
 create_schedule_keeps ps activity changes n interval retention namespace [] later plan inv =
     let m = ps.master in
     let act = Change (CreateSchedule interval retention namespace) [] in
-    let found = namespace_named m.catalog.namespaces namespace in
-    let ns = known found in
     let before : m.clock < n = later 0 refl in
-    by_checks act n ps activity changes (create_schedule_checks interval retention namespace m) (accepts (CreateSchedule interval retention namespace) [] [] (next_schedule m ∷ []))
+    by_judgement act n ps activity changes (judge_create_schedule interval retention namespace m) _
     (λ why. refused_keeps act why n ps activity changes later inv tt refl)
-    (λ passes.
-    let is = named_is m.catalog.namespaces namespace ns (some_is found no_id passes.0) in
+    (λ ns found.
+    let judged = checked_is (found_namespace m namespace) (λ ns. create_schedule_checks ns interval retention m) ns found in
+    let is = named_is m.catalog.namespaces namespace ns (namespace_is m namespace ns judged.0) in
     let drawn : ns.number ≤ m.drawn.namespaces = subst (λ i. i.number ≤ m.drawn.namespaces) is.id_is (inv.master.namespaces.drawn_before is.record_ is.listed) in
-    let none = no_schedule_id (schedule_of m.schedules ns) passes.1.1.0 in
-    let unheld = not_held m ns passes.1.0 in
+    let none = no_schedule_id (schedule_of m.schedules ns) judged.1.1.0 in
+    let unheld = not_held m ns judged.1.0 in
     let free : NotUsed m ns = record {
       restoration = unheld.restoration;
       clone = λ c isin unfinished uses. elim uses [
@@ -191,9 +182,9 @@ create_schedule_keeps ps activity changes n interval retention namespace [] late
         | inr target ↦ unheld.clone c isin unfinished target
       ];
     } in
-    alone_keeps act (accepts (CreateSchedule interval retention namespace) [] [] (next_schedule m ∷ [])) n ps activity activity changes changes
-    (recorded m (with_schedule (made_schedule ns interval retention n m) n m)) refl refl refl refl tt refl
-    (records_keep ps activity changes (with_schedule (made_schedule ns interval retention n m) n m) (made_onto ps activity changes n interval retention ns before drawn none free inv) inv))
+    let w = with_schedule (made_schedule ns interval retention n m) n m in
+    alone_keeps act (accepts (MakesSchedule ns interval retention) [] (next_schedule m ∷ [])) n ps activity activity changes changes (recorded m w) refl refl refl refl tt refl
+    (records_keep ps activity changes w (made_onto ps activity changes n interval retention ns before drawn none free inv) inv))
 
 -- A schedule is deleted
 
@@ -305,26 +296,20 @@ deleted_onto ps activity changes n s before there calm free inv =
       unmoved = λ operation slot l r e v is. pending_unmoved m changes operation slot l r ops e v is;
     }
 
-abbrev delete_schedule_checks : Id → Master → List Check
-delete_schedule_checks schedule m =
-    let found = schedule_with m.schedules schedule in
-    If (is_none found) UnknownSchedule ∷ Names (schedule_user m (the_schedule found)) Busy ∷ []
-
 pub delete_schedule_keeps : (ps : Parts) (activity : List Interval) (changes : List Made) (n : ℕ) (schedule : Id) (slots : List ℕ) → Later (0 ∷ slots) ps n → same_slots slots [] ≡ true → Inv ps activity changes
-    → KeepsAll (Change (DeleteSchedule schedule) slots) n ps activity changes (delete_schedule schedule slots n ps)
-unfolding delete_schedule changed
+    → KeepsAll (Change (DeleteSchedule schedule) slots) n ps activity changes (delete_schedule schedule ps.master)
+unfolding delete_schedule
 delete_schedule_keeps ps activity changes n schedule (slot ∷ slots) later plan inv = absurd (true≢false (sym plan))
 delete_schedule_keeps ps activity changes n schedule [] later plan inv =
     let m = ps.master in
     let act = Change (DeleteSchedule schedule) [] in
-    let found = schedule_with m.schedules schedule in
-    let s = the_schedule found in
     let before : m.clock < n = later 0 refl in
-    by_checks act n ps activity changes (delete_schedule_checks schedule m) (accepts (DeleteSchedule schedule) [] [] [])
+    by_judgement act n ps activity changes (judge_delete_schedule schedule m) _
     (λ why. refused_keeps act why n ps activity changes later inv tt refl)
-    (λ passes.
-    let is = schedule_with_is m.schedules schedule s (some_is found no_schedule passes.0) in
-    let neither = neither_is (user m s.namespace) (unfinished_of m.snapshots s.id) passes.1.0 in
-    let w : Records = without_schedule schedule n m in
-    let onto : Onto ps changes w = subst (λ id. Onto ps changes (without_schedule id n m)) is.1 (deleted_onto ps activity changes n s before is.0 neither.1 (not_used m s.namespace (ap is_some neither.0)) inv) in
-    alone_keeps act (accepts (DeleteSchedule schedule) [] [] []) n ps activity activity changes changes (recorded m w) refl refl refl refl tt refl (records_keep ps activity changes w onto inv))
+    (λ s found.
+    let judged = checked_is (found_schedule m schedule) (λ s. delete_schedule_checks s m) s found in
+    let is = schedule_is m schedule s judged.0 in
+    let neither = neither_is (user m s.namespace) (unfinished_of m.snapshots s.id) judged.1.0 in
+    let w : Records = without_schedule s.id n m in
+    let onto : Onto ps changes w = deleted_onto ps activity changes n s before is.0 neither.1 (not_used m s.namespace (ap is_some neither.0)) inv in
+    alone_keeps act (accepts (DeletesSchedule s.id) [] []) n ps activity activity changes changes (recorded m w) refl refl refl refl tt refl (records_keep ps activity changes w onto inv))

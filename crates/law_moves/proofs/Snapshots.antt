@@ -1,6 +1,6 @@
 -- A snapshot of a schedule is taken.
-use Rattle.std.proofs.Common.{ℕ, ◌≡◌, ◌≤◌, ◌<◌, ◌+◌, ◌-◌, List, [], ◌∷◌, ◌++◌, Option, Some, None, Bool, true, false, cond, ◌⊎◌, inl, inr, refl, sym, ap, subst, ◌∙◌, arith, not, le_trans, le_refl, le_of_lt, lt_of_lt_of_le}
-use Rattle.std.specs.Prelude.{is_none, is_some}
+use Rattle.std.proofs.Common.{ℕ, ◌≡◌, ◌≤◌, ◌<◌, ◌+◌, ◌-◌, List, [], ◌∷◌, ◌++◌, Option, Some, None, Bool, true, false, cond, ◌⊎◌, inl, inr, refl, sym, ap, subst, ◌∙◌, arith, le_trans, le_refl, le_of_lt, lt_of_lt_of_le}
+use Rattle.std.specs.Prelude.{is_some}
 use Rattle.std.specs.List.{filter}
 use Rattle.std.proofs.lemmas.Bool.{true≢false}
 use Rattle.row_values.specs.Ids.{Kind, Namespace, Table, Tablet as TabletKind, Schedule as ScheduleKind, Snapshot, Restoration, Clone, Id, same}
@@ -10,29 +10,29 @@ use Rattle.model.specs.Activity.{Interval, active_within}
 use Rattle.model.specs.Catalog.{owner_of}
 use Rattle.model.specs.Journal.{Change as Made}
 use Rattle.model.specs.Tablets.{Freeze}
-use Rattle.model.specs.Records.{Listed, Schedule, SnapshotRecord, RestorationRecord, is_restored, point_of, schedule_with, schedule_of, unfinished_of}
-use Rattle.model.specs.Schedules.{floor, complete_to, after_of, is_due, next_due}
+use Rattle.model.specs.Records.{Listed, Schedule, SnapshotRecord, RestorationRecord, is_restored, point_of, schedule_of, unfinished_of}
+use Rattle.model.specs.Schedules.{floor, complete_to, after_of}
 use Rattle.model.specs.Drawn.{drawn_of}
-use Rattle.model.specs.Acts.{TakeSnapshot, Change, UnknownSchedule, Busy, NotDue}
+use Rattle.model.specs.Acts.{TakeSnapshot, Change}
 use Rattle.model.specs.Operations.{user, time_of_user}
 use Rattle.model.specs.Cleanup.{floor_of}
 use Rattle.model.specs.Lists.{next_snapshot, new_snapshot, set_last, tablets_active_within, intervals_in, once}
-use Rattle.model.specs.Parts.{Master, Parts, Drawn, Check, If, Names}
-use Rattle.model.specs.Changes.{accepts, take_snapshot, schedule_user}
-use Rattle.model.specs.Changed.{changed, the_schedule, no_schedule}
+use Rattle.model.specs.Parts.{Master, Parts, Drawn, TakesSnapshot}
+use Rattle.model.specs.Changes.{accepts, found_schedule, take_snapshot_checks, judge_take_snapshot, take_snapshot}
 use Rattle.law_store.proofs.Keys.{either_way}
 use Rattle.law_invariants.specs.Operations.{SnapshotsRise, ScheduleGood, SnapshotGood}
 use Rattle.law_invariants.specs.Invariant.{Inv, Later}
-use Rattle.law_invariants.proofs.Finding.{some_is, same_equal, same_self, in_append, in_added, in_first, in_second, filter_in, in_filter, in_mapped, map_in}
+use Rattle.law_invariants.proofs.Finding.{same_equal, same_self, in_append, in_added, in_first, in_second, filter_in, in_filter, in_mapped, map_in}
 use Rattle.law_invariants.proofs.Remembering.{floor_rises}
-use Rattle.law_invariants.proofs.Ticking.{by_checks, refused_keeps, KeepsAll}
+use Rattle.law_invariants.proofs.Ticking.{by_judgement, refused_keeps, KeepsAll}
+use Rattle.law_invariants.proofs.Judging.{checked_is}
 use Rattle.law_moves.proofs.Recording.{Records, recorded, SnapshotCame, SnapshotOn, Onto}
 use Rattle.law_moves.proofs.Staying.{schedule_on}
 use Rattle.law_moves.proofs.Slots.{records_keep}
 use Rattle.law_moves.proofs.Acting.{alone_keeps}
 use Rattle.law_moves.proofs.Listing.{IsLineOf, listing_only, listing_has, once_only, once_has, namespace_only, namespace_has, one_place}
 use Rattle.law_moves.proofs.Pending.{point_complete, pending_drawn, pending_unmoved, pending_stays, fence_stays, snapshot_added}
-use Rattle.law_moves.proofs.Using.{same_on, schedule_with_is, unfinished_none, neither_is, not_used, mapped_is, alone_mapped, mapped_floor}
+use Rattle.law_moves.proofs.Using.{same_on, schedule_is, unfinished_none, neither_is, not_used, mapped_is, alone_mapped, mapped_floor}
 
 abbrev pub taken : Schedule → ℕ → Master → Records
 taken s n m = record {
@@ -229,28 +229,21 @@ taken_onto ps activity changes n s before may inv =
       unmoved = λ operation slot l r e v is. pending_unmoved m changes operation slot l r ops e v is;
     }
 
-abbrev take_snapshot_checks : Id → ℕ → Master → List Check
-take_snapshot_checks schedule n m =
-    let found = schedule_with m.schedules schedule in
-    let s = the_schedule found in
-    If (is_none found) UnknownSchedule ∷ Names (schedule_user m s) Busy ∷ If (not (is_due s n)) (NotDue (next_due s)) ∷ []
-
 pub take_snapshot_keeps : (ps : Parts) (activity : List Interval) (changes : List Made) (n : ℕ) (schedule : Id) (slots : List ℕ) → Later (0 ∷ slots) ps n → same_slots slots [] ≡ true → Inv ps activity changes
-    → KeepsAll (Change (TakeSnapshot schedule) slots) n ps activity changes (take_snapshot schedule slots n ps)
-unfolding take_snapshot changed
+    → KeepsAll (Change (TakeSnapshot schedule) slots) n ps activity changes (take_snapshot schedule n ps.master)
+unfolding take_snapshot
 take_snapshot_keeps ps activity changes n schedule (slot ∷ slots) later plan inv = absurd (true≢false (sym plan))
 take_snapshot_keeps ps activity changes n schedule [] later plan inv =
     let m = ps.master in
     let act = Change (TakeSnapshot schedule) [] in
-    let found = schedule_with m.schedules schedule in
-    let s = the_schedule found in
     let before : m.clock < n = later 0 refl in
-    by_checks act n ps activity changes (take_snapshot_checks schedule n m) (accepts (TakeSnapshot schedule) [] [] (next_snapshot m ∷ []))
+    by_judgement act n ps activity changes (judge_take_snapshot schedule n m) _
     (λ why. refused_keeps act why n ps activity changes later inv tt refl)
-    (λ passes.
-    let is = schedule_with_is m.schedules schedule s (some_is found no_schedule passes.0) in
-    let neither = neither_is (user m s.namespace) (unfinished_of m.snapshots s.id) passes.1.0 in
+    (λ s found.
+    let judged = checked_is (found_schedule m schedule) (λ s. take_snapshot_checks s n m) s found in
+    let is = schedule_is m schedule s judged.0 in
+    let neither = neither_is (user m s.namespace) (unfinished_of m.snapshots s.id) judged.1.0 in
     let free = not_used m s.namespace (ap is_some neither.0) in
     let may : MayTake m s = record { there = is.0; calm = neither.1; early = λ r point isin unfinished at e. free.restoration r isin unfinished (sym e) } in
-    alone_keeps act (accepts (TakeSnapshot schedule) [] [] (next_snapshot m ∷ [])) n ps activity activity changes changes (recorded m (taken s n m)) refl refl refl refl tt refl
+    alone_keeps act (accepts (TakesSnapshot s) [] (next_snapshot m ∷ [])) n ps activity activity changes changes (recorded m (taken s n m)) refl refl refl refl tt refl
     (records_keep ps activity changes (taken s n m) (taken_onto ps activity changes n s before may inv) inv))

@@ -8,6 +8,10 @@ use Rattle.model.specs.Records.{Schedule, SnapshotRecord, RestorationRecord, Clo
 use Rattle.model.specs.Schedules.{low, least_with, floor}
 use Rattle.model.specs.Operations.{user, restoration_of, clone_with, time_of_user}
 use Rattle.model.specs.Parts.{Master}
+use Rattle.model.specs.Acts.{UnknownSchedule}
+use Rattle.model.specs.Changes.{found_schedule}
+use Rattle.law_invariants.proofs.Judging.{found_is}
+use Rattle.std.specs.Prelude.{Ok}
 use Rattle.law_store.proofs.Keys.{either_way}
 use Rattle.law_invariants.specs.Operations.{Alone, Uses}
 use Rattle.law_invariants.proofs.Finding.{in_append, in_mapped, passes_both, both_pass, same_equal, same_self}
@@ -41,6 +45,10 @@ schedule_with_is [] id s e = absurd (let q = e in grind arith)
 schedule_with_is (t ∷ ss) id s e = either_way (same t.id id)
     (λ b. let k : Some t ≡ Some s = rw b at e in let first : t ≡ s = cc in (inl first, ap (λ x. x.id) (sym first) ∙ same_equal t.id id b))
     (λ b. let k : schedule_with ss id ≡ Some s = rw b at e in let h = schedule_with_is ss id s k in (inr h.0, h.1))
+
+-- the schedule that a command names
+pub schedule_is : (m : Master) (schedule : Id) (s : Schedule) → found_schedule m schedule ≡ Ok s → In s m.schedules × (s.id ≡ schedule)
+schedule_is m schedule s e = schedule_with_is m.schedules schedule s (found_is (schedule_with m.schedules schedule) UnknownSchedule s e)
 
 pub schedule_of_is : (ss : List Schedule) (ns : Id) (s : Schedule) → schedule_of ss ns ≡ Some s → In s ss × (s.namespace ≡ ns)
 schedule_of_is [] ns s e = absurd (let q = e in grind arith)

@@ -25,7 +25,7 @@ use Rattle.law_invariants.proofs.Marked.{master_marked, slot_marked, inbox_chang
 use Rattle.law_invariants.proofs.Remembering.{remembered_on, floor_rises}
 use Rattle.law_invariants.proofs.Operating.{Onward, operations_on}
 use Rattle.model.specs.Catalog.{owner_of}
-use Rattle.model.specs.Looks.{known}
+use Rattle.std.specs.Option.{option_and_then}
 use Rattle.law_store.proofs.Restoring.{kept_same}
 use Rattle.law_invariants.specs.Operations.{RestoringGood, RestorationStateGood}
 use Rattle.law_invariants.proofs.Finding.{same_equal, same_self}
@@ -92,6 +92,10 @@ in_schedules (x ∷ xs) ns s e = either_way (same x.namespace ns)
     (λ b. inl (let q : Some x ≡ Some s = rw b at e in let r : x ≡ s = cc in r))
     (λ b. inr (in_schedules xs ns s (rw b at e)))
 
+in_found : (ss : List Schedule) (ns : Option Id) (s : Schedule) → option_and_then (schedule_of ss) ns ≡ Some s → In s ss
+in_found ss None s e = absurd (let q = e in grind arith)
+in_found ss (Some ns) s e = in_schedules ss ns s e
+
 -- the cutoff that an event may reach is not after its stamp
 pub allowed_by : (found : Option Schedule) (m : Master) (n : ℕ) → m.clock ≤ n → ((s : Schedule) → found ≡ Some s → complete_to s.complete s + 1 ≤ m.clock) → allowed_cutoff found n ≤ n
 allowed_by None m n le h = omega arith
@@ -99,15 +103,15 @@ allowed_by (Some s) m n le h = le_trans (h s refl) le
 
 -- a tablet that took back its rows keeps its cutoff: its schedule's last complete snapshot is the restoration's own
 
-there_is : (is : List Interval) (v : Interval) (slot : ℕ) → In v is → v.slot ≡ slot → (i : Interval) × (In i is × ((i.slot ≡ slot) × (table_in is slot ≡ i.table)))
+there_is : (is : List Interval) (v : Interval) (slot : ℕ) → In v is → v.slot ≡ slot → (i : Interval) × (In i is × ((i.slot ≡ slot) × (table_in is slot ≡ Some i.table)))
 there_is [] v slot isin e = absurd isin
 there_is (i ∷ is) v slot isin e = either_way (eqb i.slot slot)
-    (λ b. (i, (inl refl, (eqb-true i.slot slot b, ap (λ q. cond q i.table (table_in is slot)) b))))
-    (λ b. let rest = elim isin as (λ _. (j : Interval) × (In j is × ((j.slot ≡ slot) × (table_in is slot ≡ j.table)))) [
+    (λ b. (i, (inl refl, (eqb-true i.slot slot b, ap (λ q. cond q (Some i.table) (table_in is slot)) b))))
+    (λ b. let rest = elim isin as (λ _. (j : Interval) × (In j is × ((j.slot ≡ slot) × (table_in is slot ≡ Some j.table)))) [
       | inl same_ ↦ absurd (let q : eqb i.slot slot ≡ true = ap (λ k. eqb k.slot slot) same_ ∙ (let s : eqb v.slot slot ≡ true = grind (arith, nat_tests) in s) in true≢false (sym q ∙ b))
       | inr more ↦ there_is is v slot more e
     ] in
-    (rest.0, (inr rest.1.0, (rest.1.1.0, ap (λ q. cond q i.table (table_in is slot)) b ∙ rest.1.1.1))))
+    (rest.0, (inr rest.1.0, (rest.1.1.0, ap (λ q. cond q (Some i.table) (table_in is slot)) b ∙ rest.1.1.1))))
 
 schedule_there : (ss : List Schedule) (ns : Id) (s : Schedule) → In s ss → s.namespace ≡ ns → (k : Schedule) × (In k ss × ((k.namespace ≡ ns) × (schedule_of ss ns ≡ Some k)))
 schedule_there [] ns s isin e = absurd isin
@@ -129,13 +133,13 @@ capped ps activity changes n slot r l point serving inv isin is lists at e =
     let v = g.known still l lists in
     let i = there_is m.activity v.interval slot v.kept (v.slot_is ∙ at) in
     let alike : i.0.table ≡ v.interval.table = sym ((inv.slots slot).each i.0 i.1.0 i.1.1.0).table_is ∙ ((inv.slots slot).each v.interval v.kept (v.slot_is ∙ at)).table_is in
-    let owner : owner_of m.catalog.owners (table_in m.activity slot) ≡ Some r.namespace =
-    ap (owner_of m.catalog.owners) (i.1.1.1 ∙ alike) ∙ inv.master.listed_of r l isin lists v.interval v.kept v.tablet_is in
+    let owner : option_and_then (owner_of m.catalog.owners) (table_in m.activity slot) ≡ Some r.namespace =
+    ap (option_and_then (owner_of m.catalog.owners)) (i.1.1.1 ∙ ap Some alike) ∙ inv.master.listed_of r l isin lists v.interval v.kept v.tablet_is in
     let s = g.scheduled still in
     let k = schedule_there m.schedules r.namespace s.0 s.1.0 s.1.1.1 in
     let one : k.0 ≡ s.0 = inv.operations.apart.one_schedule k.0 s.0 k.1.0 s.1.0 (k.1.1.0 ∙ sym s.1.1.1) in
     let within : complete_to k.0.complete k.0 + 1 ≤ point = good.is_point.complete k.0 k.1.0 (ap (λ q. q.id) one ∙ s.1.1.0) in
-    let found : allowed_cutoff (schedule_at m slot) n ≡ complete_to k.0.complete k.0 + 1 = ap (λ o. allowed_cutoff (schedule_of m.schedules (known o)) n) owner ∙ ap (λ o. allowed_cutoff o n) k.1.1.1 in
+    let found : allowed_cutoff (schedule_at m slot) n ≡ complete_to k.0.complete k.0 + 1 = ap (λ o. allowed_cutoff (option_and_then (schedule_of m.schedules) o) n) owner ∙ ap (λ o. allowed_cutoff o n) k.1.1.1 in
     omega arith
 
 pub cutoff_keeps : (ps : Parts) (activity : List Interval) (changes : List Change) (n slot : ℕ) → Later (slots_of (Cutoff slot)) ps n → 1 ≤ slot → Inv ps activity changes
@@ -147,7 +151,7 @@ cutoff_keeps ps activity changes n slot later from inv =
     let w = inv.works slot in
     let to = allowed_cutoff (schedule_at ps.master slot) n in
     let le : t.clock ≤ n = le_of_lt (clock_before (0 ∷ slot ∷ []) ps n slot later from (has_second slot)) in
-    let within : to ≤ n = allowed_by (schedule_at ps.master slot) ps.master n (master_before (0 ∷ slot ∷ []) ps n later refl) (λ s e. inv.master.complete s (in_schedules ps.master.schedules _ s e)) in
+    let within : to ≤ n = allowed_by (schedule_at ps.master slot) ps.master n (master_before (0 ∷ slot ∷ []) ps n later refl) (λ s e. inv.master.complete s (in_found ps.master.schedules _ s e)) in
     by_checks (Cutoff slot) n ps activity changes (If (is_empty t.presence) (has_moved slot t) ∷ []) (tells slot (RaiseCutoff to) (CutoffAt (max t.cutoff to)))
     (λ why. refused_keeps (Cutoff slot) why n ps activity changes later inv tt refl)
     (λ passes. record {

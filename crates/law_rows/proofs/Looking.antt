@@ -1,13 +1,13 @@
 -- Looks change nothing but clocks, and their replies are right.
-use Rattle.std.proofs.Common.{ℕ, ◌≤◌, length, List, [], ◌∷◌, Option, Some, None, map, refl, is_none, Some}
-use Rattle.std.specs.Option.{option_map, option_to_list}
-use Rattle.model.specs.Times.{time_of, is_future, is_below}
-use Rattle.model.specs.Catalog.{namespace_named, kept_from}
+use Rattle.std.proofs.Common.{ℕ, ◌≤◌, length, List, Option, refl}
+use Rattle.std.specs.Option.{option_to_list}
+use Rattle.std.specs.Prelude.{Result, Ok, Err}
+use Rattle.model.specs.Catalog.{TableRecord}
 use Rattle.model.specs.Journal.{Change}
-use Rattle.model.specs.Acts.{Command, NamedItem, Act, Look, AskPlan, AskKeys, AskTable, AskWork, AskRemovable, AskPresent, Ask, UnknownNamespace, UnknownTable, Future, TooOld, CrossTablet, Placed, Planned, Reply, Refused, Refusal}
-use Rattle.model.specs.Parts.{Parts, Check, If, Fault, refusal_in, unless, judged, answered}
+use Rattle.model.specs.Acts.{Command, NamedItem, Act, Look, AskPlan, AskKeys, AskTable, AskWork, AskRemovable, AskPresent, Ask, Planned, Reply, Refused, Refusal}
+use Rattle.model.specs.Parts.{Parts, decided, answered}
 use Rattle.model.specs.Lists.{by_range}
-use Rattle.model.specs.Looks.{look_plan, look_keys, look_table, look_present, plan_of, table_asked, known, the_table, batch_fault, holding, first_code, other_code, place_of, active_in}
+use Rattle.model.specs.Looks.{look_plan, look_keys, look_table, look_present, plan_of, found_at, judge_keys, placed, holding, first_code, active_in}
 use Rattle.model.specs.Entries.{slots_of, AskAsked}
 use Rattle.model.specs.History.{told, outcome}
 use Rattle.law_invariants.specs.Invariant.{Inv, Later}
@@ -17,30 +17,21 @@ use Rattle.law_invariants.proofs.Placing.{keys_places, table_places, all_past}
 use Rattle.model.specs.Activity.{Interval}
 use Rattle.law_invariants.specs.Remembered.{activity_after}
 
--- an outcome that only answers, refused or not, keeps what holds
-judged_told : (checks : List Check) (act : Act) (reply : Reply) (n : ℕ) (ps : Parts) (activity : List Interval) (changes : List Change) → Later (slots_of act) ps n → Inv ps activity changes
-    → Inv (told act (judged checks (answered reply)) n ps) (activity_after act (judged checks (answered reply)) n ps activity) changes
-judged_told checks act reply n ps activity changes later inv = either (refusal_in checks)
-  where
-    either : (why : Option Refusal) → Inv (told act (unless why (answered reply)) n ps) (activity_after act (unless why (answered reply)) n ps activity) changes
-    either None = nothing_told act reply n ps activity changes later inv
-    either (Some why) = nothing_told act (Refused why) n ps activity changes later inv
+-- a judgement that only answers, refused or not, keeps what holds
+decided_told : {A : Type 0} (j : Result A Refusal) (act : Act) (reply : A → Reply) (n : ℕ) (ps : Parts) (activity : List Interval) (changes : List Change) → Later (slots_of act) ps n → Inv ps activity changes
+    → Inv (told act (decided j (λ a. answered (reply a))) n ps) (activity_after act (decided j (λ a. answered (reply a))) n ps activity) changes
+decided_told (Err why) act reply n ps activity changes later inv = nothing_told act (Refused why) n ps activity changes later inv
+decided_told (Ok a) act reply n ps activity changes later inv = nothing_told act (reply a) n ps activity changes later inv
 
 pub keys_keeps : (namespace table : List ℕ) (batch : List NamedItem) (at : Option ℕ) (n : ℕ) (ps : Parts) (activity : List Interval) (changes : List Change) → Later (slots_of (Look (AskKeys namespace table batch at))) ps n
     → 1 ≤ length batch → Inv ps activity changes → KeepsAll (Look (AskKeys namespace table batch at)) n ps activity changes (look_keys namespace table batch at n ps.master)
 unfolding look_keys
 keys_keeps namespace table batch at n ps activity changes later some inv =
     let m = ps.master in
-    let ns = namespace_named m.catalog.namespaces namespace in
-    let from = kept_from m.catalog.kept_from (known ns) in
-    let found = table_asked m.catalog.tables (known ns) table at in
-    let t = the_table found in
-    let home = holding m t.id (first_code batch) in
-    let checks : List Check = If (is_none ns) UnknownNamespace ∷ If (is_future at n) (Future n) ∷ If (is_below at from) (TooOld (time_of at n) from) ∷ If (is_none found) UnknownTable
-    ∷ Fault (batch_fault t.schema.columns batch) ∷ Fault (option_map (CrossTablet (first_code batch)) (other_code home batch)) ∷ [] in
+    let is : TableRecord → List Interval = λ t. option_to_list (holding m t.id (first_code batch)) in
     record {
       right = (look_keys_right m n changes namespace table batch at (asked m n changes (later 0 refl) inv.master), keys_places ps n activity changes namespace table batch at (later 0 refl) inv some);
-      inv = judged_told checks (Look (AskKeys namespace table batch at)) (Placed (map place_of (option_to_list home)) t.schema.version t.schema.columns) n ps activity changes later inv;
+      inv = decided_told (judge_keys namespace table batch at n m) (Look (AskKeys namespace table batch at)) (λ t. (placed (is t) t).reply) n ps activity changes later inv;
     }
 
 pub table_keeps : (namespace table : List ℕ) (at : Option ℕ) (n : ℕ) (ps : Parts) (activity : List Interval) (changes : List Change) → Later (slots_of (Look (AskTable namespace table at))) ps n
@@ -48,14 +39,9 @@ pub table_keeps : (namespace table : List ℕ) (at : Option ℕ) (n : ℕ) (ps :
 unfolding look_table
 table_keeps namespace table at n ps activity changes later inv =
     let m = ps.master in
-    let ns = namespace_named m.catalog.namespaces namespace in
-    let from = kept_from m.catalog.kept_from (known ns) in
-    let found = table_asked m.catalog.tables (known ns) table at in
-    let t = the_table found in
-    let checks : List Check = If (is_none ns) UnknownNamespace ∷ If (is_future at n) (Future n) ∷ If (is_below at from) (TooOld (time_of at n) from) ∷ If (is_none found) UnknownTable ∷ [] in
     record {
       right = (look_table_right m n changes namespace table at (asked m n changes (later 0 refl) inv.master), table_places m n changes namespace table at (later 0 refl) inv.master (all_past ps activity changes inv));
-      inv = judged_told checks (Look (AskTable namespace table at)) (Placed (map place_of (by_range (active_in m t.id))) t.schema.version t.schema.columns) n ps activity changes later inv;
+      inv = decided_told (found_at namespace table at n m) (Look (AskTable namespace table at)) (λ t. (placed (by_range (active_in m t.id)) t).reply) n ps activity changes later inv;
     }
 
 plan_keeps : (command : Command) (n : ℕ) (ps : Parts) (activity : List Interval) (changes : List Change) → Later (slots_of (Look (AskPlan command))) ps n → Inv ps activity changes

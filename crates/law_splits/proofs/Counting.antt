@@ -20,10 +20,10 @@ use Rattle.law_splits.proofs.Cutting.{cut, cut_end, cut_mine, cut_stays}
 
 -- the two children of a split
 abbrev pub low_child : Interval → ℕ → ℕ → ℕ → Master → Interval
-low_child p code slot n m = begins slot (next_tablet m 1) p.table p.low code n
+low_child p code slot n m = begins slot (next_tablet m.drawn.tablets 1) p.table p.low code n
 
 abbrev pub high_child : Interval → ℕ → ℕ → ℕ → Master → Interval
-high_child p code slot n m = begins slot (next_tablet m 2) p.table code p.high n
+high_child p code slot n m = begins slot (next_tablet m.drawn.tablets 2) p.table code p.high n
 
 abbrev pub both_children : Interval → ℕ → ℕ → ℕ → ℕ → Master → List Interval
 both_children p code a b n m = low_child p code a n m ∷ high_child p code b n m ∷ []
@@ -186,15 +186,15 @@ split_covers activity changes p code a b n m small isin opened ranged like h =
     let late : n ≤ x = leb-true n x l in
     let gone = count_all activity p n table c x late like in
     let counted = for_once p.tablet activity (same p.table table && in_range p.low p.high c) single in
-    let first = ap one (late_child a (next_tablet m 1) p.table p.low code n table c x late) in
-    let second = ap one (late_child b (next_tablet m 2) p.table code p.high n table c x late) in
+    let first = ap one (late_child a (next_tablet m.drawn.tablets 1) p.table p.low code n table c x late) in
+    let second = ap one (late_child b (next_tablet m.drawn.tablets 2) p.table code p.high n table c x late) in
     let sum = halves (same p.table table) p.low code p.high c low (le_of_lt high) in
     omega (arith, all, gone, counted, first, second, sum))
     (λ l.
     let soon : x < n = grind (arith, nat_tests) in
     let gone = early_all activity p.tablet n table c x soon in
-    let first = early_child a (next_tablet m 1) p.table p.low code n table c x soon in
-    let second = early_child b (next_tablet m 2) p.table code p.high n table c x soon in
+    let first = early_child a (next_tablet m.drawn.tablets 1) p.table p.low code n table c x soon in
+    let second = early_child b (next_tablet m.drawn.tablets 2) p.table code p.high n table c x soon in
     omega (arith, all, gone, first, second)) in
     record {
       once = λ table c x below. subst (λ k. k ≤ 1) (sym (same_ table c x)) (h.once table c x below);

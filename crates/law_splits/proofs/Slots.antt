@@ -131,15 +131,15 @@ slot_parent m n changes p code a b t s early h =
 pub record IsChild (p : Interval) (a b n : ℕ) (code : ℕ) (m : Master) (slot place low high : ℕ) : Type 0 where
   pub drawn : place < 2
   pub isin : In slot (a ∷ b ∷ [])
-  pub listed : In (begins slot (next_tablet m (place + 1)) p.table low high n) (both_children p code a b n m)
+  pub listed : In (begins slot (next_tablet m.drawn.tablets (place + 1)) p.table low high n) (both_children p code a b n m)
   pub within : (c : ℕ) → in_range low high c ≡ true → in_range p.low p.high c ≡ true
   -- it is the one in its slot, and the one with its number
-  pub only : (j : Interval) → In j (both_children p code a b n m) → j.slot ≡ slot → j ≡ begins slot (next_tablet m (place + 1)) p.table low high n
+  pub only : (j : Interval) → In j (both_children p code a b n m) → j.slot ≡ slot → j ≡ begins slot (next_tablet m.drawn.tablets (place + 1)) p.table low high n
   pub one : (j : Interval) → In j (both_children p code a b n m) → j.tablet.number ≡ m.drawn.tablets + (place + 1) → j.slot ≡ slot
 
 good_child : (m : Master) (n : ℕ) (changes : List Change) (p : Interval) (code a b : ℕ) (t u : Tablet) (version slot place low high : ℕ) → IsSplit m n p code a b → IsChild p a b n code m slot place low high → MasterGood m changes
     → awaited_in m.restorations t.tablet t.done ≡ None → IsGood m changes t p
-    → IsGood (split_master p code a b n m) changes (effect (Child (next_tablet m (place + 1)) p.table low high version (part_of low high t.versions) t.cutoff) n u) (begins slot (next_tablet m (place + 1)) p.table low high n)
+    → IsGood (split_master p code a b n m) changes (effect (Child (next_tablet m.drawn.tablets (place + 1)) p.table low high version (part_of low high t.versions) t.cutoff) n u) (begins slot (next_tablet m.drawn.tablets (place + 1)) p.table low high n)
 good_child m n changes p code a b t u version slot place low high s w h calm g = record {
   past = record { begun = le_refl n; ended = tt };
   over = tt;
@@ -157,7 +157,7 @@ good_child m n changes p code a b t u version slot place low high s w h calm g =
       passes_both (leb p.from x) (before_end x p.to) (le-leb p.from x (let l : p.from ≤ m.clock = g.past.begun in let k = s.before in omega arith)) (ap (before_end x) s.opened));
   waits = λ point waits. absurd (let q : None ≡ Some point = sym (new_awaits m changes place h) ∙ waits in grind arith);
   comes = λ r point kept awaits. absurd (
-      let none = awaited_none r.state r (next_tablet m (place + 1)) [] (λ l lists. new_unlisted m changes place r l kept lists h) in
+      let none = awaited_none r.state r (next_tablet m.drawn.tablets (place + 1)) [] (λ l lists. new_unlisted m changes place r l kept lists h) in
       let q : None ≡ Some point = sym none ∙ awaits in grind arith);
   serves = λ opened settled. refl;
   hidden = λ at hides. absurd (let q = hides in grind arith);
@@ -168,14 +168,14 @@ good_child m n changes p code a b t u version slot place low high s w h calm g =
 
 pub slot_child : (m : Master) (n : ℕ) (changes : List Change) (p : Interval) (code a b : ℕ) (t u : Tablet) (version slot place low high : ℕ) → IsSplit m n p code a b → IsChild p a b n code m slot place low high → MasterGood m changes
     → t.clock < n → t.fence ≡ None → ((j : Interval) → In j m.activity → j.tablet.number ≤ m.drawn.tablets) → SlotGood m changes p.slot t
-    → SlotGood (split_master p code a b n m) changes slot (effect (Child (next_tablet m (place + 1)) p.table low high version (part_of low high t.versions) t.cutoff) n u)
+    → SlotGood (split_master p code a b n m) changes slot (effect (Child (next_tablet m.drawn.tablets (place + 1)) p.table low high version (part_of low high t.versions) t.cutoff) n u)
 slot_child m n changes p code a b t u version slot place low high s w h early unfenced drawn of =
     let g = of.each p s.listed refl in
     let calm = calm_parent m n changes p code a b t s of in
     let serves : is_serving t.presence ≡ true = g.serves s.opened calm in
     let made = both_children p code a b n m in
     let k = split_master p code a b n m in
-    let part = effect (Child (next_tablet m (place + 1)) p.table low high version (part_of low high t.versions) t.cutoff) n u in
+    let part = effect (Child (next_tablet m.drawn.tablets (place + 1)) p.table low high version (part_of low high t.versions) t.cutoff) n u in
     record {
       good = record {
         sorted = sorted_part t.versions low high of.good.sorted;
@@ -198,7 +198,7 @@ slot_child m n changes p code a b t u version slot place low high s w h early un
         | inr new ↦ subst (IsGood k changes part) (sym (w.only j new at)) (good_child m n changes p code a b t u version slot place low high s w h calm g)
       ];
       opens = λ serving free. record {
-        interval = begins slot (next_tablet m (place + 1)) p.table low high n;
+        interval = begins slot (next_tablet m.drawn.tablets (place + 1)) p.table low high n;
         listed = in_second (end_tablet p.tablet n m.activity) made _ w.listed;
         slot_is = refl;
         opened = refl;

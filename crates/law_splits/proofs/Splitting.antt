@@ -1,35 +1,36 @@
 -- A tablet is split: it is hidden, and its children take its versions in two free slots.
-use Rattle.std.proofs.Common.{ℕ, ◌≡◌, ◌≢◌, ◌≤◌, ◌<◌, ◌+◌, List, [], ◌∷◌, ◌++◌, length, take, Option, Some, None, true, false, cond, ◌||◌, inl, inr, refl, sym, ap, subst, ◌∙◌, arith, eqb, leb, ltb, le_trans, le_refl, le_of_lt, leb-true, ltb-true, ltb-false, eqb-true}
-use Rattle.std.specs.Prelude.{is_none, unwrap_or}
+use Rattle.std.proofs.Common.{ℕ, ◌≡◌, ◌≢◌, ◌≤◌, ◌<◌, ◌+◌, List, [], ◌∷◌, length, take, Some, None, true, false, cond, ◌||◌, inl, inr, refl, sym, ap, subst, ◌∙◌, arith, eqb, leb, ltb, le_trans, le_refl, le_of_lt, leb-true, ltb-true, eqb-true}
+use Rattle.std.specs.Prelude.{Ok}
+use Rattle.std.specs.Option.{is_some, ok_or}
 use Rattle.std.proofs.lemmas.Bool.{true≢false}
 use Rattle.std.proofs.lemmas.Bool.Decides.{nat_tests}
 use Rattle.row_values.specs.Ids.{Id}
 use Rattle.row_values.specs.Elements.{In}
 use Rattle.row_values.specs.Slots.{has, same_slots}
 use Rattle.row_values.specs.Store.{part_of}
-use Rattle.model.specs.Activity.{Interval, end_tablet}
-use Rattle.model.specs.Catalog.{TableRecord, namespace_named, owner_of}
+use Rattle.model.specs.Activity.{Interval}
+use Rattle.model.specs.Catalog.{owner_of}
 use Rattle.model.specs.Journal.{Change as Made}
 use Rattle.model.specs.Tablets.{Tablet, TabletAct, Told, HideSince, Child, act_for, effect}
 use Rattle.model.specs.Entries.{CommandAsked, slots_of}
-use Rattle.model.specs.Acts.{Split, Change, UnknownNamespace, UnknownTable, Busy, TooNarrow, SlotsFull}
-use Rattle.model.specs.Parts.{Master, Parts, Check, If, Names}
+use Rattle.model.specs.Acts.{Command, Split, Change, SlotsFull}
+use Rattle.model.specs.Parts.{Master, Parts, SplitsTablet, checked}
 use Rattle.model.specs.Operations.{holder}
-use Rattle.model.specs.Looks.{known, table_of, the_table, plan_of, free_slots, family, family_of, holding}
-use Rattle.model.specs.Changes.{accepts, tell_children, split}
-use Rattle.model.specs.Changed.{changed, children, parent_of, no_interval, next_tablet, tablet_split}
+use Rattle.model.specs.Looks.{free_slots, Parent, found_parent, Family, family, found_family, slots_for, plan_of}
+use Rattle.model.specs.Changes.{accepts, tell_children, split_checks, judge_split, splitting, split}
+use Rattle.model.specs.Changed.{next_tablet}
 use Rattle.model.specs.History.{told, outcome}
 use Rattle.law_invariants.specs.Remembered.{activity_after}
 use Rattle.law_invariants.specs.Invariant.{SlotGood, SlotWorks, Inv, Later}
 use Rattle.law_invariants.proofs.Finding.{either_is, both_pass}
-use Rattle.law_invariants.proofs.Ticking.{by_checks, refused_keeps, KeepsAll, tablet_before}
-use Rattle.law_invariants.proofs.Cataloguing.{table_current}
+use Rattle.law_invariants.proofs.Ticking.{by_judgement, refused_keeps, KeepsAll, tablet_before}
+use Rattle.law_invariants.proofs.Cataloguing.{table_is}
+use Rattle.law_invariants.proofs.Judging.{and_found_is, checked_is}
 use Rattle.law_invariants.proofs.Hearing.{clocks_rise, rows_on}
 use Rattle.law_invariants.proofs.Undoing.{same_rows, journal_on}
 use Rattle.law_invariants.proofs.Operating.{not_held, operations_on}
 use Rattle.law_invariants.proofs.Ordering.{orders_on, obeyed_on, placed_works, hidden_works, not_fenced}
 use Rattle.law_invariants.proofs.Working.{tables_drawn, all_listed}
-use Rattle.law_invariants.proofs.Placing.{all_past}
 use Rattle.law_changes.proofs.Told.{slots_told, master_early, tablet_early, slots_equal}
 use Rattle.law_changes.proofs.Changing.{change_keeps}
 use Rattle.law_changes.proofs.Plans.{has_in}
@@ -37,7 +38,7 @@ use Rattle.law_changes.proofs.Free.{AreFree, least_free}
 use Rattle.law_changes.proofs.Awaiting.{none_await}
 use Rattle.law_changes.proofs.Quiet.{marks_stay}
 use Rattle.law_splits.proofs.Counting.{low_child, high_child, both_children, AllLike, split_covers}
-use Rattle.law_splits.proofs.Parents.{has_parent, same_parent, open_kept, current_viewed}
+use Rattle.law_splits.proofs.Parents.{parent_found, open_kept}
 use Rattle.law_splits.proofs.Slots.{IsSplit, split_activity, split_master, slot_parent, mine_here, IsChild, slot_child, slot_else}
 use Rattle.law_splits.proofs.Masters.{low_in, high_in, master_split_good, remembered_split, OfParent, onward_split, hears}
 
@@ -51,13 +52,13 @@ abbrev pub told_child : Id → Id → ℕ → ℕ → ℕ → Tablet → TabletA
 told_child tablet table low high version t = Child tablet table low high version (part_of low high t.versions) t.cutoff
 
 -- what holds of the parent's slot, of the two children's, and of the others
-slots_split : (P : ℕ → Tablet → Type 0) (namespace table : List ℕ) (code a b version n : ℕ) (ps : Parts) (p : Interval) (made : List Id) → 1 ≤ p.slot → 1 ≤ a → 1 ≤ b → p.slot ≢ a → p.slot ≢ b → a ≢ b
+slots_split : (P : ℕ → Tablet → Type 0) (command : Command) (code a b version n : ℕ) (ps : Parts) (p : Interval) (made : List Id) → 1 ≤ p.slot → 1 ≤ a → 1 ≤ b → p.slot ≢ a → p.slot ≢ b → a ≢ b
     → P p.slot (effect (HideSince n) n (ps.tablet p.slot))
-    → P a (effect (told_child (next_tablet ps.master 1) p.table p.low code version (ps.tablet p.slot)) n (ps.tablet a))
-    → P b (effect (told_child (next_tablet ps.master 2) p.table code p.high version (ps.tablet p.slot)) n (ps.tablet b))
+    → P a (effect (told_child (next_tablet ps.master.drawn.tablets 1) p.table p.low code version (ps.tablet p.slot)) n (ps.tablet a))
+    → P b (effect (told_child (next_tablet ps.master.drawn.tablets 2) p.table code p.high version (ps.tablet p.slot)) n (ps.tablet b))
     → ((i : ℕ) → i ≢ p.slot → i ≢ a → i ≢ b → P i (ps.tablet i))
-    → (i : ℕ) → P i ((told (Change (Split namespace table code) (p.slot ∷ a ∷ b ∷ [])) (accepts (Split namespace table code) (p.slot ∷ a ∷ b ∷ []) (split_told p code a b version n ps.master (ps.tablet p.slot)) made) n ps).tablet i)
-slots_split P namespace table code a b version n ps p made from_p from_a from_b p_a p_b a_b parent low high others =
+    → (i : ℕ) → P i ((told (Change command (p.slot ∷ a ∷ b ∷ [])) (accepts (SplitsTablet p code a b) (split_told p code a b version n ps.master (ps.tablet p.slot)) made) n ps).tablet i)
+slots_split P command code a b version n ps p made from_p from_a from_b p_a p_b a_b parent low high others =
     let slots = p.slot ∷ a ∷ b ∷ [] in
     let tablets = split_told p code a b version n ps.master (ps.tablet p.slot) in
     let at : (j : ℕ) → Type 0 = λ j. P j (effect (act_for tablets j) n (ps.tablet j)) in
@@ -67,8 +68,8 @@ slots_split P namespace table code a b version n ps p made from_p from_a from_b 
     let not_pa : eqb p.slot a ≡ false = grind (arith, nat_tests) in
     let not_pb : eqb p.slot b ≡ false = grind (arith, nat_tests) in
     let not_ab : eqb a b ≡ false = grind (arith, nat_tests) in
-    let child_a = told_child (next_tablet ps.master 1) p.table p.low code version (ps.tablet p.slot) in
-    let child_b = told_child (next_tablet ps.master 2) p.table code p.high version (ps.tablet p.slot) in
+    let child_a = told_child (next_tablet ps.master.drawn.tablets 1) p.table p.low code version (ps.tablet p.slot) in
+    let child_b = told_child (next_tablet ps.master.drawn.tablets 2) p.table code p.high version (ps.tablet p.slot) in
     let rest_a = act_for (record { slot = a; act = child_a } ∷ record { slot = b; act = child_b } ∷ []) in
     let rest_b = act_for (record { slot = b; act = child_b } ∷ []) in
     let told_p : act_for tablets p.slot ≡ HideSince n = ap (λ q. cond q (HideSince n) (rest_a p.slot)) self_p in
@@ -77,7 +78,7 @@ slots_split P namespace table code a b version n ps p made from_p from_a from_b 
     let at_p : at p.slot = subst (λ x. P p.slot (effect x n (ps.tablet p.slot))) (sym told_p) parent in
     let at_a : at a = subst (λ x. P a (effect x n (ps.tablet a))) (sym told_a) low in
     let at_b : at b = subst (λ x. P b (effect x n (ps.tablet b))) (sym told_b) high in
-    slots_told P (Split namespace table code) slots tablets made n ps
+    slots_told P command slots (SplitsTablet p code a b) tablets made n ps
     (λ i is positive. either_is (eqb p.slot i) (eqb a i || (eqb b i || false)) is
     (λ e. subst at (eqb-true p.slot i e) at_p)
     (λ more. either_is (eqb a i) (eqb b i || false) more
@@ -126,25 +127,6 @@ high_is p code a b n m low apart = record {
 
 -- The command
 
-abbrev pub split_checks : List ℕ → List ℕ → ℕ → Master → List Check
-split_checks namespace table code m =
-    let ns = namespace_named m.catalog.namespaces namespace in
-    let found = table_of m namespace table in
-    let parent = parent_of m namespace table code in
-    let free = length (free_slots m) in
-    If (is_none ns) UnknownNamespace
-    ∷ If (is_none found) UnknownTable
-    ∷ Names (holder m (known ns)) Busy
-    ∷ If (eqb code parent.low) (TooNarrow parent.low)
-    ∷ If (ltb free 2) (SlotsFull free 2)
-    ∷ []
-
-two_of : (ss : List ℕ) → length ss ≡ 2 → (a : ℕ) × ((b : ℕ) × (ss ≡ a ∷ b ∷ []))
-two_of [] e = absurd (omega (arith, e))
-two_of (a ∷ []) e = absurd (omega (arith, e))
-two_of (a ∷ b ∷ []) e = (a, (b, refl))
-two_of (a ∷ b ∷ c ∷ ss) e = absurd (omega (arith, e))
-
 -- a tablet's intervals are in its slot, and of its table
 of_parent : (ps : Parts) (activity : List Interval) (changes : List Made) (p : Interval) → Inv ps activity changes → In p ps.master.activity → OfParent ps.master p
 of_parent ps activity changes p inv listed = λ i isin e.
@@ -167,38 +149,17 @@ like_parent ps activity changes p n inv before listed = λ i isin e opened.
       begun = (let l : i.from ≤ ps.master.clock = q.past.begun in omega arith);
     }
 
--- the parent is found, as the tablet that has the code
-parent_is : (m : Master) (namespace table : List ℕ) (code : ℕ) (p : Interval) → holding m (the_table (table_of m namespace table)).id code ≡ Some p → parent_of m namespace table code ≡ p
-parent_is m namespace table code p e = ap (λ o. unwrap_or o no_interval) e
-
-planned_family : (m : Master) (namespace table : List ℕ) (code : ℕ) (p : Interval) → is_none (table_of m namespace table) ≡ false → holding m (the_table (table_of m namespace table)).id code ≡ Some p → 2 ≤ length (free_slots m)
-    → plan_of (Split namespace table code) m ≡ p.slot ∷ take 2 (free_slots m)
-unfolding plan_of
-planned_family m namespace table code p found e enough =
-    let fits : leb 2 (length (free_slots m)) ≡ true = grind (arith, nat_tests) in
-    opened (table_of m namespace table) found ∙ ap (λ o. family o (free_slots m)) e ∙ ap (λ b. cond b (p.slot ∷ take 2 (free_slots m)) []) fits
-  where
-    opened : (t : Option TableRecord) → is_none t ≡ false → family_of m t code ≡ family (holding m (the_table t).id code) (free_slots m)
-    opened None e = cc
-    opened (Some t) e = refl
-
 -- the parts after it
-split_inv : (ps : Parts) (activity : List Interval) (changes : List Made) (n : ℕ) (namespace table : List ℕ) (code a b version : ℕ) (p : Interval) (made : List Id) → CommandAsked (Split namespace table code) → Later (0 ∷ p.slot ∷ a ∷ b ∷ []) ps n
-    → parent_of ps.master namespace table code ≡ p → parent_of (record ps.master { activity = activity }) namespace table code ≡ p → IsSplit ps.master n p code a b → Inv ps activity changes
-    → Inv (told (Change (Split namespace table code) (p.slot ∷ a ∷ b ∷ [])) (accepts (Split namespace table code) (p.slot ∷ a ∷ b ∷ []) (split_told p code a b version n ps.master (ps.tablet p.slot)) made) n ps)
-    (activity_after (Change (Split namespace table code) (p.slot ∷ a ∷ b ∷ [])) (accepts (Split namespace table code) (p.slot ∷ a ∷ b ∷ []) (split_told p code a b version n ps.master (ps.tablet p.slot)) made) n ps activity) changes
-unfolding changed
-split_inv ps activity changes n namespace table code a b version p made asked later is_p is_all s inv =
+split_inv : (ps : Parts) (activity : List Interval) (changes : List Made) (n : ℕ) (command : Command) (code a b version : ℕ) (p : Interval) (made : List Id) → code < 65536 → Later (0 ∷ p.slot ∷ a ∷ b ∷ []) ps n
+    → IsSplit ps.master n p code a b → Inv ps activity changes
+    → Inv (told (Change command (p.slot ∷ a ∷ b ∷ [])) (accepts (SplitsTablet p code a b) (split_told p code a b version n ps.master (ps.tablet p.slot)) made) n ps)
+    (activity_after (Change command (p.slot ∷ a ∷ b ∷ [])) (accepts (SplitsTablet p code a b) (split_told p code a b version n ps.master (ps.tablet p.slot)) made) n ps activity) changes
+split_inv ps activity changes n command code a b version p made below later s inv =
     let m = ps.master in
-    let k = record m { activity = activity } in
-    let command = Split namespace table code in
     let slots = p.slot ∷ a ∷ b ∷ [] in
-    let o = accepts command slots (split_told p code a b version n m (ps.tablet p.slot)) made in
+    let o = accepts (SplitsTablet p code a b) (split_told p code a b version n m (ps.tablet p.slot)) made in
     let after = (told (Change command slots) o n ps).tablet in
-    let other = parent_of k namespace table code in
-    subst (λ q. Inv (record { master = tablet_split q code slots n m; tablet = after }) (end_tablet other.tablet n activity ++ children other code slots n k) changes) (sym is_p)
-    (subst (λ r. Inv (record { master = tablet_split p code slots n m; tablet = after }) (end_tablet r.tablet n activity ++ children r code slots n k) changes) (sym is_all)
-    (let more = split_activity p code a b n m m.activity in
+    let more = split_activity p code a b n m m.activity in
     let drawn = record m.drawn { tablets = m.drawn.tablets + 2 } in
     let mine = of_parent ps activity changes p inv s.listed in
     let w = onward_split m n changes p code a b s (tables_drawn m activity inv.remembered) mine in
@@ -223,8 +184,8 @@ split_inv ps activity changes n namespace table code a b version p made asked la
     let known : (j : Interval) → In j m.activity → j.tablet.number ≤ m.drawn.tablets = λ j listed. ((inv.slots j.slot).each j listed refl).drawn in
     let child_a = low_is p code a b n m high a_b in
     let child_b = high_is p code a b n m low a_b in
-    let new_a = effect (told_child (next_tablet m 1) p.table p.low code version t) n (ps.tablet a) in
-    let new_b = effect (told_child (next_tablet m 2) p.table code p.high version t) n (ps.tablet b) in
+    let new_a = effect (told_child (next_tablet m.drawn.tablets 1) p.table p.low code version t) n (ps.tablet a) in
+    let new_b = effect (told_child (next_tablet m.drawn.tablets 2) p.table code p.high version t) n (ps.tablet b) in
     let works_on : (i : ℕ) (u : Tablet) → SlotWorks m changes i u → SlotWorks (split_master p code a b n m) changes i u = λ i u q. record {
       orders = orders_on m n m.catalog more drawn m.sent changes changes i u w q.orders;
       obeyed = obeyed_on m n m.catalog more drawn m.sent changes changes i u w (λ c serving at d key isin is paired. refl) inv.operations q.obeyed;
@@ -232,12 +193,12 @@ split_inv ps activity changes n namespace table code a b version p made asked la
     record {
       master = master_split_good m n changes p code a b s inv.master;
       remembered = remembered_split m n changes activity p code a b s inv.operations inv.remembered;
-      cover = split_covers activity changes p code a b n m asked.2 (inv.remembered.kept p s.listed) s.opened s.ranged (like_parent ps activity changes p n inv s.before s.listed) inv.cover;
+      cover = split_covers activity changes p code a b n m below (inv.remembered.kept p s.listed) s.opened s.ranged (like_parent ps activity changes p n inv s.before s.listed) inv.cover;
       operations = operations_on m n m.catalog more drawn m.sent changes changes w (λ ns. marks_stay m n m.catalog more drawn changes ns (le_of_lt s.before) inv.operations) inv.operations.owners (λ mark isin. isin) (all_listed m changes inv.master) inv.operations;
       journal = journal_on m n m.catalog more drawn m.sent changes changes (same_rows changes) w.fixed (le_refl _) (le_refl _) w.owners inv.journal;
       rows_past = rows_on m n m.catalog more drawn m.sent changes changes ps.tablet after (le_of_lt s.before) (clocks_rise (Change command slots) o n ps (λ slot e. tablet_before (0 ∷ slots) ps n slot later e))
           (λ i isin. hears m n p code a b (ps.tablet i.slot).clock i (λ e. subst (λ j. (ps.tablet j).clock ≤ n) (sym (mine i isin e).0) (le_of_lt early)) isin) (λ c table_ key op isin is. isin) inv.rows_past;
-      works = slots_split (SlotWorks (split_master p code a b n m) changes) namespace table code a b version n ps p made from_p rise_a (le_trans rise_a (le_of_lt a_b)) p_a p_b apart
+      works = slots_split (SlotWorks (split_master p code a b n m) changes) command code a b version n ps p made from_p rise_a (le_trans rise_a (le_of_lt a_b)) p_a p_b apart
           (works_on p.slot (effect (HideSince n) n t)
           (hidden_works m changes p.slot t n s.ns p (le_of_lt early) g.present inv.operations (all_listed m changes inv.master) s.unheld s.listed refl
           (λ i isin at. ap (owner_of m.catalog.owners) (mine_here m changes p t i h s.listed isin at).1 ∙ s.owner) (inv.works p.slot)))
@@ -246,65 +207,80 @@ split_inv ps activity changes n namespace table code a b version p made asked la
           (placed_works m n m.catalog more drawn m.sent changes changes b new_b (high_child p code b n m) w inv.operations
           (record { vacant = λ i isin at. s.free.vacant b (inr (inl refl)) i isin at; unreserved = s.free.unreserved b (inr (inl refl)) }) (high_in p code a b n m m.activity) refl refl (omega arith) g.drawn_table)
           (λ i not_p not_a not_b. works_on i (ps.tablet i) (inv.works i));
-      slots = slots_split (SlotGood (split_master p code a b n m) changes) namespace table code a b version n ps p made from_p rise_a (le_trans rise_a (le_of_lt a_b)) p_a p_b apart
+      slots = slots_split (SlotGood (split_master p code a b n m) changes) command code a b version n ps p made from_p rise_a (le_trans rise_a (le_of_lt a_b)) p_a p_b apart
           (slot_parent m n changes p code a b t s early h)
           (slot_child m n changes p code a b t (ps.tablet a) version a 0 p.low code s child_a inv.master early free known h)
           (slot_child m n changes p code a b t (ps.tablet b) version b 1 code p.high s child_b inv.master early free known h)
           (λ i not_p not_a not_b. slot_else m n changes p code a b (ps.tablet i) i s not_a not_b (λ v isin at e. not_p (sym at ∙ (mine v isin e).0)) (inv.slots i));
       late = inv.late;
-    }))
+    }
+
+-- what a split was found to be
+
+pub family_is : (p : Parent) (free : List ℕ) (f : Family) → family p free ≡ Some f → (f.parent ≡ p) × (take 2 free ≡ f.low_slot ∷ f.high_slot ∷ [])
+family_is p [] f e = cc
+family_is p (slot ∷ []) f e = cc
+family_is p (low ∷ high ∷ free) f e =
+    let one : Family = record { parent = p; low_slot = low; high_slot = high } in
+    let is : one ≡ f = cc in
+    (ap (λ k. k.parent) (sym is), ap (λ k. k.low_slot ∷ k.high_slot ∷ []) is)
+
+pub two_long : (free : List ℕ) (a b : ℕ) → take 2 free ≡ a ∷ b ∷ [] → 2 ≤ length free
+two_long [] a b e = cc
+two_long (x ∷ []) a b e = cc
+two_long (x ∷ y ∷ free) a b e = omega arith
+
+planned_family : (m : Master) (namespace table : List ℕ) (code : ℕ) (p : Parent) (f : Family) → found_parent m namespace table code ≡ Ok p → family p (free_slots m) ≡ Some f
+    → plan_of (Split namespace table code) m ≡ f.parent.tablet.slot ∷ f.low_slot ∷ f.high_slot ∷ []
+unfolding plan_of
+planned_family m namespace table code p f there is =
+    ap (λ j. slots_for (found_family j m) (λ f. f.parent.tablet.slot ∷ f.low_slot ∷ f.high_slot ∷ [])) there
+    ∙ ap (λ o. slots_for (ok_or o (SlotsFull (length (free_slots m)) 2)) (λ f. f.parent.tablet.slot ∷ f.low_slot ∷ f.high_slot ∷ [])) is
 
 split_keeps : (ps : Parts) (activity : List Interval) (changes : List Made) (n : ℕ) (namespace table : List ℕ) (code : ℕ) (slots : List ℕ) → Later (0 ∷ slots) ps n → CommandAsked (Split namespace table code)
     → same_slots slots (plan_of (Split namespace table code) ps.master) ≡ true → Inv ps activity changes
-    → KeepsAll (Change (Split namespace table code) slots) n ps activity changes (split namespace table code slots n ps)
+    → KeepsAll (Change (Split namespace table code) slots) n ps activity changes (split namespace table code n ps)
 unfolding split
 split_keeps ps activity changes n namespace table code slots later asked plan inv =
     let m = ps.master in
     let command = Split namespace table code in
-    let found = table_of m namespace table in
-    let version = (the_table found).schema.version in
-    let made = next_tablet m 1 ∷ next_tablet m 2 ∷ [] in
-    let parent = parent_of m namespace table code in
     let before : m.clock < n = master_early slots ps n later in
-    by_checks (Change command slots) n ps activity changes (split_checks namespace table code m)
-    (accepts command slots (record { slot = parent.slot; act = HideSince n } ∷ tell_children (children parent code slots n m) version (ps.tablet parent.slot)) made)
+    by_judgement (Change command slots) n ps activity changes (judge_split namespace table code m) _
     (λ why. refused_keeps (Change command slots) why n ps activity changes later inv tt refl)
-    (λ passes.
-    let id = (the_table found).id in
-    let current = table_current m namespace table passes.1.0 in
-    let ns = known (namespace_named m.catalog.namespaces namespace) in
-    let owner : owner_of m.catalog.owners id ≡ Some ns = inv.master.tables.owned (the_table found) current.listed ∙ ap (λ k. Some k) current.namespace_is in
-    let past = all_past ps activity changes inv in
-    let there = has_parent m activity changes n id code before asked.2 (current_viewed m changes n namespace table before inv.master passes.1.0) past inv.remembered inv.cover in
-    let p = there.0 in
-    let f = there.1.1 in
-    let is_p : parent_of m namespace table code ≡ p = parent_is m namespace table code p there.1.0 in
-    let is_all : parent_of (record m { activity = activity }) namespace table code ≡ p = ap (λ q. unwrap_or q no_interval) (same_parent m activity changes n id code p before asked.2 past inv.remembered inv.cover f) in
-    let enough : 2 ≤ length (free_slots m) = ltb-false (length (free_slots m)) 2 passes.1.1.1.1.0 in
-    let least : slots ≡ p.slot ∷ take 2 (free_slots m) = slots_equal slots (plan_of command m) plan ∙ planned_family m namespace table code p passes.1.0 there.1.0 enough in
-    let two = least_free m 2 enough in
-    let pair = two_of (take 2 (free_slots m)) two.long in
-    let a = pair.0 in
-    let b = pair.1.0 in
-    let is_slots : slots ≡ p.slot ∷ a ∷ b ∷ [] = least ∙ ap (λ ss. p.slot ∷ ss) pair.1.1 in
+    (λ f judged.
+    let by = and_found_is (checked (found_parent m namespace table code) (λ p. split_checks p code m)) (λ p. family p (free_slots m)) (SlotsFull (length (free_slots m)) 2) f judged in
+    let parent = by.0 in
+    let passed = checked_is (found_parent m namespace table code) (λ p. split_checks p code m) parent by.1.0 in
+    let is_family = family_is parent (free_slots m) f by.1.1 in
+    let t = f.parent.table in
+    let p = f.parent.tablet in
+    let found : found_parent m namespace table code ≡ Ok f.parent = passed.0 ∙ ap Ok (sym is_family.0) in
+    let its = parent_found m namespace table code f.parent found in
+    let current = table_is m namespace table t its.0 in
+    let ns = t.namespace in
+    let unheld : is_some (holder m ns) ≡ false = subst (λ k. is_some (holder m k.table.namespace) ≡ false) (sym is_family.0) passed.1.0 in
+    let owner : owner_of m.catalog.owners t.id ≡ Some ns = inv.master.tables.owned t current.listed in
+    let g = its.1 in
+    let two = least_free m 2 (two_long (free_slots m) f.low_slot f.high_slot is_family.1) in
+    let a = f.low_slot in
+    let b = f.high_slot in
+    let is_slots : slots ≡ p.slot ∷ a ∷ b ∷ [] = slots_equal slots (plan_of command m) plan ∙ planned_family m namespace table code parent f passed.0 by.1.1 in
+    let owned : owner_of m.catalog.owners p.table ≡ Some ns = ap (owner_of m.catalog.owners) g.table_is ∙ owner in
     let s : IsSplit m n p code a b = record {
       before = before;
-      listed = f.listed;
-      opened = f.opened;
-      ranged = f.ranged;
-      free = subst (AreFree m 2) pair.1.1 two;
-      calm = none_await m changes ns p.table inv.master (ap (owner_of m.catalog.owners) f.table_is ∙ owner) passes.1.1.0;
+      listed = g.listed;
+      opened = g.opened;
+      ranged = g.ranged;
+      free = subst (AreFree m 2) is_family.1 two;
+      calm = none_await m changes ns p.table inv.master owned unheld;
       ns = ns;
-      owner = ap (owner_of m.catalog.owners) f.table_is ∙ owner;
-      unheld = not_held m ns passes.1.1.0;
+      owner = owned;
+      unheld = not_held m ns unheld;
     } in
     record {
       right = tt;
-      inv = subst (λ ss. Later (0 ∷ ss) ps n → Inv (told (Change command ss) (accepts command ss (record { slot = parent.slot; act = HideSince n } ∷ tell_children (children parent code ss n m) version (ps.tablet parent.slot)) made) n ps)
-          (activity_after (Change command ss) (accepts command ss (record { slot = parent.slot; act = HideSince n } ∷ tell_children (children parent code ss n m) version (ps.tablet parent.slot)) made) n ps activity) changes) (sym is_slots)
-          (λ early. subst (λ q. Inv (told (Change command (p.slot ∷ a ∷ b ∷ [])) (accepts command (p.slot ∷ a ∷ b ∷ []) (record { slot = q.slot; act = HideSince n } ∷ tell_children (children q code (p.slot ∷ a ∷ b ∷ []) n m) version (ps.tablet q.slot)) made) n ps)
-          (activity_after (Change command (p.slot ∷ a ∷ b ∷ [])) (accepts command (p.slot ∷ a ∷ b ∷ []) (record { slot = q.slot; act = HideSince n } ∷ tell_children (children q code (p.slot ∷ a ∷ b ∷ []) n m) version (ps.tablet q.slot)) made) n ps activity) changes) (sym is_p)
-          (split_inv ps activity changes n namespace table code a b version p made asked early is_p is_all s inv)) later;
+      inv = subst (λ ss. Later (0 ∷ ss) ps n → Inv (told (Change command ss) (splitting f code n m (ps.tablet p.slot)) n ps) (activity_after (Change command ss) (splitting f code n m (ps.tablet p.slot)) n ps activity) changes) (sym is_slots)
+          (λ early. split_inv ps activity changes n command code a b f.parent.table.schema.version p (next_tablet m.drawn.tablets 1 ∷ next_tablet m.drawn.tablets 2 ∷ []) asked.2 early s inv) later;
     })
 
 -- a split under its plan

@@ -54,12 +54,14 @@ name_of (r ∷ rs) id = if is_open r.to && same r.id id then Some r.name else na
 -- the table of a name in a namespace at x
 abbrev pub table_named : List TableRecord → Id → List ℕ → ℕ → Option TableRecord
 table_named [] ns name x = None
-table_named (r ∷ rs) ns name x = if holds_at x r.from r.to && (same r.namespace ns && bytes_eq r.name name) then Some r else table_named rs ns name x
+table_named (r ∷ rs) ns name x =
+    if holds_at x r.from r.to && (same r.namespace ns && bytes_eq r.name name) then Some r else table_named rs ns name x
 
 -- the current table of a name
 abbrev pub current_named : List TableRecord → Id → List ℕ → Option TableRecord
 current_named [] ns name = None
-current_named (r ∷ rs) ns name = if is_open r.to && (same r.namespace ns && bytes_eq r.name name) then Some r else current_named rs ns name
+current_named (r ∷ rs) ns name =
+    if is_open r.to && (same r.namespace ns && bytes_eq r.name name) then Some r else current_named rs ns name
 
 -- the current record of a table
 abbrev pub current_table : List TableRecord → Id → Option TableRecord
@@ -99,7 +101,10 @@ kept_from (k ∷ ks) ns = if same k.namespace ns then k.from else kept_from ks n
 -- the namespace's mark is set, or raised
 abbrev pub set_kept_from : List KeptFrom → Id → ℕ → List KeptFrom
 set_kept_from [] ns from = record { namespace = ns; from = from } ∷ []
-set_kept_from (k ∷ ks) ns from = if same k.namespace ns then record { namespace = ns; from = max k.from from } ∷ ks else k ∷ set_kept_from ks ns from
+set_kept_from (k ∷ ks) ns from =
+    if same k.namespace ns
+    then record { namespace = ns; from = max k.from from } ∷ ks
+    else k ∷ set_kept_from ks ns from
 
 -- the namespace in which a table was made
 abbrev pub owner_of : List Owner → Id → Option Id
@@ -116,15 +121,45 @@ owns os ns table = is_owned_by (owner_of os table) ns
 
 -- the current record of a namespace, or of a table, ends
 abbrev pub end_namespace : Id → ℕ → List NamespaceRecord → List NamespaceRecord
-end_namespace id at rs = map {A = NamespaceRecord} (λ r. record r { to = if same r.id id then ended at r.to else r.to }) rs
+end_namespace id at rs =
+    map {A = NamespaceRecord} (λ r. record r { to = if same r.id id then ended at r.to else r.to }) rs
 
 abbrev pub end_table : Id → ℕ → List TableRecord → List TableRecord
-end_table id at rs = map {A = TableRecord} (λ r. record r { to = if same r.id id then ended at r.to else r.to }) rs
+end_table id at rs =
+    map {A = TableRecord} (λ r. record r { to = if same r.id id then ended at r.to else r.to }) rs
 
 -- the current records of a namespace's tables end
 abbrev pub end_tables : Id → ℕ → List TableRecord → List TableRecord
-end_tables ns at rs = map {A = TableRecord} (λ r. record r { to = if same r.namespace ns then ended at r.to else r.to }) rs
+end_tables ns at rs =
+    map {A = TableRecord} (λ r. record r { to = if same r.namespace ns then ended at r.to else r.to }) rs
 
 -- the table's current record gives way to one under another name and schema
 abbrev pub change_table : TableRecord → List ℕ → Schema → ℕ → List TableRecord → List TableRecord
-change_table old name schema at rs = end_table old.id at rs ++ record old { name = name; schema = schema; from = at; to = None } ∷ []
+change_table old name schema at rs =
+    end_table old.id at rs ++ record old { name = name; schema = schema; from = at; to = None } ∷ []
+
+-- What a command makes of the catalog
+
+-- one namespace more, whose catalog is kept from its beginning on
+abbrev pub namespace_added : NamespaceRecord → Catalog → Catalog
+namespace_added r c = record c {
+  namespaces = c.namespaces ++ r ∷ [];
+  kept_from = set_kept_from c.kept_from r.id r.from;
+}
+
+abbrev pub namespace_ended : Id → ℕ → Catalog → Catalog
+namespace_ended id at c = record c { namespaces = end_namespace id at c.namespaces }
+
+-- one table more, which its namespace owns
+abbrev pub table_added : TableRecord → Catalog → Catalog
+table_added r c = record c {
+  tables = c.tables ++ r ∷ [];
+  owners = c.owners ++ record { table = r.id; namespace = r.namespace } ∷ [];
+}
+
+abbrev pub table_ended : Id → ℕ → Catalog → Catalog
+table_ended id at c = record c { tables = end_table id at c.tables }
+
+-- a table goes on under another name or schema
+abbrev pub table_replaced : TableRecord → List ℕ → Schema → ℕ → Catalog → Catalog
+table_replaced old name schema at c = record c { tables = change_table old name schema at c.tables }

@@ -1,19 +1,18 @@
 -- What an accepted command makes of the master: names and schemas, tablets' activity, schedules and records. Each function
 -- sets the clock to the stamp, besides what it says. Identifiers are the next ones of their kind.
-use Rattle.std.specs.Prelude.{slice_index, ℕ, ◌+◌, ◌-◌, not, List, [], ◌∷◌, ◌++◌, map, length, if◌then◌else◌, Option, None, unwrap_or}
+use Rattle.std.specs.Prelude.{ℕ, ◌+◌, ◌-◌, not, List, [], ◌∷◌, ◌++◌, map, length, if◌then◌else◌, Option, None, unwrap_or}
 use Rattle.std.specs.List.{filter}
 use Rattle.row_values.specs.Ranges.{share_from}
-use Rattle.row_values.specs.Ids.{Id, same, no_id, Namespace as NamespaceKind, Table as TableKind, Tablet as TabletKind, Schedule as ScheduleKind, Restoration as RestorationKind, Clone as CloneKind}
-use Rattle.row_values.specs.Schema.{NewColumn, Schema, first_schema, with_column, without_column}
-use Rattle.model.specs.Catalog.{TableRecord, Owner, namespace_named, set_kept_from, end_namespace, end_table, change_table}
+use Rattle.row_values.specs.Ids.{Id, same, Namespace as NamespaceKind, Table as TableKind, Tablet as TabletKind, Schedule as ScheduleKind, Restoration as RestorationKind, Clone as CloneKind}
+use Rattle.row_values.specs.Schema.{NewColumn, Schema, first_schema}
+use Rattle.model.specs.Catalog.{TableRecord, Owner, namespace_added, namespace_ended, table_added, table_ended, table_replaced}
 use Rattle.model.specs.Activity.{Interval, end_tablet, end_table_tablets}
 use Rattle.model.specs.Tablets.{Fence}
-use Rattle.model.specs.Records.{Schedule, Fencing, Accepted, IdPair, TabletPair, CloneRecord, schedule_with}
-use Rattle.model.specs.Acts.{Command, CreateNamespace, DropNamespace, CreateTable, AddColumn, DropColumn, RenameTable, DropTable, Split, CreateSchedule, DeleteSchedule, TakeSnapshot, Restore, CloneNamespace}
+use Rattle.model.specs.Records.{Schedule, Fencing, Accepted, IdPair, TabletPair, CloneRecord}
 use Rattle.model.specs.Parts.{Master}
 use Rattle.model.specs.Restored.{clone_map}
 use Rattle.model.specs.Lists.{active_tablets, listing, numbered_as, with_snapshot}
-use Rattle.model.specs.Looks.{free_slots, known, table_of, holding, the_table}
+use Rattle.model.specs.Looks.{free_slots}
 
 abbrev pub next_namespace : Master → Id
 next_namespace m = numbered_as NamespaceKind (m.drawn.namespaces + 1)
@@ -30,49 +29,38 @@ next_restoration m = numbered_as RestorationKind (m.drawn.restorations + 1)
 abbrev pub next_clone : Master → Id
 next_clone m = numbered_as CloneKind (m.drawn.clones + 1)
 
-abbrev pub no_schedule : Schedule
-no_schedule = record { id = no_id; namespace = no_id; interval = 0; retention = 0; kept_low = 0; last = None; complete = None }
-
--- the schedule that is found, or that of nothing
-abbrev pub the_schedule : Option Schedule → Schedule
-the_schedule s = unwrap_or s no_schedule
-
--- an identifier of the next tablets, counted from 1
-abbrev pub next_tablet : Master → ℕ → Id
-next_tablet m count = numbered_as TabletKind (m.drawn.tablets + count)
+-- an identifier of the next tablets, counted from 1, where so many were drawn
+abbrev pub next_tablet : ℕ → ℕ → Id
+next_tablet drawn count = numbered_as TabletKind (drawn + count)
 
 -- active from a stamp on
 abbrev pub begins : ℕ → Id → Id → ℕ → ℕ → ℕ → Interval
-begins slot tablet table low high n = record { slot = slot; tablet = tablet; table = table; low = low; high = high; from = n; to = None }
+begins slot tablet table low high n =
+    record { slot = slot; tablet = tablet; table = table; low = low; high = high; from = n; to = None }
 
 -- the tablets of a new table from one place on: the codes are shared out among so many
-abbrev pub shares : List ℕ → ℕ → ℕ → ℕ → Master → List Interval
-shares [] place count n m = []
-shares (slot ∷ slots) place count n m =
-    begins slot (next_tablet m (place + 1)) (next_table m) (share_from count place) (share_from count (place + 1)) n ∷ shares slots (place + 1) count n m
+abbrev pub shares : List ℕ → ℕ → ℕ → ℕ → ℕ → Id → List Interval
+shares [] place count n drawn table = []
+shares (slot ∷ slots) place count n drawn table =
+    begins slot (next_tablet drawn (place + 1)) table (share_from count place) (share_from count (place + 1)) n
+    ∷ shares slots (place + 1) count n drawn table
 
--- the two children of a split, in the slots behind the parent's
-abbrev pub children : Interval → ℕ → List ℕ → ℕ → Master → List Interval
-children parent code slots n m =
-    begins (slice_index slots 1) (next_tablet m 1) parent.table parent.low code n
-    ∷ begins (slice_index slots 2) (next_tablet m 2) parent.table code parent.high n
+-- the two children of a split
+abbrev pub children : Interval → ℕ → ℕ → ℕ → ℕ → ℕ → List Interval
+children parent code low_slot high_slot n drawn =
+    begins low_slot (next_tablet drawn 1) parent.table parent.low code n
+    ∷ begins high_slot (next_tablet drawn 2) parent.table code parent.high n
     ∷ []
-
-abbrev pub no_interval : Interval
-no_interval = begins 0 no_id no_id 0 0 0
-
--- the tablet that is to be split, or that of nothing
-abbrev pub parent_of : Master → List ℕ → List ℕ → ℕ → Interval
-parent_of m namespace table code = unwrap_or (holding m (the_table (table_of m namespace table)).id code) no_interval
 
 -- each table of a source with the next identifier
 abbrev pub pair_tables : List TableRecord → ℕ → List IdPair
 pair_tables [] drawn = []
-pair_tables (t ∷ ts) drawn = record { source = t.id; target = numbered_as TableKind (drawn + 1) } ∷ pair_tables ts (drawn + 1)
+pair_tables (t ∷ ts) drawn =
+    record { source = t.id; target = numbered_as TableKind (drawn + 1) } ∷ pair_tables ts (drawn + 1)
 
--- the table that stands for a source's
+-- the table that stands for a source's; one that has no pair stands for itself
 abbrev pub target_in : List IdPair → Id → Id
-target_in [] table = no_id
+target_in [] table = table
 target_in (p ∷ ps) table = if same p.source table then p.target else target_in ps table
 
 -- each tablet of a source with the next identifier and the next of the slots
@@ -119,44 +107,43 @@ clone_time to n = unwrap_or to (n - 1)
 abbrev pub namespace_made : List ℕ → ℕ → Master → Master
 namespace_made name n m = record m {
   clock = n;
-  catalog = record m.catalog {
-    namespaces = m.catalog.namespaces ++ record { id = next_namespace m; name = name; from = n; to = None } ∷ [];
-    kept_from = set_kept_from m.catalog.kept_from (next_namespace m) n;
-  };
+  catalog = namespace_added (record { id = next_namespace m; name = name; from = n; to = None }) m.catalog;
   drawn = record m.drawn { namespaces = m.drawn.namespaces + 1 };
 }
 
 abbrev pub namespace_dropped : Id → ℕ → Master → Master
-namespace_dropped ns n m = record m { clock = n; catalog = record m.catalog { namespaces = end_namespace ns n m.catalog.namespaces } }
+namespace_dropped ns n m = record m { clock = n; catalog = namespace_ended ns n m.catalog }
 
-abbrev pub table_made : Id → List ℕ → ℕ → List NewColumn → List ℕ → ℕ → Master → Master
-table_made ns name tablets columns slots n m = record m {
-  clock = n;
-  catalog = record m.catalog {
-    tables = m.catalog.tables ++ record { id = next_table m; namespace = ns; name = name; schema = first_schema columns; from = n; to = None } ∷ [];
-    owners = m.catalog.owners ++ record { table = next_table m; namespace = ns } ∷ [];
-  };
-  activity = m.activity ++ shares slots 0 tablets n m;
-  drawn = record m.drawn { tables = m.drawn.tables + 1; tablets = m.drawn.tablets + tablets };
-}
+-- a table has as many tablets as there are slots for them
+abbrev pub table_made : Id → List ℕ → List NewColumn → List ℕ → ℕ → Master → Master
+table_made ns name columns slots n m =
+    let schema = first_schema columns in
+    record m {
+      clock = n;
+      catalog = table_added
+          (record { id = next_table m; namespace = ns; name = name; schema = schema; from = n; to = None }) m.catalog;
+      activity = m.activity ++ shares slots 0 (length slots) n m.drawn.tablets (next_table m);
+      drawn = record m.drawn { tables = m.drawn.tables + 1; tablets = m.drawn.tablets + length slots };
+    }
 
 -- the table goes on under another name and schema
 abbrev pub table_changed : TableRecord → List ℕ → Schema → ℕ → Master → Master
-table_changed t name schema n m = record m { clock = n; catalog = record m.catalog { tables = change_table t name schema n m.catalog.tables } }
+table_changed t name schema n m = record m { clock = n; catalog = table_replaced t name schema n m.catalog }
 
 -- the table ends, and so does the activity of its tablets
 abbrev pub table_dropped : Id → ℕ → Master → Master
 table_dropped table n m = record m {
   clock = n;
-  catalog = record m.catalog { tables = end_table table n m.catalog.tables };
+  catalog = table_ended table n m.catalog;
   activity = end_table_tablets table n m.activity;
 }
 
 -- the parent's activity ends, and that of its children begins
-abbrev pub tablet_split : Interval → ℕ → List ℕ → ℕ → Master → Master
-tablet_split parent code slots n m = record m {
+abbrev pub tablet_split : Interval → ℕ → ℕ → ℕ → ℕ → Master → Master
+tablet_split parent code low_slot high_slot n m = record m {
   clock = n;
-  activity = end_tablet parent.tablet n m.activity ++ children parent code slots n m;
+  activity = end_tablet parent.tablet n m.activity
+      ++ children parent code low_slot high_slot n m.drawn.tablets;
   drawn = record m.drawn { tablets = m.drawn.tablets + 2 };
 }
 
@@ -164,7 +151,15 @@ abbrev pub schedule_made : Id → ℕ → ℕ → ℕ → Master → Master
 schedule_made ns interval retention n m = record m {
   clock = n;
   schedules = m.schedules
-      ++ record { id = next_schedule m; namespace = ns; interval = interval; retention = retention; kept_low = n; last = None; complete = None }
+      ++ record {
+        id = next_schedule m;
+        namespace = ns;
+        interval = interval;
+        retention = retention;
+        kept_low = n;
+        last = None;
+        complete = None;
+      }
       ∷ [];
   drawn = record m.drawn { schedules = m.drawn.schedules + 1 };
 }
@@ -204,25 +199,3 @@ clone_begun ns source target to n m = let clone = new_clone ns source target to 
     clones = m.drawn.clones + 1;
   };
 }
-
--- the master after an accepted command
-unfoldable pub changed : Command → List ℕ → ℕ → Master → Master
-changed (CreateNamespace name) slots n m = namespace_made name n m
-changed (DropNamespace name) slots n m = namespace_dropped (known (namespace_named m.catalog.namespaces name)) n m
-changed (CreateTable namespace table tablets columns) slots n m =
-    table_made (known (namespace_named m.catalog.namespaces namespace)) table tablets columns slots n m
-changed (AddColumn namespace table name kind) slots n m =
-    let t = the_table (table_of m namespace table) in table_changed t t.name (with_column name kind t.schema) n m
-changed (DropColumn namespace table name) slots n m =
-    let t = the_table (table_of m namespace table) in table_changed t t.name (without_column name t.schema) n m
-changed (RenameTable namespace table name) slots n m = let t = the_table (table_of m namespace table) in table_changed t name t.schema n m
-changed (DropTable namespace table) slots n m = table_dropped (the_table (table_of m namespace table)).id n m
-changed (Split namespace table code) slots n m = tablet_split (parent_of m namespace table code) code slots n m
-changed (CreateSchedule interval retention namespace) slots n m =
-    schedule_made (known (namespace_named m.catalog.namespaces namespace)) interval retention n m
-changed (DeleteSchedule schedule) slots n m = schedule_deleted schedule n m
-changed (TakeSnapshot schedule) slots n m = snapshot_taken (the_schedule (schedule_with m.schedules schedule)) n m
-changed (Restore schedule to) slots n m = restoration_begun (the_schedule (schedule_with m.schedules schedule)) to n m
-changed (CloneNamespace source target to) slots n m =
-    clone_begun (known (namespace_named m.catalog.namespaces source)) source target (clone_time to n) n m
-changed _ slots n m = record m { clock = n }

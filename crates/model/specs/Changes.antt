@@ -1,24 +1,25 @@
--- How commands are judged: the refusals of each in order, and else what the master and the tablets are told, and the reply.
-use Rattle.std.specs.Prelude.{ℕ, ◌+◌, not, ◌&&◌, List, [], ◌∷◌, map, length, is_some, is_none, if◌then◌else◌, nat_lt, nat_le, ◌==◌, Option, Some, None, option_map}
+-- How commands are judged: the refusals of each in order, and else what the master and the tablets are told, and the
+-- reply.
+use Rattle.std.specs.Prelude.{ℕ, ◌+◌, not, ◌&&◌, List, [], ◌∷◌, map, length, is_some, if◌then◌else◌, nat_lt, nat_le, ◌==◌, Option, Some, None, option_map, Result, Ok as Granted, Err as Denied}
 use Rattle.std.specs.List.{filter}
-use Rattle.std.specs.Option.{option_or}
+use Rattle.std.specs.Option.{option_or, ok_or}
 use Rattle.std.specs.Str.{bytes_eq}
 use Rattle.row_values.specs.Ids.{Id}
 use Rattle.row_values.specs.Slots.{same_slots}
 use Rattle.model.specs.Times.{is_open}
 use Rattle.row_values.specs.Store.{part_of}
-use Rattle.row_values.specs.Schema.{ColumnKind, NewColumn, column_named}
+use Rattle.row_values.specs.Schema.{Column, ColumnKind, NewColumn, column_named}
 use Rattle.model.specs.Catalog.{TableRecord, namespace_named, current_named, current_tables, by_id}
 use Rattle.model.specs.Activity.{Interval}
 use Rattle.model.specs.Tablets.{Tablet, TabletAct, Make, Child, SetVersion, HideSince, Told}
 use Rattle.model.specs.Records.{Schedule, CloneRecord, is_visible, schedule_with, schedule_of, unfinished_of}
-use Rattle.model.specs.Acts.{Command, CreateNamespace, DropNamespace, CreateTable, AddColumn, DropColumn, RenameTable, DropTable, Split, CreateSchedule, DeleteSchedule, TakeSnapshot, Restore, CloneNamespace, ListSchedules, ListSnapshots, ListRestorations, ListClones, ListTablets, UnknownNamespace, UnknownTable, UnknownColumn, UnknownSchedule, BadPeriod, NameTaken, ScheduleExists, NotEmpty, UnderSchedule, NoSchedule, TooMany, SlotsFull, TooEarly, Future, Busy, StalePlan, TooNarrow, NotDue, Ok, Schedules, Snapshots, Restorations, Clones, Tablets}
-use Rattle.model.specs.Parts.{Master, Parts, Changes, Outcome, If, judged, answered, Names}
+use Rattle.model.specs.Acts.{Command, CreateNamespace, DropNamespace, CreateTable, AddColumn, DropColumn, RenameTable, DropTable, Split, CreateSchedule, DeleteSchedule, TakeSnapshot, Restore, CloneNamespace, ListSchedules, ListSnapshots, ListRestorations, ListClones, ListTablets, Refusal, UnknownColumn, UnknownSchedule, BadPeriod, NameTaken, ScheduleExists, NotEmpty, UnderSchedule, NoSchedule, TooMany, SlotsFull, TooEarly, Future, Busy, StalePlan, TooNarrow, NotDue, Ok, Schedules, Snapshots, Restorations, Clones, Tablets}
+use Rattle.model.specs.Parts.{Master, Parts, MasterAct, MakesNamespace, DropsNamespace, MakesTable, AddsColumn, DropsColumn, RenamesTable, DropsTable, SplitsTablet, MakesSchedule, DeletesSchedule, TakesSnapshot, BeginsRestoration, BeginsClone, Outcome, Check, If, Names, checked, and_found, decided, judged, answered}
 use Rattle.model.specs.Schedules.{is_period, low, next_due, is_due}
 use Rattle.model.specs.Lists.{next_snapshot}
 use Rattle.model.specs.Operations.{holder, user}
-use Rattle.model.specs.Looks.{free_slots, known, table_of, plan_of, the_table}
-use Rattle.model.specs.Changed.{next_namespace, next_table, next_schedule, next_restoration, next_clone, the_schedule, next_tablet, shares, children, parent_of, sources, clone_time}
+use Rattle.model.specs.Looks.{free_slots, found_namespace, found_table, Parent, found_parent, Family, found_family, plan_of}
+use Rattle.model.specs.Changed.{next_namespace, next_table, next_schedule, next_restoration, next_clone, next_tablet, shares, children, sources, clone_time}
 use Rattle.model.specs.Lines.{schedule_lines, snapshot_lines, restoration_lines, clone_lines, tablet_lines}
 
 -- the most current namespaces, tables of a namespace, and columns of a table
@@ -34,7 +35,8 @@ most_columns = 16
 -- the clone that is to make a namespace of this name
 abbrev pub clone_named : List CloneRecord → List ℕ → Option Id
 clone_named [] name = None
-clone_named (r ∷ rs) name = if bytes_eq r.target name && not (is_visible r.state) then Some r.id else clone_named rs name
+clone_named (r ∷ rs) name =
+    if bytes_eq r.target name && not (is_visible r.state) then Some r.id else clone_named rs name
 
 -- the namespace, or the clone that is to make one, that has the name
 abbrev pub named : Master → List ℕ → Option Id
@@ -42,7 +44,9 @@ named m name = option_or (namespace_named m.catalog.namespaces name) (clone_name
 
 -- how many namespaces are current, or are to be made by a clone
 abbrev pub count_namespaces : Master → ℕ
-count_namespaces m = length (filter (λ r. is_open r.to) m.catalog.namespaces) + length (filter (λ r. not (is_visible r.state)) m.clones)
+count_namespaces m =
+    length (filter (λ r. is_open r.to) m.catalog.namespaces)
+    + length (filter (λ r. not (is_visible r.state)) m.clones)
 
 abbrev pub first_table : List TableRecord → Option Id
 first_table [] = None
@@ -68,205 +72,263 @@ tell_made is = map {A = Interval} (λ i. record { slot = i.slot; act = Make i.ta
 
 -- the children of a split take the parent's versions in their ranges, and its cutoff
 abbrev pub tell_children : List Interval → ℕ → Tablet → List Told
-tell_children is version parent =
-    map {A = Interval} (λ i. record { slot = i.slot; act = Child i.tablet i.table i.low i.high version (part_of i.low i.high parent.versions) parent.cutoff }) is
+tell_children is version parent = map {A = Interval} (λ i. record {
+  slot = i.slot;
+  act = Child i.tablet i.table i.low i.high version (part_of i.low i.high parent.versions) parent.cutoff;
+}) is
 
--- the command is accepted: what tablets are told, and what is made
-abbrev pub accepts : Command → List ℕ → List Told → List Id → Outcome
-accepts command slots tablets made = record { master = Changes command slots; tablets = tablets; reply = Ok made }
+-- the command is accepted: what the master and the tablets are told, and what is made
+abbrev pub accepts : MasterAct → List Told → List Id → Outcome
+accepts act tablets made = record { master = act; tablets = tablets; reply = Ok made }
 
-unfoldable pub create_namespace : List ℕ → List ℕ → ℕ → Parts → Outcome
-create_namespace name slots n ps = let m = ps.master in judged
-    (Names (named m name) NameTaken ∷ If (count_namespaces m == most_namespaces) (TooMany most_namespaces) ∷ [])
-    (accepts (CreateNamespace name) slots [] (next_namespace m ∷ []))
+-- Each command: its refusals in order, its judgement, which is what was found or the first refusal that comes, and what it
+-- does once it is accepted
 
-unfoldable pub drop_namespace : List ℕ → List ℕ → ℕ → Parts → Outcome
-drop_namespace name slots n ps =
-    let m = ps.master in
-    let ns = namespace_named m.catalog.namespaces name in
-    judged
-    (If (is_none ns) UnknownNamespace
-    ∷ Names (holder m (known ns)) Busy
-    ∷ Names (first_table (by_id (current_tables m.catalog.tables (known ns)))) NotEmpty
-    ∷ Names (schedule_id (schedule_of m.schedules (known ns))) UnderSchedule
-    ∷ [])
-    (accepts (DropNamespace name) slots [] [])
+abbrev pub create_namespace_checks : List ℕ → Master → List Check
+create_namespace_checks name m =
+    Names (named m name) NameTaken ∷ If (count_namespaces m == most_namespaces) (TooMany most_namespaces) ∷ []
 
-unfoldable pub create_table : List ℕ → List ℕ → ℕ → List NewColumn → List ℕ → ℕ → Parts → Outcome
-create_table namespace table tablets columns slots n ps =
-    let m = ps.master in
-    let ns = namespace_named m.catalog.namespaces namespace in
+abbrev pub judge_create_namespace : List ℕ → Master → Result Id Refusal
+judge_create_namespace name m = checked (Granted (next_namespace m)) (λ id. create_namespace_checks name m)
+
+unfoldable pub create_namespace : List ℕ → Master → Outcome
+create_namespace name m =
+    decided (judge_create_namespace name m) (λ id. accepts (MakesNamespace name) [] (id ∷ []))
+
+abbrev pub drop_namespace_checks : Id → Master → List Check
+drop_namespace_checks ns m =
+    Names (holder m ns) Busy
+    ∷ Names (first_table (by_id (current_tables m.catalog.tables ns))) NotEmpty
+    ∷ Names (schedule_id (schedule_of m.schedules ns)) UnderSchedule
+    ∷ []
+
+abbrev pub judge_drop_namespace : List ℕ → Master → Result Id Refusal
+judge_drop_namespace name m = checked (found_namespace m name) (λ ns. drop_namespace_checks ns m)
+
+unfoldable pub drop_namespace : List ℕ → Master → Outcome
+drop_namespace name m = decided (judge_drop_namespace name m) (λ ns. accepts (DropsNamespace ns) [] [])
+
+abbrev pub create_table_checks : Id → List ℕ → ℕ → Master → List Check
+create_table_checks ns table tablets m =
     let free = length (free_slots m) in
-    judged
-    (If (is_none ns) UnknownNamespace
-    ∷ Names (holder m (known ns)) Busy
-    ∷ Names (table_id (current_named m.catalog.tables (known ns) table)) NameTaken
-    ∷ If (length (current_tables m.catalog.tables (known ns)) == most_tables) (TooMany most_tables)
+    Names (holder m ns) Busy
+    ∷ Names (table_id (current_named m.catalog.tables ns table)) NameTaken
+    ∷ If (length (current_tables m.catalog.tables ns) == most_tables) (TooMany most_tables)
     ∷ If (nat_lt free tablets) (SlotsFull free tablets)
-    ∷ [])
-    (accepts (CreateTable namespace table tablets columns) slots (tell_made (shares slots 0 tablets n m)) (next_table m ∷ []))
+    ∷ []
 
-unfoldable pub add_column : List ℕ → List ℕ → List ℕ → ColumnKind → List ℕ → ℕ → Parts → Outcome
-add_column namespace table name kind slots n ps =
-    let m = ps.master in
-    let ns = namespace_named m.catalog.namespaces namespace in
-    let found = table_of m namespace table in
-    let t = the_table found in
-    judged
-    (If (is_none ns) UnknownNamespace
-    ∷ If (is_none found) UnknownTable
-    ∷ Names (holder m (known ns)) Busy
+abbrev pub judge_create_table : List ℕ → List ℕ → ℕ → Master → Result Id Refusal
+judge_create_table namespace table tablets m =
+    checked (found_namespace m namespace) (λ ns. create_table_checks ns table tablets m)
+
+unfoldable pub create_table : List ℕ → List ℕ → ℕ → List NewColumn → List ℕ → ℕ → Master → Outcome
+create_table namespace table tablets columns slots n m =
+    decided (judge_create_table namespace table tablets m)
+    (λ ns. accepts
+    (MakesTable ns table columns slots)
+    (tell_made (shares slots 0 (length slots) n m.drawn.tablets (next_table m)))
+    (next_table m ∷ []))
+
+abbrev pub add_column_checks : TableRecord → List ℕ → Master → List Check
+add_column_checks t name m =
+    Names (holder m t.namespace) Busy
     ∷ If (is_some (column_named t.schema.columns name)) (NameTaken t.id)
     ∷ If (length t.schema.columns == most_columns) (TooMany most_columns)
-    ∷ [])
-    (accepts (AddColumn namespace table name kind) slots (tell slots (SetVersion (t.schema.version + 1))) [])
+    ∷ []
 
-unfoldable pub drop_column : List ℕ → List ℕ → List ℕ → List ℕ → ℕ → Parts → Outcome
-drop_column namespace table name slots n ps =
-    let m = ps.master in
-    let ns = namespace_named m.catalog.namespaces namespace in
-    let found = table_of m namespace table in
-    let t = the_table found in
-    judged
-    (If (is_none ns) UnknownNamespace
-    ∷ If (is_none found) UnknownTable
-    ∷ If (is_none (column_named t.schema.columns name)) UnknownColumn
-    ∷ Names (holder m (known ns)) Busy
-    ∷ [])
-    (accepts (DropColumn namespace table name) slots (tell slots (SetVersion (t.schema.version + 1))) [])
+abbrev pub judge_add_column : List ℕ → List ℕ → List ℕ → Master → Result TableRecord Refusal
+judge_add_column namespace table name m =
+    checked (found_table m namespace table) (λ t. add_column_checks t name m)
 
-unfoldable pub rename_table : List ℕ → List ℕ → List ℕ → List ℕ → ℕ → Parts → Outcome
-rename_table namespace table name slots n ps =
-    let m = ps.master in
-    let ns = namespace_named m.catalog.namespaces namespace in
-    judged
-    (If (is_none ns) UnknownNamespace
-    ∷ If (is_none (table_of m namespace table)) UnknownTable
-    ∷ Names (holder m (known ns)) Busy
-    ∷ Names (table_id (table_of m namespace name)) NameTaken
-    ∷ [])
-    (accepts (RenameTable namespace table name) slots [] [])
+unfoldable pub add_column : List ℕ → List ℕ → List ℕ → ColumnKind → List ℕ → Master → Outcome
+add_column namespace table name kind slots m =
+    decided (judge_add_column namespace table name m)
+    (λ t. accepts (AddsColumn t name kind) (tell slots (SetVersion (t.schema.version + 1))) [])
 
-unfoldable pub drop_table : List ℕ → List ℕ → List ℕ → ℕ → Parts → Outcome
-drop_table namespace table slots n ps =
-    let m = ps.master in
-    let ns = namespace_named m.catalog.namespaces namespace in
-    judged
-    (If (is_none ns) UnknownNamespace
-    ∷ If (is_none (table_of m namespace table)) UnknownTable
-    ∷ Names (holder m (known ns)) Busy
-    ∷ [])
-    (accepts (DropTable namespace table) slots (tell slots (HideSince n)) [])
+-- a column of a table
+pub record ColumnOf : Type 0 where
+  pub table : TableRecord
+  pub column : Column
 
-unfoldable pub split : List ℕ → List ℕ → ℕ → List ℕ → ℕ → Parts → Outcome
-split namespace table code slots n ps =
-    let m = ps.master in
-    let ns = namespace_named m.catalog.namespaces namespace in
-    let found = table_of m namespace table in
-    let parent = parent_of m namespace table code in
-    let free = length (free_slots m) in
-    judged
-    (If (is_none ns) UnknownNamespace
-    ∷ If (is_none found) UnknownTable
-    ∷ Names (holder m (known ns)) Busy
-    ∷ If (code == parent.low) (TooNarrow parent.low)
-    ∷ If (nat_lt free 2) (SlotsFull free 2)
-    ∷ [])
-    (accepts
-    (Split namespace table code)
-    slots
-    (record { slot = parent.slot; act = HideSince n } ∷ tell_children (children parent code slots n m) (the_table found).schema.version (ps.tablet parent.slot))
-    (next_tablet m 1 ∷ next_tablet m 2 ∷ []))
+abbrev pub column_of : List ℕ → TableRecord → Option ColumnOf
+column_of name t = option_map (λ c. record { table = t; column = c }) (column_named t.schema.columns name)
 
-unfoldable pub create_schedule : ℕ → ℕ → List ℕ → List ℕ → ℕ → Parts → Outcome
-create_schedule interval retention namespace slots n ps =
-    let m = ps.master in
-    let ns = namespace_named m.catalog.namespaces namespace in
-    judged
-    (If (is_none ns) UnknownNamespace
-    ∷ Names (holder m (known ns)) Busy
-    ∷ Names (schedule_id (schedule_of m.schedules (known ns))) ScheduleExists
+abbrev pub found_column : Master → List ℕ → List ℕ → List ℕ → Result ColumnOf Refusal
+found_column m namespace table name = and_found (found_table m namespace table) (column_of name) UnknownColumn
+
+-- no operation holds the namespace
+abbrev pub unheld_checks : Id → Master → List Check
+unheld_checks ns m = Names (holder m ns) Busy ∷ []
+
+abbrev pub judge_drop_column : List ℕ → List ℕ → List ℕ → Master → Result ColumnOf Refusal
+judge_drop_column namespace table name m =
+    checked (found_column m namespace table name) (λ c. unheld_checks c.table.namespace m)
+
+unfoldable pub drop_column : List ℕ → List ℕ → List ℕ → List ℕ → Master → Outcome
+drop_column namespace table name slots m =
+    decided (judge_drop_column namespace table name m)
+    (λ c. accepts (DropsColumn c.table c.column) (tell slots (SetVersion (c.table.schema.version + 1))) [])
+
+abbrev pub rename_table_checks : TableRecord → List ℕ → Master → List Check
+rename_table_checks t name m =
+    Names (holder m t.namespace) Busy
+    ∷ Names (table_id (current_named m.catalog.tables t.namespace name)) NameTaken
+    ∷ []
+
+abbrev pub judge_rename_table : List ℕ → List ℕ → List ℕ → Master → Result TableRecord Refusal
+judge_rename_table namespace table name m =
+    checked (found_table m namespace table) (λ t. rename_table_checks t name m)
+
+unfoldable pub rename_table : List ℕ → List ℕ → List ℕ → Master → Outcome
+rename_table namespace table name m =
+    decided (judge_rename_table namespace table name m) (λ t. accepts (RenamesTable t name) [] [])
+
+abbrev pub judge_drop_table : List ℕ → List ℕ → Master → Result TableRecord Refusal
+judge_drop_table namespace table m =
+    checked (found_table m namespace table) (λ t. unheld_checks t.namespace m)
+
+unfoldable pub drop_table : List ℕ → List ℕ → List ℕ → ℕ → Master → Outcome
+drop_table namespace table slots n m =
+    decided (judge_drop_table namespace table m) (λ t. accepts (DropsTable t.id) (tell slots (HideSince n)) [])
+
+abbrev pub split_checks : Parent → ℕ → Master → List Check
+split_checks p code m =
+    Names (holder m p.table.namespace) Busy ∷ If (code == p.tablet.low) (TooNarrow p.tablet.low) ∷ []
+
+abbrev pub judge_split : List ℕ → List ℕ → ℕ → Master → Result Family Refusal
+judge_split namespace table code m =
+    found_family (checked (found_parent m namespace table code) (λ p. split_checks p code m)) m
+
+-- a tablet is split: its children take what its part has
+abbrev pub splitting : Family → ℕ → ℕ → Master → Tablet → Outcome
+splitting f code n m part =
+    let parent = f.parent.tablet in
+    accepts
+    (SplitsTablet parent code f.low_slot f.high_slot)
+    (record { slot = parent.slot; act = HideSince n }
+    ∷ tell_children
+    (children parent code f.low_slot f.high_slot n m.drawn.tablets)
+    f.parent.table.schema.version
+    part)
+    (next_tablet m.drawn.tablets 1 ∷ next_tablet m.drawn.tablets 2 ∷ [])
+
+unfoldable pub split : List ℕ → List ℕ → ℕ → ℕ → Parts → Outcome
+split namespace table code n ps =
+    decided (judge_split namespace table code ps.master)
+    (λ f. splitting f code n ps.master (ps.tablet f.parent.tablet.slot))
+
+abbrev pub create_schedule_checks : Id → ℕ → ℕ → Master → List Check
+create_schedule_checks ns interval retention m =
+    Names (holder m ns) Busy
+    ∷ Names (schedule_id (schedule_of m.schedules ns)) ScheduleExists
     ∷ If (not (is_period interval retention)) (BadPeriod interval retention)
-    ∷ [])
-    (accepts (CreateSchedule interval retention namespace) slots [] (next_schedule m ∷ []))
+    ∷ []
 
-unfoldable pub delete_schedule : Id → List ℕ → ℕ → Parts → Outcome
-delete_schedule schedule slots n ps =
-    let m = ps.master in
-    let found = schedule_with m.schedules schedule in
-    judged
-    (If (is_none found) UnknownSchedule ∷ Names (schedule_user m (the_schedule found)) Busy ∷ [])
-    (accepts (DeleteSchedule schedule) slots [] [])
+abbrev pub judge_create_schedule : ℕ → ℕ → List ℕ → Master → Result Id Refusal
+judge_create_schedule interval retention namespace m =
+    checked (found_namespace m namespace) (λ ns. create_schedule_checks ns interval retention m)
 
-unfoldable pub take_snapshot : Id → List ℕ → ℕ → Parts → Outcome
-take_snapshot schedule slots n ps =
-    let m = ps.master in
-    let found = schedule_with m.schedules schedule in
-    let s = the_schedule found in
-    judged
-    (If (is_none found) UnknownSchedule ∷ Names (schedule_user m s) Busy ∷ If (not (is_due s n)) (NotDue (next_due s)) ∷ [])
-    (accepts (TakeSnapshot schedule) slots [] (next_snapshot m ∷ []))
+unfoldable pub create_schedule : ℕ → ℕ → List ℕ → Master → Outcome
+create_schedule interval retention namespace m =
+    decided (judge_create_schedule interval retention namespace m)
+    (λ ns. accepts (MakesSchedule ns interval retention) [] (next_schedule m ∷ []))
 
-unfoldable pub restore : Id → ℕ → List ℕ → ℕ → Parts → Outcome
-restore schedule to slots n ps =
-    let m = ps.master in
-    let found = schedule_with m.schedules schedule in
-    let s = the_schedule found in
-    judged
-    (If (is_none found) UnknownSchedule
-    ∷ Names (user m s.namespace) Busy
+-- the schedule of an identifier
+abbrev pub found_schedule : Master → Id → Result Schedule Refusal
+found_schedule m schedule = ok_or (schedule_with m.schedules schedule) UnknownSchedule
+
+abbrev pub delete_schedule_checks : Schedule → Master → List Check
+delete_schedule_checks s m = Names (schedule_user m s) Busy ∷ []
+
+abbrev pub judge_delete_schedule : Id → Master → Result Schedule Refusal
+judge_delete_schedule schedule m = checked (found_schedule m schedule) (λ s. delete_schedule_checks s m)
+
+unfoldable pub delete_schedule : Id → Master → Outcome
+delete_schedule schedule m =
+    decided (judge_delete_schedule schedule m) (λ s. accepts (DeletesSchedule s.id) [] [])
+
+abbrev pub take_snapshot_checks : Schedule → ℕ → Master → List Check
+take_snapshot_checks s n m = Names (schedule_user m s) Busy ∷ If (not (is_due s n)) (NotDue (next_due s)) ∷ []
+
+abbrev pub judge_take_snapshot : Id → ℕ → Master → Result Schedule Refusal
+judge_take_snapshot schedule n m = checked (found_schedule m schedule) (λ s. take_snapshot_checks s n m)
+
+unfoldable pub take_snapshot : Id → ℕ → Master → Outcome
+take_snapshot schedule n m =
+    decided (judge_take_snapshot schedule n m) (λ s. accepts (TakesSnapshot s) [] (next_snapshot m ∷ []))
+
+abbrev pub restore_checks : Schedule → ℕ → ℕ → Master → List Check
+restore_checks s to n m =
+    Names (user m s.namespace) Busy
     ∷ If (nat_lt to (low s n)) (TooEarly (low s n))
     ∷ If (nat_le n to) (Future n)
-    ∷ [])
-    (accepts (Restore schedule to) slots [] (next_restoration m ∷ []))
+    ∷ []
 
-unfoldable pub clone_namespace : List ℕ → List ℕ → Option ℕ → List ℕ → ℕ → Parts → Outcome
-clone_namespace source target at slots n ps =
-    let m = ps.master in
-    let ns = namespace_named m.catalog.namespaces source in
-    let found = schedule_of m.schedules (known ns) in
-    let s = the_schedule found in
-    let to = clone_time at n in
+abbrev pub judge_restore : Id → ℕ → ℕ → Master → Result Schedule Refusal
+judge_restore schedule to n m = checked (found_schedule m schedule) (λ s. restore_checks s to n m)
+
+unfoldable pub restore : Id → ℕ → ℕ → Master → Outcome
+restore schedule to n m =
+    decided (judge_restore schedule to n m) (λ s. accepts (BeginsRestoration s to) [] (next_restoration m ∷ []))
+
+-- no operation uses the namespace
+abbrev pub unused_checks : Id → Master → List Check
+unused_checks ns m = Names (user m ns) Busy ∷ []
+
+-- the schedule of a namespace that is found
+abbrev pub scheduled : Result Id Refusal → Master → Result Schedule Refusal
+scheduled (Denied why) m = Denied why
+scheduled (Granted ns) m = ok_or (schedule_of m.schedules ns) (NoSchedule ns)
+
+-- the schedule by which a namespace is cloned
+abbrev pub found_source : Master → List ℕ → Result Schedule Refusal
+found_source m source = scheduled (checked (found_namespace m source) (λ ns. unused_checks ns m)) m
+
+abbrev pub clone_checks : Schedule → List ℕ → ℕ → ℕ → Master → List Check
+clone_checks s target to n m =
     let free = length (free_slots m) in
-    let needed = length (sources m (known ns) to) in
-    judged
-    (If (is_none ns) UnknownNamespace
-    ∷ Names (user m (known ns)) Busy
-    ∷ If (is_none found) (NoSchedule (known ns))
-    ∷ Names (named m target) NameTaken
+    let needed = length (sources m s.namespace to) in
+    Names (named m target) NameTaken
     ∷ If (count_namespaces m == most_namespaces) (TooMany most_namespaces)
     ∷ If (nat_lt to (low s n)) (TooEarly (low s n))
     ∷ If (nat_le n to) (Future n)
     ∷ If (nat_lt free needed) (SlotsFull free needed)
-    ∷ [])
-    (accepts (CloneNamespace source target at) slots [] (next_clone m ∷ []))
+    ∷ []
 
-unfoldable pub list_tablets : List ℕ → Parts → Outcome
-list_tablets namespace ps =
-    let m = ps.master in
-    let ns = namespace_named m.catalog.namespaces namespace in
-    judged (If (is_none ns) UnknownNamespace ∷ []) (answered (Tablets (tablet_lines m (known ns))))
+abbrev pub judge_clone : List ℕ → List ℕ → ℕ → ℕ → Master → Result Schedule Refusal
+judge_clone source target to n m = checked (found_source m source) (λ s. clone_checks s target to n m)
+
+unfoldable pub clone_namespace : List ℕ → List ℕ → Option ℕ → ℕ → Master → Outcome
+clone_namespace source target at n m =
+    decided (judge_clone source target (clone_time at n) n m)
+    (λ s. accepts (BeginsClone s.namespace source target (clone_time at n)) [] (next_clone m ∷ []))
+
+unfoldable pub list_tablets : List ℕ → Master → Outcome
+list_tablets namespace m =
+    decided (found_namespace m namespace) (λ ns. answered (Tablets (tablet_lines m ns)))
 
 -- a command under its plan
 abbrev pub planned : Command → List ℕ → ℕ → Parts → Outcome
-planned (CreateNamespace name) slots n ps = create_namespace name slots n ps
-planned (DropNamespace name) slots n ps = drop_namespace name slots n ps
-planned (CreateTable namespace table tablets columns) slots n ps = create_table namespace table tablets columns slots n ps
-planned (AddColumn namespace table name kind) slots n ps = add_column namespace table name kind slots n ps
-planned (DropColumn namespace table name) slots n ps = drop_column namespace table name slots n ps
-planned (RenameTable namespace table name) slots n ps = rename_table namespace table name slots n ps
-planned (DropTable namespace table) slots n ps = drop_table namespace table slots n ps
-planned (Split namespace table code) slots n ps = split namespace table code slots n ps
-planned (CreateSchedule interval retention namespace) slots n ps = create_schedule interval retention namespace slots n ps
-planned (DeleteSchedule schedule) slots n ps = delete_schedule schedule slots n ps
-planned (TakeSnapshot schedule) slots n ps = take_snapshot schedule slots n ps
-planned (Restore schedule to) slots n ps = restore schedule to slots n ps
-planned (CloneNamespace source target to) slots n ps = clone_namespace source target to slots n ps
+planned (CreateNamespace name) slots n ps = create_namespace name ps.master
+planned (DropNamespace name) slots n ps = drop_namespace name ps.master
+planned (CreateTable namespace table tablets columns) slots n ps =
+    create_table namespace table tablets columns slots n ps.master
+planned (AddColumn namespace table name kind) slots n ps = add_column namespace table name kind slots ps.master
+planned (DropColumn namespace table name) slots n ps = drop_column namespace table name slots ps.master
+planned (RenameTable namespace table name) slots n ps = rename_table namespace table name ps.master
+planned (DropTable namespace table) slots n ps = drop_table namespace table slots n ps.master
+planned (Split namespace table code) slots n ps = split namespace table code n ps
+planned (CreateSchedule interval retention namespace) slots n ps =
+    create_schedule interval retention namespace ps.master
+planned (DeleteSchedule schedule) slots n ps = delete_schedule schedule ps.master
+planned (TakeSnapshot schedule) slots n ps = take_snapshot schedule n ps.master
+planned (Restore schedule to) slots n ps = restore schedule to n ps.master
+planned (CloneNamespace source target at) slots n ps = clone_namespace source target at n ps.master
 planned ListSchedules slots n ps = answered (Schedules (schedule_lines n ps.master))
 planned ListSnapshots slots n ps = answered (Snapshots (snapshot_lines ps.master))
 planned ListRestorations slots n ps = answered (Restorations (restoration_lines ps.master))
 planned ListClones slots n ps = answered (Clones (clone_lines ps.master))
-planned (ListTablets namespace) slots n ps = list_tablets namespace ps
+planned (ListTablets namespace) slots n ps = list_tablets namespace ps.master
 
 -- a change: its slots are the plan of its command
 unfoldable pub change : Command → List ℕ → ℕ → Parts → Outcome

@@ -1,27 +1,25 @@
--- Histories, the newest entry first: what they leave, which are legal, the journal of their changes, and which are right.
+-- Histories, the newest entry first: what they leave, which are legal, and the journal of their changes.
 use Rattle.std.specs.Prelude.{◌≡◌, ℕ, ◌<◌, Bool, true, false, List, [], ◌∷◌, ◌++◌, Option, Some, None, ◌==◌, ◌&&◌, ◌+◌, nat_lt, not, length, if◌then◌else◌}
 use Rattle.std.specs.List.{filter}
 use Rattle.row_values.specs.declared.value.Item.{Item}
 use Rattle.row_values.specs.Ids.{Id}
 use Rattle.row_values.specs.Slots.{has}
 use Rattle.model.specs.Times.{end_of_time}
-use Rattle.row_values.specs.Schema.{Column, column_named, numbered}
-use Rattle.model.specs.Catalog.{TableRecord, namespace_named}
+use Rattle.row_values.specs.Schema.{Column, numbered, with_column, without_column}
 use Rattle.model.specs.Activity.{Interval}
 use Rattle.model.specs.Tablets.{act_for, effect}
-use Rattle.model.specs.Records.{SnapshotRecord, RestorationRecord, RestorationState, Switching, CloneRecord, CloneState, Copying}
-use Rattle.model.specs.Acts.{Command, CreateNamespace, DropNamespace, CreateTable, AddColumn, DropColumn, RenameTable, DropTable, Ask, AskPlan, AskKeys, AskTable, AskWork, AskRemovable, AskPresent, Act, Look, Change, Write, Read, Cutoff, Compact, Send, Process, Ack, Advance, Remove, Prune, Restart, Stats, Event, Reply, Ok, Work, Removable, Advanced}
-use Rattle.model.specs.Parts.{Master, Parts, start, MasterAct, Ticks, Changes, Sends, Acks, Unsends, Moves, Removes, Prunes, Restarts, Outcome, answered}
-use Rattle.model.specs.Looks.{look_plan, look_keys, look_table, look_present, table_of, known}
+use Rattle.model.specs.Records.{SnapshotRecord, RestorationRecord, RestorationState, Fencing, Snapshotting, Switching, Restoring, Releasing, Restored, CloneRecord, CloneState, Accepted, CloneSnapshot, Copying, CloneReleasing, CloneComplete}
+use Rattle.model.specs.Acts.{Ask, AskPlan, AskKeys, AskTable, AskWork, AskRemovable, AskPresent, Act, Look, Change, Write, Read, Cutoff, Compact, Send, Process, Ack, Advance, Remove, Prune, Restart, Stats, Event, Work, Removable, is_ok}
+use Rattle.model.specs.Parts.{Master, Parts, start, MasterAct, Ticks, MakesNamespace, DropsNamespace, MakesTable, AddsColumn, DropsColumn, RenamesTable, DropsTable, SplitsTablet, MakesSchedule, DeletesSchedule, TakesSnapshot, BeginsRestoration, BeginsClone, Sends, Acks, Unsends, Moves, Removes, Prunes, Restarts, Outcome, answered}
+use Rattle.model.specs.Looks.{look_plan, look_keys, look_table, look_present}
 use Rattle.model.specs.Changes.{change}
-use Rattle.model.specs.Changed.{changed}
+use Rattle.model.specs.Changed.{next_namespace, next_table, namespace_made, namespace_dropped, table_made, table_changed, table_dropped, tablet_split, schedule_made, schedule_deleted, snapshot_taken, restoration_begun, clone_begun}
 use Rattle.model.specs.RowActs.{write, read, cutoff, compact, stats, restart}
 use Rattle.model.specs.Coordination.{unfinished_restoration, unfinished_clone, send, process, ack, sent_to, acked, unsent_by, restarted_master}
 use Rattle.model.specs.Moves.{advance, moved}
 use Rattle.model.specs.Work.{next_work}
 use Rattle.model.specs.Cleanup.{remove, prune, removable, removed, pruned}
 use Rattle.model.specs.Journal as made
-use Rattle.model.specs.Journal.{TableMade}
 use Rattle.model.specs.Entries.{Entry, slots_of, log_of, stamp_of, Asked}
 
 -- What a history leaves
@@ -54,7 +52,19 @@ outcome (Stats slot) n ps = stats slot n ps
 -- the master after what it is told at a stamp
 abbrev pub master_effect : MasterAct → ℕ → Master → Master
 master_effect Ticks n m = record m { clock = n }
-master_effect (Changes command slots) n m = changed command slots n m
+master_effect (MakesNamespace name) n m = namespace_made name n m
+master_effect (DropsNamespace namespace) n m = namespace_dropped namespace n m
+master_effect (MakesTable namespace name columns slots) n m = table_made namespace name columns slots n m
+master_effect (AddsColumn t name kind) n m = table_changed t t.name (with_column name kind t.schema) n m
+master_effect (DropsColumn t column) n m = table_changed t t.name (without_column column.name t.schema) n m
+master_effect (RenamesTable t name) n m = table_changed t name t.schema n m
+master_effect (DropsTable table) n m = table_dropped table n m
+master_effect (SplitsTablet parent code low_slot high_slot) n m = tablet_split parent code low_slot high_slot n m
+master_effect (MakesSchedule namespace interval retention) n m = schedule_made namespace interval retention n m
+master_effect (DeletesSchedule schedule) n m = schedule_deleted schedule n m
+master_effect (TakesSnapshot schedule) n m = snapshot_taken schedule n m
+master_effect (BeginsRestoration schedule to) n m = restoration_begun schedule to n m
+master_effect (BeginsClone namespace source target to) n m = clone_begun namespace source target to n m
 master_effect (Sends operation slot) n m = sent_to operation slot n m
 master_effect (Acks operation slot) n m = acked operation slot n m
 master_effect (Unsends operation slot) n m = unsent_by operation slot n m
@@ -67,7 +77,8 @@ master_effect Restarts n m = restarted_master n m
 abbrev pub told : Act → Outcome → ℕ → Parts → Parts
 told act o n ps = record {
   master = if has (slots_of act) 0 then master_effect o.master n ps.master else ps.master;
-  tablet = λ i. if has (slots_of act) i && not (i == 0) then effect (act_for o.tablets i) n (ps.tablet i) else ps.tablet i;
+  tablet = λ i.
+      if has (slots_of act) i && not (i == 0) then effect (act_for o.tablets i) n (ps.tablet i) else ps.tablet i;
 }
 
 -- the parts that an entry leaves
@@ -116,68 +127,112 @@ entry_of slots event earlier = let n = stamp_of event (replay slots earlier) in 
 
 abbrev pub rows_made : ℕ → Id → List Item → List made.Change → List made.Change
 rows_made n table [] earlier = earlier
-rows_made n table (item ∷ items) earlier = rows_made n table items (record { stamp = n; act = made.RowChanged table item.key item.op } ∷ earlier)
+rows_made n table (item ∷ items) earlier =
+    rows_made n table items (record { stamp = n; act = made.RowChanged table item.key item.op } ∷ earlier)
 
 -- a change in front of the earlier ones
 abbrev pub with : ℕ → made.ChangeAct → List made.Change → List made.Change
 with n act earlier = record { stamp = n; act = act } ∷ earlier
 
--- a change of the table that a command names
-abbrev pub with_table : Option TableRecord → (TableRecord → made.ChangeAct) → ℕ → List made.Change → List made.Change
-with_table None act n earlier = earlier
-with_table (Some t) act n earlier = with n (act t) earlier
-
 abbrev pub id_of_column : Option Column → ℕ
 id_of_column None = 0
 id_of_column (Some column) = column.id
 
--- the one change of an accepted command; the identifiers are those that it made
-abbrev pub with_command : Command → List Id → ℕ → Master → List made.Change → List made.Change
-with_command (CreateNamespace name) (id ∷ ids) n m earlier = with n (made.NamespaceMade id name) earlier
-with_command (DropNamespace name) ids n m earlier = with n (made.NamespaceDropped (known (namespace_named m.catalog.namespaces name))) earlier
-with_command (CreateTable namespace table tablets columns) (id ∷ ids) n m earlier =
-    with n (made.TableMade id (known (namespace_named m.catalog.namespaces namespace)) table (numbered 1 columns)) earlier
-with_command (AddColumn namespace table name kind) ids n m earlier =
-    with_table (table_of m namespace table) (λ t. made.ColumnAdded t.id (record { id = t.schema.next; name = name; kind = kind })) n earlier
-with_command (DropColumn namespace table name) ids n m earlier =
-    with_table (table_of m namespace table) (λ t. made.ColumnDropped t.id (id_of_column (column_named t.schema.columns name))) n earlier
-with_command (RenameTable namespace table name) ids n m earlier = with_table (table_of m namespace table) (λ t. made.TableRenamed t.id name) n earlier
-with_command (DropTable namespace table) ids n m earlier = with_table (table_of m namespace table) (λ t. made.TableDropped t.id) n earlier
-with_command _ ids n m earlier = earlier
-
 -- the restore of a restoration that leaves its state of switching, stamped at its point
 abbrev pub with_restoration : RestorationState → RestorationRecord → List made.Change → List made.Change
 with_restoration (Switching point serving) r earlier = with point (made.NamespaceRestored r.namespace r.to) earlier
-with_restoration _ r earlier = earlier
+with_restoration Fencing r earlier = earlier
+with_restoration (Snapshotting point own) r earlier = earlier
+with_restoration (Restoring point serving) r earlier = earlier
+with_restoration (Releasing point serving) r earlier = earlier
+with_restoration (Restored point serving) r earlier = earlier
 
 -- the clone whose target becomes current
 abbrev pub with_clone : CloneState → CloneRecord → ℕ → List made.Change → List made.Change
-with_clone (Copying serving copied_at) c n earlier = with n (made.NamespaceCloned c.source c.target_id c.target c.to c.tables) earlier
-with_clone _ c n earlier = earlier
+with_clone (Copying serving copied_at) c n earlier =
+    with n (made.NamespaceCloned c.source c.target_id c.target c.to c.tables) earlier
+with_clone Accepted c n earlier = earlier
+with_clone (CloneSnapshot own) c n earlier = earlier
+with_clone (CloneReleasing serving copied_at) c n earlier = earlier
+with_clone (CloneComplete serving copied_at) c n earlier = earlier
 
-abbrev pub with_either : Option RestorationRecord → Option CloneRecord → ℕ → List made.Change → List made.Change
+abbrev pub with_either : Option RestorationRecord → Option CloneRecord → ℕ → List made.Change
+    → List made.Change
 with_either (Some r) clone n earlier = with_restoration r.state r earlier
 with_either None (Some c) n earlier = with_clone c.state c n earlier
 with_either None None n earlier = earlier
 
--- the changes of an entry in front of the earlier ones; an entry that was refused has none
-abbrev pub with_changes : Act → Reply → ℕ → Parts → List made.Change → List made.Change
-with_changes (Change command slots) (Ok ids) n ps earlier = with_command command ids n ps.master earlier
-with_changes (Write place version batch) (Ok ids) n ps earlier = rows_made n (ps.tablet place.slot).table batch earlier
-with_changes (Advance operation) (Advanced state) n ps earlier = with_either (unfinished_restoration ps.master.restorations operation) (unfinished_clone ps.master.clones operation) n earlier
-with_changes _ _ n ps earlier = earlier
+-- the one change that the master makes, where what it is told is one
+abbrev pub with_master : MasterAct → ℕ → Master → List made.Change → List made.Change
+with_master (MakesNamespace name) n m earlier = with n (made.NamespaceMade (next_namespace m) name) earlier
+with_master (DropsNamespace namespace) n m earlier = with n (made.NamespaceDropped namespace) earlier
+with_master (MakesTable namespace name columns slots) n m earlier =
+    with n (made.TableMade (next_table m) namespace name (numbered 1 columns)) earlier
+with_master (AddsColumn t name kind) n m earlier =
+    with n (made.ColumnAdded t.id (record { id = t.schema.next; name = name; kind = kind })) earlier
+with_master (DropsColumn t column) n m earlier = with n (made.ColumnDropped t.id column.id) earlier
+with_master (RenamesTable t name) n m earlier = with n (made.TableRenamed t.id name) earlier
+with_master (DropsTable table) n m earlier = with n (made.TableDropped table) earlier
+with_master (Moves operation) n m earlier =
+    with_either (unfinished_restoration m.restorations operation) (unfinished_clone m.clones operation) n earlier
+with_master Ticks n m earlier = earlier
+with_master (SplitsTablet parent code low_slot high_slot) n m earlier = earlier
+with_master (MakesSchedule namespace interval retention) n m earlier = earlier
+with_master (DeletesSchedule schedule) n m earlier = earlier
+with_master (TakesSnapshot schedule) n m earlier = earlier
+with_master (BeginsRestoration schedule to) n m earlier = earlier
+with_master (BeginsClone namespace source target to) n m earlier = earlier
+with_master (Sends operation slot) n m earlier = earlier
+with_master (Acks operation slot) n m earlier = earlier
+with_master (Unsends operation slot) n m earlier = earlier
+with_master (Removes target) n m earlier = earlier
+with_master Prunes n m earlier = earlier
+with_master Restarts n m earlier = earlier
+
+-- the changes of an act in front of the earlier ones; one that was refused has none
+abbrev pub with_changes : Act → Outcome → ℕ → Parts → List made.Change → List made.Change
+with_changes (Change command slots) o n ps earlier = with_master o.master n ps.master earlier
+with_changes (Advance operation) o n ps earlier = with_master o.master n ps.master earlier
+with_changes (Write place version batch) o n ps earlier =
+    if is_ok o.reply then rows_made n (ps.tablet place.slot).table batch earlier else earlier
+with_changes (Look ask) o n ps earlier = earlier
+with_changes (Read places version key at columns) o n ps earlier = earlier
+with_changes (Cutoff slot) o n ps earlier = earlier
+with_changes (Compact slot) o n ps earlier = earlier
+with_changes (Send operation slot) o n ps earlier = earlier
+with_changes (Process slot other) o n ps earlier = earlier
+with_changes (Ack operation slot) o n ps earlier = earlier
+with_changes (Remove target slots) o n ps earlier = earlier
+with_changes Prune o n ps earlier = earlier
+with_changes (Restart slot) o n ps earlier = earlier
+with_changes (Stats slot) o n ps earlier = earlier
+
+abbrev pub with_changes_of : Entry → Parts → List made.Change → List made.Change
+with_changes_of e ps earlier = with_changes e.event.act (outcome e.event.act e.stamp ps) e.stamp ps earlier
 
 -- the changes that a history made, the newest first
 unfoldable pub journal_of : ℕ → List Entry → List made.Change
 journal_of slots [] = []
-journal_of slots (e ∷ earlier) = with_changes e.event.act e.reply e.stamp (replay slots earlier) (journal_of slots earlier)
+journal_of slots (e ∷ earlier) = with_changes_of e (replay slots earlier) (journal_of slots earlier)
 
 -- Activity of all tablets that ever were
 
 abbrev pub is_removal : MasterAct → Bool
 is_removal (Removes target) = true
 is_removal Ticks = false
-is_removal (Changes command slots) = false
+is_removal (MakesNamespace name) = false
+is_removal (DropsNamespace namespace) = false
+is_removal (MakesTable namespace name columns slots) = false
+is_removal (AddsColumn t name kind) = false
+is_removal (DropsColumn t column) = false
+is_removal (RenamesTable t name) = false
+is_removal (DropsTable table) = false
+is_removal (SplitsTablet parent code low_slot high_slot) = false
+is_removal (MakesSchedule namespace interval retention) = false
+is_removal (DeletesSchedule schedule) = false
+is_removal (TakesSnapshot schedule) = false
+is_removal (BeginsRestoration schedule to) = false
+is_removal (BeginsClone namespace source target to) = false
 is_removal (Sends operation slot) = false
 is_removal (Acks operation slot) = false
 is_removal (Unsends operation slot) = false

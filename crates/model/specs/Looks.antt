@@ -1,29 +1,35 @@
--- What the looks at the master answer: the plan of a command, the place of keys or of a table, the slots that hold a tablet.
-use Rattle.std.specs.Prelude.{ℕ, zero, suc, ◌+◌, Bool, not, ◌&&◌, ◌||◌, List, [], ◌∷◌, ◌++◌, map, length, take, is_some, is_none, if◌then◌else◌, nat_le, Option, Some, None, unwrap_or, option_map}
+-- What the looks at the master answer: the plan of a command, the place of keys or of a table, the slots that hold a
+-- tablet. What a look or a command names is found here.
+use Rattle.std.specs.Prelude.{ℕ, zero, suc, ◌+◌, Bool, not, ◌&&◌, ◌||◌, List, [], ◌∷◌, map, length, take, is_some, if◌then◌else◌, nat_le, ◌==◌, Option, Some, None, option_map, Result, Ok, Err, false}
 use Rattle.std.specs.List.{filter, find}
-use Rattle.std.specs.Option.{option_or, option_to_list}
+use Rattle.std.specs.Option.{option_or, option_to_list, ok_or}
 use Rattle.row_values.specs.Codes.{code_of}
 use Rattle.row_values.specs.declared.value.Value.{Value}
-use Rattle.row_values.specs.Ids.{Id, same, no_id}
+use Rattle.row_values.specs.Ids.{Id, same}
 use Rattle.row_values.specs.Slots.{has, rising}
 use Rattle.model.specs.Times.{is_open, time_of, is_future, is_below}
 use Rattle.row_values.specs.Ranges.{in_range}
-use Rattle.row_values.specs.Schema.{Column, column_named, first_schema, is_of_kind}
+use Rattle.row_values.specs.Schema.{Column, column_named, is_of_kind}
 use Rattle.model.specs.Catalog.{kept_from, TableRecord, namespace_named, table_named, current_named, current_table}
 use Rattle.model.specs.Activity.{Interval}
-use Rattle.model.specs.Records.{CloneRecord, is_cloned}
-use Rattle.model.specs.Acts.{Command, NamedCell, NamedOp, NamedUpsert, NamedDelete, NamedItem, CreateTable, AddColumn, DropColumn, DropTable, Split, Refusal, UnknownNamespace, UnknownTable, UnknownColumn, WrongKind, Future, CrossTablet, TooOld, Place, Planned, Placed, Present}
-use Rattle.model.specs.Parts.{Master, Outcome, If, judged, answered, Fault}
+use Rattle.model.specs.Records.{TabletPair, CloneRecord, is_cloned}
+use Rattle.model.specs.Acts.{Command, CreateNamespace, DropNamespace, CreateTable, AddColumn, DropColumn, RenameTable, DropTable, Split, CreateSchedule, DeleteSchedule, TakeSnapshot, Restore, CloneNamespace, ListSchedules, ListSnapshots, ListRestorations, ListClones, ListTablets, NamedCell, NamedOp, NamedUpsert, NamedDelete, NamedItem, Refusal, UnknownNamespace, UnknownTable, UnknownColumn, WrongKind, Future, CrossTablet, SlotsFull, TooOld, Place, Planned, Placed, Present}
+use Rattle.model.specs.Parts.{Master, Outcome, If, Fault, checked, and_found, decided, answered}
 use Rattle.model.specs.Lists.{by_range}
 
--- the slots that the targets of unfinished clones have
-abbrev pub reserved : List CloneRecord → List ℕ
-reserved [] = []
-reserved (r ∷ rs) = (if is_cloned r.state then [] else map (λ p. p.slot) r.tablets) ++ reserved rs
+-- whether a target tablet is in the slot
+abbrev pub has_target : List TabletPair → ℕ → Bool
+has_target [] slot = false
+has_target (p ∷ pairs) slot = (p.slot == slot) || has_target pairs slot
+
+-- whether an unfinished clone has reserved the slot
+abbrev pub is_reserved : List CloneRecord → ℕ → Bool
+is_reserved [] slot = false
+is_reserved (r ∷ rs) slot = (not (is_cloned r.state) && has_target r.tablets slot) || is_reserved rs slot
 
 -- whether no present tablet and no unfinished clone has the slot
 abbrev pub is_free : Master → ℕ → Bool
-is_free m slot = not (has (map (λ i. i.slot) m.activity) slot || has (reserved m.clones) slot)
+is_free m slot = not (has (map (λ i. i.slot) m.activity) slot || is_reserved m.clones slot)
 
 -- so many numbers, from the second on
 abbrev pub counting : ℕ → ℕ → List ℕ
@@ -38,13 +44,14 @@ free_slots m = filter (is_free m) (counting m.slots 1)
 abbrev pub least_slots : ℕ → List ℕ → List ℕ
 least_slots count slots = if nat_le count (length slots) then take count slots else []
 
--- the identifier that is found, or that of nothing
-abbrev pub known : Option Id → Id
-known id = unwrap_or id no_id
+-- the namespace of a name
+abbrev pub found_namespace : Master → List ℕ → Result Id Refusal
+found_namespace m name = ok_or (namespace_named m.catalog.namespaces name) UnknownNamespace
 
 -- the current table of a name in the namespace of a name
-abbrev pub table_of : Master → List ℕ → List ℕ → Option TableRecord
-table_of m namespace table = current_named m.catalog.tables (known (namespace_named m.catalog.namespaces namespace)) table
+abbrev pub found_table : Master → List ℕ → List ℕ → Result TableRecord Refusal
+found_table m namespace table =
+    and_found (found_namespace m namespace) (λ ns. current_named m.catalog.tables ns table) UnknownTable
 
 -- the table's tablets that are active
 abbrev pub active_in : Master → Id → List Interval
@@ -55,28 +62,65 @@ abbrev pub holding : Master → Id → ℕ → Option Interval
 holding m table code = find (λ i. in_range i.low i.high code) (active_in m table)
 
 -- the slots of a table's active tablets, in rising order
-abbrev pub slots_of_table : Master → Option TableRecord → List ℕ
-slots_of_table m None = []
-slots_of_table m (Some t) = rising (map (λ i. i.slot) (active_in m t.id))
+abbrev pub slots_of_table : Master → Id → List ℕ
+slots_of_table m table = rising (map (λ i. i.slot) (active_in m table))
 
--- the slot of a parent, then those of its children, where there are two
-abbrev pub family : Option Interval → List ℕ → List ℕ
-family None free = []
-family (Some parent) free = if nat_le 2 (length free) then parent.slot ∷ take 2 free else []
+-- a table's tablet that is to be split
+pub record Parent : Type 0 where
+  pub table : TableRecord
+  pub tablet : Interval
 
-abbrev pub family_of : Master → Option TableRecord → ℕ → List ℕ
-family_of m None code = []
-family_of m (Some t) code = family (holding m t.id code) (free_slots m)
+abbrev pub found_parent : Master → List ℕ → List ℕ → ℕ → Result Parent Refusal
+found_parent m namespace table code = and_found (found_table m namespace table)
+    (λ t. option_map (λ i. record { table = t; tablet = i }) (holding m t.id code)) UnknownTable
+
+-- a parent, and the slots of its two children
+pub record Family : Type 0 where
+  pub parent : Parent
+  pub low_slot : ℕ
+  pub high_slot : ℕ
+
+abbrev pub family : Parent → List ℕ → Option Family
+family parent [] = None
+family parent (slot ∷ []) = None
+family parent (low ∷ high ∷ free) = Some (record { parent = parent; low_slot = low; high_slot = high })
+
+-- the two least free slots are the children's
+abbrev pub found_family : Result Parent Refusal → Master → Result Family Refusal
+found_family parent m =
+    and_found parent (λ p. family p (free_slots m)) (SlotsFull (length (free_slots m)) 2)
+
+-- the slots for what was found; none where it wasn't
+abbrev pub slots_for : {A : Type 0} → Result A Refusal → (A → List ℕ) → List ℕ
+slots_for (Err why) slots = []
+slots_for (Ok found) slots = slots found
 
 -- the slots that a command touches besides the master
 unfoldable pub plan_of : Command → Master → List ℕ
 plan_of (CreateTable namespace table tablets columns) m =
-    if is_some (namespace_named m.catalog.namespaces namespace) then least_slots tablets (free_slots m) else []
-plan_of (AddColumn namespace table name kind) m = slots_of_table m (table_of m namespace table)
-plan_of (DropColumn namespace table name) m = slots_of_table m (table_of m namespace table)
-plan_of (DropTable namespace table) m = slots_of_table m (table_of m namespace table)
-plan_of (Split namespace table code) m = family_of m (table_of m namespace table) code
-plan_of _ m = []
+    slots_for (found_namespace m namespace) (λ ns. least_slots tablets (free_slots m))
+plan_of (AddColumn namespace table name kind) m =
+    slots_for (found_table m namespace table) (λ t. slots_of_table m t.id)
+plan_of (DropColumn namespace table name) m =
+    slots_for (found_table m namespace table) (λ t. slots_of_table m t.id)
+plan_of (DropTable namespace table) m =
+    slots_for (found_table m namespace table) (λ t. slots_of_table m t.id)
+plan_of (Split namespace table code) m =
+    slots_for (found_family (found_parent m namespace table code) m)
+    (λ f. f.parent.tablet.slot ∷ f.low_slot ∷ f.high_slot ∷ [])
+plan_of (CreateNamespace name) m = []
+plan_of (DropNamespace name) m = []
+plan_of (RenameTable namespace table name) m = []
+plan_of (CreateSchedule interval retention namespace) m = []
+plan_of (DeleteSchedule schedule) m = []
+plan_of (TakeSnapshot schedule) m = []
+plan_of (Restore schedule to) m = []
+plan_of (CloneNamespace source target to) m = []
+plan_of ListSchedules m = []
+plan_of ListSnapshots m = []
+plan_of ListRestorations m = []
+plan_of ListClones m = []
+plan_of (ListTablets namespace) m = []
 
 -- a record of the table that counts only where the table is current
 abbrev pub if_current : List TableRecord → Option TableRecord → Option TableRecord
@@ -88,13 +132,6 @@ abbrev pub table_asked : List TableRecord → Id → List ℕ → Option ℕ →
 table_asked rs ns name None = current_named rs ns name
 table_asked rs ns name (Some x) = if_current rs (table_named rs ns name x)
 
-abbrev pub no_table : TableRecord
-no_table = record { id = no_id; namespace = no_id; name = []; schema = first_schema []; from = 0; to = None }
-
--- the table that is found, or that of nothing
-abbrev pub the_table : Option TableRecord → TableRecord
-the_table t = unwrap_or t no_table
-
 -- what is wrong with a value for a column
 abbrev pub value_fault : Option Column → Value → Option Refusal
 value_fault None value = Some UnknownColumn
@@ -103,7 +140,8 @@ value_fault (Some column) value = if is_of_kind column.kind value then None else
 -- what is wrong with the first cell that is faulty
 abbrev pub cells_fault : List Column → List NamedCell → Option Refusal
 cells_fault columns [] = None
-cells_fault columns (cell ∷ cells) = option_or (value_fault (column_named columns cell.column) cell.value) (cells_fault columns cells)
+cells_fault columns (cell ∷ cells) =
+    option_or (value_fault (column_named columns cell.column) cell.value) (cells_fault columns cells)
 
 abbrev pub op_fault : List Column → NamedOp → Option Refusal
 op_fault columns (NamedUpsert cells) = cells_fault columns cells
@@ -121,7 +159,8 @@ first_code (item ∷ items) = code_of item.key
 -- the code of the first key that isn't in the tablet's range
 abbrev pub code_outside : Interval → List NamedItem → Option ℕ
 code_outside i [] = None
-code_outside i (item ∷ items) = if in_range i.low i.high (code_of item.key) then code_outside i items else Some (code_of item.key)
+code_outside i (item ∷ items) =
+    if in_range i.low i.high (code_of item.key) then code_outside i items else Some (code_of item.key)
 
 -- the code of the first key that is in another tablet
 abbrev pub other_code : Option Interval → List NamedItem → Option ℕ
@@ -135,38 +174,37 @@ place_of i = record { slot = i.slot; tablet = i.tablet; low = i.low; high = i.hi
 unfoldable pub look_plan : Command → Master → Outcome
 look_plan command m = answered (Planned (plan_of command m))
 
+-- the table of a look: the time is neither to come nor from before the catalog is kept
+abbrev pub found_at : List ℕ → List ℕ → Option ℕ → ℕ → Master → Result TableRecord Refusal
+found_at namespace table at n m =
+    let kept : Id → ℕ = kept_from m.catalog.kept_from in
+    and_found
+    (checked (found_namespace m namespace)
+    (λ ns. If (is_future at n) (Future n) ∷ If (is_below at (kept ns)) (TooOld (time_of at n) (kept ns)) ∷ []))
+    (λ ns. table_asked m.catalog.tables ns table at) UnknownTable
+
+-- whose columns take the batch, and of which one tablet holds the keys
+abbrev pub judge_keys : List ℕ → List ℕ → List NamedItem → Option ℕ → ℕ → Master
+    → Result TableRecord Refusal
+judge_keys namespace table batch at n m =
+    let first = first_code batch in
+    checked (found_at namespace table at n m)
+    (λ t. Fault (batch_fault t.schema.columns batch)
+    ∷ Fault (option_map (CrossTablet first) (other_code (holding m t.id first) batch))
+    ∷ [])
+
+abbrev pub placed : List Interval → TableRecord → Outcome
+placed is t = answered (Placed (map place_of is) t.schema.version t.schema.columns)
+
 -- a look for the tablet that holds the keys of a batch
 unfoldable pub look_keys : List ℕ → List ℕ → List NamedItem → Option ℕ → ℕ → Master → Outcome
-look_keys namespace table batch at n m =
-    let ns = namespace_named m.catalog.namespaces namespace in
-    let from = kept_from m.catalog.kept_from (known ns) in
-    let found = table_asked m.catalog.tables (known ns) table at in
-    let t = the_table found in
-    let home = holding m t.id (first_code batch) in
-    judged
-    (If (is_none ns) UnknownNamespace
-    ∷ If (is_future at n) (Future n)
-    ∷ If (is_below at from) (TooOld (time_of at n) from)
-    ∷ If (is_none found) UnknownTable
-    ∷ Fault (batch_fault t.schema.columns batch)
-    ∷ Fault (option_map (CrossTablet (first_code batch)) (other_code home batch))
-    ∷ [])
-    (answered (Placed (map place_of (option_to_list home)) t.schema.version t.schema.columns))
+look_keys namespace table batch at n m = decided (judge_keys namespace table batch at n m)
+    (λ t. placed (option_to_list (holding m t.id (first_code batch))) t)
 
 -- a look for all active tablets of a table
 unfoldable pub look_table : List ℕ → List ℕ → Option ℕ → ℕ → Master → Outcome
 look_table namespace table at n m =
-    let ns = namespace_named m.catalog.namespaces namespace in
-    let from = kept_from m.catalog.kept_from (known ns) in
-    let found = table_asked m.catalog.tables (known ns) table at in
-    let t = the_table found in
-    judged
-    (If (is_none ns) UnknownNamespace
-    ∷ If (is_future at n) (Future n)
-    ∷ If (is_below at from) (TooOld (time_of at n) from)
-    ∷ If (is_none found) UnknownTable
-    ∷ [])
-    (answered (Placed (map place_of (by_range (active_in m t.id))) t.schema.version t.schema.columns))
+    decided (found_at namespace table at n m) (λ t. placed (by_range (active_in m t.id)) t)
 
 -- a look for the slots of all tablets that the master knows
 unfoldable pub look_present : Master → Outcome

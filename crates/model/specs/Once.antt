@@ -14,7 +14,7 @@ use Rattle.model.specs.Journal.{NamespaceRestored, NamespaceCloned, is_in, table
 use Rattle.model.specs.Acts.{Act, Look, Change, Write, Read, Cutoff, Compact, Send, Process, Ack, Advance, Remove, Prune, Restart, Stats, Command, CreateNamespace, DropNamespace, CreateTable, AddColumn, DropColumn, RenameTable, DropTable, Split, CreateSchedule, DeleteSchedule, TakeSnapshot, Restore, CloneNamespace, ListSchedules, ListSnapshots, ListRestorations, ListClones, ListTablets, Reply, Ok, Planned, Placed, Work, Removable, Present, Rows, CutoffAt, Compacted, SentTo, Done, Acked, Advanced, Removed, Pruned, Counts, NoTablet, Schedules, Snapshots, Restorations, Clones, Tablets, Refused}
 use Rattle.model.specs.Parts.{Master, Parts}
 use Rattle.model.specs.Entries.{Entry}
-use Rattle.model.specs.History.{replay, journal_of, with_changes}
+use Rattle.model.specs.History.{replay, journal_of, with_changes_of}
 use Rattle.model.specs.Drawn.{made_by}
 use Rattle.model.specs.Entering.{Entering, entered}
 
@@ -150,7 +150,7 @@ unfoldable pub changes_by : ℕ → Id → List Entry → List made.Change
 changes_by slots operation [] = []
 changes_by slots operation (e ∷ earlier) =
     if is_move_of operation e.event.act
-    then with_changes e.event.act e.reply e.stamp (replay slots earlier) (changes_by slots operation earlier)
+    then with_changes_of e (replay slots earlier) (changes_by slots operation earlier)
     else changes_by slots operation earlier
 
 -- Restores

@@ -7,7 +7,7 @@ use Rattle.model.specs.Acts.{Restore, CloneNamespace, AskKeys, AskTable, Act, Lo
 use Rattle.model.specs.Parts.{Master, Parts}
 use Rattle.model.specs.Schedules.{low, IsInWindow}
 use Rattle.model.specs.Operations.{user}
-use Rattle.model.specs.Looks.{known}
+use Rattle.std.specs.Option.{option_and_then}
 use Rattle.model.specs.Journal as made
 use Rattle.model.specs.Entries.{Entry}
 use Rattle.model.specs.Right.{RowsRight, LookReplyRight, LookPlacesRight, NothingLate}
@@ -33,6 +33,10 @@ abbrev pub WindowRightOf : (Reply → Schedule → ℕ → ℕ → Type 0) → O
 WindowRightOf Judged None reply m n to = Unit {0}
 WindowRightOf Judged (Some s) reply m n to = user m s.namespace ≡ None → Judged reply s n to
 
+-- the schedule of a namespace that has this name
+abbrev pub schedule_named : Master → List ℕ → Option Schedule
+schedule_named m name = option_and_then (schedule_of m.schedules) (namespace_named m.catalog.namespaces name)
+
 -- the reply of an entry is right, against the journal of the entries before it
 abbrev pub ReplyRight : Act → Reply → ℕ → Parts → List made.Change → Type 0
 ReplyRight (Look (AskKeys namespace table batch at)) reply n ps changes =
@@ -42,7 +46,7 @@ ReplyRight (Look (AskTable namespace table at)) reply n ps changes =
 ReplyRight (Read places version key at columns) (Rows rows) n ps changes = RowsRight changes (time_of at n) key columns ps.tablet places rows
 ReplyRight (Change (Restore schedule to) slots) reply n ps changes = WindowRightOf WindowRight (schedule_with ps.master.schedules schedule) reply ps.master n to
 ReplyRight (Change (CloneNamespace source target to) slots) reply n ps changes =
-    WindowRightOf CloneWindowRight (schedule_of ps.master.schedules (known (namespace_named ps.master.catalog.namespaces source))) reply ps.master n (unwrap_or to (n - 1))
+    WindowRightOf CloneWindowRight (schedule_named ps.master source) reply ps.master n (unwrap_or to (n - 1))
 ReplyRight _ reply n ps changes = Unit {0}
 
 -- each reply is that of one list of stamped changes, and no change comes too late for a restore or a clone

@@ -1,12 +1,12 @@
 -- What acts on tablets do: writes and reads of rows, cutoffs, compactions, restarts and counts.
 use Rattle.std.specs.Prelude.{ℕ, ◌+◌, max, Bool, true, false, not, ◌&&◌, ◌||◌, List, [], ◌∷◌, ◌++◌, map, length, if◌then◌else◌, ◌==◌, Option, Some, None}
 use Rattle.std.specs.List.{filter, list_all}
-use Rattle.std.specs.Option.{option_or, option_map}
+use Rattle.std.specs.Option.{option_or, option_map, option_and_then}
 use Rattle.row_values.specs.Codes.{code_of}
 use Rattle.row_values.specs.Rows.{cut_to}
 use Rattle.row_values.specs.declared.rows.KeyedRow.{KeyedRow}
 use Rattle.row_values.specs.declared.value.Item.{Item}
-use Rattle.row_values.specs.Ids.{Id, no_id}
+use Rattle.row_values.specs.Ids.{Id}
 use Rattle.model.specs.Times.{time_of, is_future, is_below}
 use Rattle.row_values.specs.Store.{Version, precedes, read_of, kept, present, rows_at}
 use Rattle.row_values.specs.Ranges.{in_range}
@@ -18,7 +18,6 @@ use Rattle.model.specs.Acts.{At, Refusal, Future, Fenced, Moved, StaleSchema, To
 use Rattle.model.specs.Parts.{Master, Parts, Ticks, Restarts, Outcome, If, Names, Fault, judged, answered}
 use Rattle.model.specs.Schedules.{allowed_cutoff}
 use Rattle.row_values.specs.Elements.{in_order}
-use Rattle.model.specs.Looks.{known}
 
 -- the slot's part doesn't have what is wanted of it
 abbrev pub has_moved : ℕ → Tablet → Refusal
@@ -35,7 +34,10 @@ unfoldable pub write : At → ℕ → List Item → ℕ → Parts → Outcome
 write place version batch n ps =
     let t = ps.tablet place.slot in
     judged
-    (If (not (serves_all t place.tablet batch)) (has_moved place.slot t) ∷ Names t.fence Fenced ∷ If (not (t.version == version)) (StaleSchema t.version) ∷ [])
+    (If (not (serves_all t place.tablet batch)) (has_moved place.slot t)
+    ∷ Names t.fence Fenced
+    ∷ If (not (t.version == version)) (StaleSchema t.version)
+    ∷ [])
     (record { master = Ticks; tablets = record { slot = place.slot; act = WriteRows batch } ∷ []; reply = Ok [] })
 
 -- the refusal of the first place whose part doesn't serve its tablet, or hasn't the key in its range
@@ -58,7 +60,9 @@ abbrev pub moved_from_scan : List At → ℕ → (ℕ → Tablet) → Option Ref
 moved_from_scan [] from tablet = None
 moved_from_scan (p ∷ places) from tablet =
     let t = tablet p.slot in
-    if goes_on from (none_left places) p.tablet t then moved_from_scan places t.high tablet else Some (has_moved p.slot t)
+    if goes_on from (none_left places) p.tablet t
+    then moved_from_scan places t.high tablet
+    else Some (has_moved p.slot t)
 
 abbrev pub first_moved : Option (List ℕ) → List At → (ℕ → Tablet) → Option Refusal
 first_moved None places tablet = moved_from_scan places 0 tablet
@@ -83,7 +87,9 @@ stale (Some x) places version tablet = None
 -- the first cutoff of the places that is after the asked time
 abbrev pub first_cutoff : List At → Option ℕ → (ℕ → Tablet) → Option ℕ
 first_cutoff [] at tablet = None
-first_cutoff (p ∷ places) at tablet = if is_below at (tablet p.slot).cutoff then Some (tablet p.slot).cutoff else first_cutoff places at tablet
+first_cutoff (p ∷ places) at tablet =
+    let cutoff = (tablet p.slot).cutoff in
+    if is_below at cutoff then Some cutoff else first_cutoff places at tablet
 
 -- the present rows of the versions at x, all or that of a key
 abbrev pub rows_asked : Option (List ℕ) → List Version → ℕ → List KeyedRow
@@ -104,6 +110,7 @@ cut_rows columns rows = map {A = KeyedRow} (λ r. record r { row = cut_to r.row 
 -- a read of all rows or of a key's, at a time or at the stamp: by key, and those of one key in the order of the places
 unfoldable pub read : List At → ℕ → Option (List ℕ) → Option ℕ → List ℕ → ℕ → Parts → Outcome
 read places version key at columns n ps =
+    let rows = rows_of_places places key (time_of at n) ps.tablet in
     judged
     (Fault (first_moved key places ps.tablet)
     ∷ Names (first_fence places ps.tablet) Fenced
@@ -111,16 +118,18 @@ read places version key at columns n ps =
     ∷ If (is_future at n) (Future n)
     ∷ Fault (option_map (TooOld (time_of at n)) (first_cutoff places at ps.tablet))
     ∷ [])
-    (answered (Rows (cut_rows columns (in_order (λ r s. precedes r.key s.key) (rows_of_places places key (time_of at n) ps.tablet)))))
+    (answered (Rows (cut_rows columns (in_order (λ r s. precedes r.key s.key) rows))))
 
 -- the table of the tablet that the master knows in a slot
-abbrev pub table_in : List Interval → ℕ → Id
-table_in [] slot = no_id
-table_in (i ∷ is) slot = if i.slot == slot then i.table else table_in is slot
+abbrev pub table_in : List Interval → ℕ → Option Id
+table_in [] slot = None
+table_in (i ∷ is) slot = if i.slot == slot then Some i.table else table_in is slot
 
 -- the schedule of the namespace of the tablet in a slot. The target of a clone has none before it is current
 abbrev pub schedule_at : Master → ℕ → Option Schedule
-schedule_at m slot = schedule_of m.schedules (known (owner_of m.catalog.owners (table_in m.activity slot)))
+schedule_at m slot =
+    let ns = option_and_then (owner_of m.catalog.owners) (table_in m.activity slot) in
+    option_and_then (schedule_of m.schedules) ns
 
 unfoldable pub cutoff : ℕ → ℕ → Parts → Outcome
 cutoff slot n ps =
@@ -128,14 +137,22 @@ cutoff slot n ps =
     let to = allowed_cutoff (schedule_at ps.master slot) n in
     judged
     (If (is_empty t.presence) (has_moved slot t) ∷ [])
-    (record { master = Ticks; tablets = record { slot = slot; act = RaiseCutoff to } ∷ []; reply = CutoffAt (max t.cutoff to) })
+    (record {
+      master = Ticks;
+      tablets = record { slot = slot; act = RaiseCutoff to } ∷ [];
+      reply = CutoffAt (max t.cutoff to);
+    })
 
 unfoldable pub compact : ℕ → ℕ → Parts → Outcome
 compact slot n ps =
     let t = ps.tablet slot in
     judged
     (If (is_empty t.presence) (has_moved slot t) ∷ [])
-    (record { master = Ticks; tablets = record { slot = slot; act = CompactRows } ∷ []; reply = Compacted (length t.versions) (length (kept t.versions t.cutoff)) })
+    (record {
+      master = Ticks;
+      tablets = record { slot = slot; act = CompactRows } ∷ [];
+      reply = Compacted (length t.versions) (length (kept t.versions t.cutoff));
+    })
 
 -- a restart of the master, which is number 0, or of a tablet
 unfoldable pub restart : ℕ → ℕ → Parts → Outcome
@@ -152,4 +169,7 @@ count_frozen (f ∷ fs) = length f.versions + count_frozen fs
 unfoldable pub stats : ℕ → ℕ → Parts → Outcome
 stats slot n ps =
     let t = ps.tablet slot in
-    answered (if is_empty t.presence then NoTablet else Counts t.cutoff (length t.versions) (count_frozen t.frozen) (length t.inbox))
+    answered
+    (if is_empty t.presence
+    then NoTablet
+    else Counts t.cutoff (length t.versions) (count_frozen t.frozen) (length t.inbox))

@@ -1,18 +1,18 @@
 -- A run stays right over a coordinator's events where its journal is in order: those events answer no rows.
-use Rattle.std.proofs.Common.{ℕ, zero, suc, List, [], ◌∷◌, Option, Some, None}
+use Rattle.std.proofs.Common.{ℕ, zero, suc, Bool, true, false, List, [], ◌∷◌, Option, Some, None}
+use Rattle.std.specs.Prelude.{if◌then◌else◌}
 use Rattle.std.specs.Option.{option_map_or, option_map}
 use Rattle.row_values.specs.declared.value.Item.{Item}
 use Rattle.row_values.specs.Ids.{Id}
-use Rattle.model.specs.Catalog.{TableRecord}
 use Rattle.model.specs.Tablets.{Command as TabletCommand}
 use Rattle.model.specs.Records.{RestorationRecord, RestorationState, Switching, CloneRecord, CloneState, Copying}
-use Rattle.model.specs.Acts.{Command, CreateNamespace, DropNamespace, CreateTable, AddColumn, DropColumn, RenameTable, DropTable, Act, Change, Write, Advance, Reply, Ok, Advanced, WorkItem, SendWork, CollectWork, AdvanceWork}
+use Rattle.model.specs.Acts.{Act, Change, Write, Advance, Reply, WorkItem, SendWork, CollectWork, AdvanceWork, is_ok}
 use Rattle.model.specs.Journal as made
-use Rattle.model.specs.Parts.{Master, Parts}
+use Rattle.model.specs.Parts.{Master, Parts, Outcome, MasterAct, MakesNamespace, DropsNamespace, MakesTable, AddsColumn, DropsColumn, RenamesTable, DropsTable, Moves}
 use Rattle.model.specs.Right.{NothingLate}
 use Rattle.model.specs.Work.{act_of_work, collecting, next_act, next_work}
 use Rattle.model.specs.Replies.{Right, ReplyRight}
-use Rattle.model.specs.History.{journal_of, rows_made, with_table, with_command, with_restoration, with_clone, with_either, with_changes}
+use Rattle.model.specs.History.{journal_of, rows_made, with_restoration, with_clone, with_either, with_master, with_changes}
 use Rattle.model_rows.specs.Runs.{Run, done, coordinated}
 
 -- nothing is late among the earlier changes
@@ -20,24 +20,6 @@ use Rattle.model_rows.specs.Runs.{Run, done, coordinated}
 before_rows : (items : List Item) (n : ℕ) (table : Id) (earlier : List made.Change) → NothingLate (rows_made n table items earlier) → NothingLate earlier
 before_rows [] n table earlier late = late
 before_rows (item ∷ items) n table earlier late = (before_rows items n table _ late).0
-
-before_table : (t : Option TableRecord) (act : TableRecord → made.ChangeAct) (n : ℕ) (earlier : List made.Change)
-    → NothingLate (with_table t act n earlier) → NothingLate earlier
-before_table None act n earlier late = late
-before_table (Some t) act n earlier late = late.0
-
-before_command : (command : Command) (ids : List Id) (n : ℕ) (m : Master) (earlier : List made.Change)
-    → NothingLate (with_command command ids n m earlier) → NothingLate earlier
-before_command (CreateNamespace name) [] n m earlier late = late
-before_command (CreateNamespace name) (id ∷ ids) n m earlier late = late.0
-before_command (DropNamespace name) ids n m earlier late = late.0
-before_command (CreateTable namespace table tablets columns) [] n m earlier late = late
-before_command (CreateTable namespace table tablets columns) (id ∷ ids) n m earlier late = late.0
-before_command (AddColumn namespace table name kind) ids n m earlier late = before_table _ _ n earlier late
-before_command (DropColumn namespace table name) ids n m earlier late = before_table _ _ n earlier late
-before_command (RenameTable namespace table name) ids n m earlier late = before_table _ _ n earlier late
-before_command (DropTable namespace table) ids n m earlier late = before_table _ _ n earlier late
-before_command _ ids n m earlier late = late
 
 before_restoration : (state : RestorationState) (r : RestorationRecord) (earlier : List made.Change) → NothingLate (with_restoration state r earlier) → NothingLate earlier
 before_restoration (Switching point serving) r earlier late = late.0
@@ -53,12 +35,28 @@ before_either (Some r) clone n earlier late = before_restoration r.state r earli
 before_either None (Some c) n earlier late = before_clone c.state c n earlier late
 before_either None None n earlier late = late
 
-before_changes : (act : Act) (reply : Reply) (n : ℕ) (ps : Parts) (earlier : List made.Change)
-    → NothingLate (with_changes act reply n ps earlier) → NothingLate earlier
-before_changes (Change command slots) (Ok ids) n ps earlier late = before_command command ids n ps.master earlier late
-before_changes (Write place version batch) (Ok ids) n ps earlier late = before_rows batch n _ earlier late
-before_changes (Advance operation) (Advanced state) n ps earlier late = before_either _ _ n earlier late
-before_changes _ _ n ps earlier late = late
+before_master : (act : MasterAct) (n : ℕ) (m : Master) (earlier : List made.Change) → NothingLate (with_master act n m earlier) → NothingLate earlier
+before_master (MakesNamespace name) n m earlier late = late.0
+before_master (DropsNamespace namespace) n m earlier late = late.0
+before_master (MakesTable namespace name columns slots) n m earlier late = late.0
+before_master (AddsColumn table name kind) n m earlier late = late.0
+before_master (DropsColumn table column) n m earlier late = late.0
+before_master (RenamesTable table name) n m earlier late = late.0
+before_master (DropsTable table) n m earlier late = late.0
+before_master (Moves operation) n m earlier late = before_either _ _ n earlier late
+before_master _ n m earlier late = late
+
+before_written : (accepted : Bool) (items : List Item) (n : ℕ) (table : Id) (earlier : List made.Change) → NothingLate (if accepted then rows_made n table items earlier else earlier)
+    → NothingLate earlier
+before_written true items n table earlier late = before_rows items n table earlier late
+before_written false items n table earlier late = late
+
+before_changes : (act : Act) (o : Outcome) (n : ℕ) (ps : Parts) (earlier : List made.Change)
+    → NothingLate (with_changes act o n ps earlier) → NothingLate earlier
+before_changes (Change command slots) o n ps earlier late = before_master o.master n ps.master earlier late
+before_changes (Advance operation) o n ps earlier late = before_master o.master n ps.master earlier late
+before_changes (Write place version batch) o n ps earlier late = before_written (is_ok o.reply) batch n _ earlier late
+before_changes _ o n ps earlier late = late
 
 before_done : (act : Act) (slots : ℕ) (run : Run) → NothingLate (journal_of slots (done act run).entries) → NothingLate (journal_of slots run.entries)
 unfolding journal_of

@@ -16,10 +16,9 @@ use Rattle.model.specs.Acts.{NamedCell, NamedItem, NamedUpsert, CreateNamespace,
 use Rattle.row_values.specs.Elements.{in_order}
 use Rattle.model.specs.Looks.{cells_fault, look_plan, plan_of, look_keys}
 use Rattle.model.specs.Changes.{create_namespace, create_table, change, accepts}
-use Rattle.model.specs.Changed.{changed}
 use Rattle.model.specs.Tablets.{Tablet, Make, Write as WriteRows}
 use Rattle.model.specs.RowActs.{write, read, cut_rows, covers, rows_in}
-use Rattle.model.specs.Parts.{Master, Outcome, Ticks, answered}
+use Rattle.model.specs.Parts.{Master, Outcome, Ticks, MakesNamespace, MakesTable, answered}
 use Rattle.yb_script.specs.Runs.{Catalog, State, keys_answer, read_answer}
 use Rattle.yb_script.specs.Seen.{reply_of, new_column, columns_of}
 use Rattle.yb_script.proofs.ShownParts.{the_namespace, the_table, the_tablet, empty_at, named_at, tabled_at, serving_at}
@@ -43,13 +42,9 @@ in_whole key = let less : code_of key < 65536 = code_small key 0 (omega arith) i
 -- Making the namespace and the table
 
 pub namespace_told : (tablet : ℕ → Tablet) (clock n : ℕ) (name : List ℕ)
-    → change (CreateNamespace name) [] n (record { master = empty_at clock; tablet = tablet }) ≡ accepts (CreateNamespace name) [] [] (the_namespace ∷ [])
+    → change (CreateNamespace name) [] n (record { master = empty_at clock; tablet = tablet }) ≡ accepts (MakesNamespace name) [] (the_namespace ∷ [])
 unfolding change plan_of create_namespace
 namespace_told tablet clock n name = refl
-
-pub namespace_changed : (clock n : ℕ) (name : List ℕ) → changed (CreateNamespace name) [] n (empty_at clock) ≡ named_at n name n
-unfolding changed
-namespace_changed clock n name = refl
 
 pub table_planned : (clock from : ℕ) (namespace table : List ℕ) (columns : List NewColumn)
     → look_plan (CreateTable namespace table 1 columns) (named_at clock namespace from) ≡ answered (Planned (1 ∷ []))
@@ -58,15 +53,9 @@ table_planned clock from namespace table columns = rw (self_eq namespace)
 
 pub table_told : (tablet : ℕ → Tablet) (clock from n : ℕ) (namespace table : List ℕ) (columns : List NewColumn)
     → change (CreateTable namespace table 1 columns) (1 ∷ []) n (record { master = named_at clock namespace from; tablet = tablet })
-    ≡ accepts (CreateTable namespace table 1 columns) (1 ∷ []) (record { slot = 1; act = Make the_tablet the_table 0 65536 1 } ∷ []) (the_table ∷ [])
+    ≡ accepts (MakesTable the_namespace table columns (1 ∷ [])) (record { slot = 1; act = Make the_tablet the_table 0 65536 1 } ∷ []) (the_table ∷ [])
 unfolding change plan_of create_table
 table_told tablet clock from n namespace table columns = rw (self_eq namespace)
-
-pub table_changed : (clock from n : ℕ) (namespace table column : List ℕ)
-    → changed (CreateTable namespace table 1 (new_column column)) (1 ∷ []) n (named_at clock namespace from)
-    ≡ tabled_at n (record { namespace = namespace; kept_from = from; table = table; column = column; made_at = n })
-unfolding changed
-table_changed clock from n namespace table column = rw (self_eq namespace)
 
 -- Looks for keys
 

@@ -11,7 +11,7 @@ use Rattle.model.specs.Parts.{Master, answered}
 use Rattle.yb_script.specs.Runs.{State, read_answer, tablet_stamp}
 use Rattle.yb_script.specs.Seen.{reply_of, new_column}
 use Rattle.yb_script.proofs.ShownParts.{the_namespace, the_table, empty_at, named_at, tabled_at, serving_at}
-use Rattle.yb_script.proofs.ShownActs.{namespace_told, namespace_changed, table_told, table_changed, the_place, one_write, write_told, read_told}
+use Rattle.yb_script.proofs.ShownActs.{namespace_told, table_told, the_place, one_write, write_told, read_told}
 use Rattle.yb_script.proofs.ShownEvents.{Does}
 
 stamp_alone : (clock reading : ℕ) → rule.stamp_of 0 (clock ∷ []) reading ≡ rule.stamp_of clock [] reading
@@ -36,7 +36,7 @@ pub does_namespace : (reading n clock : ℕ) (name : List ℕ) (t : Tablet) → 
     → Does (Change (CreateNamespace name) []) reading n (empty_at clock) t (named_at n name n) t (Ok (the_namespace ∷ []))
 does_namespace reading n clock name t is = record {
   stamped = λ tablet there. stamp_alone clock reading ∙ sym is;
-  master = λ tablet there. ap (λ o. master_effect o.master n (empty_at clock)) (namespace_told tablet clock n name) ∙ namespace_changed clock n name;
+  master = λ tablet there. ap (λ o. master_effect o.master n (empty_at clock)) (namespace_told tablet clock n name);
   tablet = λ tablet there. there;
   reply = λ tablet there. ap (λ o. o.reply) (namespace_told tablet clock n name);
   stamp_low = λ low a b c. omega (arith, is, a, b, c);
@@ -50,8 +50,7 @@ pub does_table : (reading n clock from : ℕ) (namespace table column : List ℕ
 does_table reading n clock from namespace table column t is = record {
   stamped = λ tablet there. ap (λ part. rule.stamp_of 0 (clock ∷ part.clock ∷ []) reading) there ∙ stamp_both clock t.clock reading ∙ sym is;
   master = λ tablet there.
-      ap (λ o. master_effect o.master n (named_at clock namespace from)) (table_told tablet clock from n namespace table (new_column column))
-      ∙ table_changed clock from n namespace table column;
+      ap (λ o. master_effect o.master n (named_at clock namespace from)) (table_told tablet clock from n namespace table (new_column column));
   tablet = λ tablet there. ap (λ o. effect (act_for o.tablets 1) n (tablet 1)) (table_told tablet clock from n namespace table (new_column column));
   reply = λ tablet there. ap (λ o. o.reply) (table_told tablet clock from n namespace table (new_column column));
   stamp_low = λ low a b c. omega (arith, is, a, b, c);

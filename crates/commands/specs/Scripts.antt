@@ -1,6 +1,6 @@
 -- The command of a script as the book has it: a put, a delete and a batch write rows, a get reads a row and a scan a
 -- table.
-use Rattle.std.specs.Prelude.{List, [], ◌∷◌, Some, None, option_map}
+use Rattle.std.specs.Prelude.{[], ◌∷◌, Some, None, option_map}
 use Rattle.model.specs.Acts.{NamedUpsert, NamedDelete}
 use Rattle.model.specs.Scripts as book
 use Rattle.table_schema.specs.Seen.{column_kind_of}

@@ -1,5 +1,4 @@
 -- Commands and looks as the book's.
-use Rattle.std.specs.Prelude.{ℕ}
 use Rattle.model.specs.Acts as book
 use Rattle.table_schema.specs.Seen.{column_kind_of}
 use Rattle.commands.specs.declared.command.Command.{Command}

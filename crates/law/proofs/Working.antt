@@ -82,20 +82,20 @@ records_good slots ps activity changes count inv none =
     all_append P (map snapshot_progress snapshots ++ map (restoration_progress m) restorations) _
     (all_append P (map snapshot_progress snapshots) (map (restoration_progress m) restorations)
     (all_made P snapshot_progress snapshots (λ r isin.
-        let there = filter_in m.snapshots (λ r. not r.complete) r isin in
-        let good = inv.operations.snapshots r there.0 in
-        record {
-          lines = λ l listed. own_line slots l (Freeze r.id r.at) (good.bodies l listed) refl (known_slot slots ps activity changes l count inv (good.known (not_true r.complete there.1) l listed));
-          covered = subst AdvanceCovered (sym good.kind_is) tt;
-        }))
+    let there = filter_in m.snapshots (λ r. not r.complete) r isin in
+    let good = inv.operations.snapshots r there.0 in
+    record {
+      lines = λ l listed. own_line slots l (Freeze r.id r.at) (good.bodies l listed) refl (known_slot slots ps activity changes l count inv (good.known (not_true r.complete there.1) l listed));
+      covered = subst AdvanceCovered (sym good.kind_is) tt;
+    }))
     (all_made P (restoration_progress m) restorations (λ r isin.
-        let there = filter_in m.restorations (λ r. not (is_restored r.state)) r isin in
-        let good = inv.operations.restorations r there.0 in
-        let still = not_true (is_restored r.state) there.1 in
-        record {
-          lines = λ l listed. restoring_line r.state m changes r slots l good.in_state still listed (known_slot slots ps activity changes l count inv (good.known still l listed));
-          covered = subst AdvanceCovered (sym good.kind_is) tt;
-        })))
+    let there = filter_in m.restorations (λ r. not (is_restored r.state)) r isin in
+    let good = inv.operations.restorations r there.0 in
+    let still = not_true (is_restored r.state) there.1 in
+    record {
+      lines = λ l listed. restoring_line r.state m changes r slots l good.in_state still listed (known_slot slots ps activity changes l count inv (good.known still l listed));
+      covered = subst AdvanceCovered (sym good.kind_is) tt;
+    })))
     (subst (λ cs. AllOf P (map (clone_progress m) (filter (λ r. not (is_cloned r.state)) cs))) (sym none) tt)
 
 -- The next act

@@ -105,15 +105,16 @@ rows_or text (FoundTargets targets) other = other
 rows_or text (FoundRows rows) other = text rows
 rows_or text FoundNothing other = other
 
--- the text of the reply to a read
+-- the text of the reply to a read, whose rows have a text of their own
 abbrev pub read_text : (List KeyedRow → List ℕ) → ℕ → Reply → List ℕ
 read_text text n reply = rows_or text (found_in reply) (told_text n reply)
 
--- the text of the newest reply; rows show the columns that the look before it placed
+-- the text of the newest reply
 abbrev pub newest_reply : List Entry → List ℕ
 newest_reply [] = []
 newest_reply (e ∷ earlier) = told_text e.stamp e.reply
 
+-- that of a read, whose rows show the columns that the look before it placed
 abbrev pub newest_rows : (List Column → List KeyedRow → List ℕ) → List Entry → List ℕ
 newest_rows text [] = []
 newest_rows text (e ∷ earlier) = read_text (text (columns_before earlier)) e.stamp e.reply

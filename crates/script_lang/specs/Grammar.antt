@@ -25,7 +25,8 @@ IsPlainLine line = (length line ≤ 4096) × (is_plain line ≡ true)
 abbrev pub IsLine : ℕ → List ℕ → Option ScriptCommand → Type 0
 IsLine slots line None = IsPlainLine line × ((is_comment line ≡ true) ⊎ IsLaidOut [] line)
 IsLine slots line (Some command) =
-    IsPlainLine line × (is_comment line ≡ false) × ((w : Word) × (ws : List Word) × IsLaidOut (w ∷ ws) line × SpelledIn slots table command w ws)
+    IsPlainLine line × (is_comment line ≡ false)
+    × ((w : Word) × (ws : List Word) × IsLaidOut (w ∷ ws) line × SpelledIn slots table command w ws)
 
 -- The line is not in the grammar, and this is its first cause. The causes stand in their order, and
 -- each but the first is looked for where none before it holds.
@@ -34,14 +35,16 @@ LineRefused slots line cause =
     ((4096 < length line) × (cause ≡ LineTooLong))
     ⊎ (((length line ≤ 4096) × (is_plain line ≡ false) × (cause ≡ BadByte))
     ⊎ ((IsPlainLine line × (is_comment line ≡ false) × (is_open false line ≡ true) × (cause ≡ OpenQuote))
-    ⊎ (IsPlainLine line × (is_comment line ≡ false) × ((w : Word) × (ws : List Word) × IsLaidOut (w ∷ ws) line × RefusedIn slots table cause w ws))))
+    ⊎ (IsPlainLine line × (is_comment line ≡ false)
+    × ((w : Word) × (ws : List Word) × IsLaidOut (w ∷ ws) line × RefusedIn slots table cause w ws))))
 
 -- Each of these lines, of which the first is line n, is in the grammar, and these are their commands.
 abbrev pub AreLines : ℕ → List (List ℕ) → ℕ → List ScriptLine → Type 0
 AreLines slots [] n found = found ≡ []
 AreLines slots (line ∷ lines) n found =
     (IsLine slots line None × AreLines slots lines (n + 1) found)
-    ⊎ ((command : ScriptCommand) × (others : List ScriptLine) × IsLine slots line (Some command) × (found ≡ numbered n command ∷ others) × AreLines slots lines (n + 1) others)
+    ⊎ ((command : ScriptCommand) × (others : List ScriptLine) × IsLine slots line (Some command)
+    × (found ≡ numbered n command ∷ others) × AreLines slots lines (n + 1) others)
 
 -- The text is a script, and these are its commands. Lines are counted from 1.
 abbrev pub IsScript : ℕ → List ℕ → List ScriptLine → Type 0

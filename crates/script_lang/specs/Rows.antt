@@ -34,7 +34,11 @@ get_at = record {
 }
 
 abbrev pub scan : Form ScriptCommand
-scan = record { word = codes "scan"; places = Name ∷ Name ∷ []; makes = λ namespace table. ReadTable namespace table None }
+scan = record {
+  word = codes "scan";
+  places = Name ∷ Name ∷ [];
+  makes = λ namespace table. ReadTable namespace table None;
+}
 
 abbrev pub scan_at : Form ScriptCommand
 scan_at = record {

@@ -9,7 +9,10 @@ use Rattle.script_places.specs.Words.{Word, next_of, before, behind, wanted}
 use Rattle.script_places.specs.Names.{is_name}
 
 unfoldable pub kind_of : List ℕ → Option ColumnKind
-kind_of w = if bytes_eq w (codes "int") then Some IntColumn else if bytes_eq w (codes "text") then Some TextColumn else None
+kind_of w =
+    if bytes_eq w (codes "int") then Some IntColumn
+    else if bytes_eq w (codes "text") then Some TextColumn
+    else None
 
 -- `name:kind`
 unfoldable pub column_of : List ℕ → Result NewColumn Cause

@@ -22,7 +22,8 @@ use Rattle.script_places.specs.Spelling.{value_word, FitsValue, cell_word, FitsC
 abbrev pub Spells : {C : Type 0} → ℕ → (places : List Place) → Makes C places → C → List Word → Type 0
 Spells slots [] made command ws = (ws ≡ []) × (made ≡ command)
 Spells slots (place ∷ rest) make command ws =
-    (x : Meaning place) × (front : List Word) × (others : List Word) × (ws ≡ front ++ others) × Writes slots place x front × Spells slots rest (make x) command others
+    (x : Meaning place) × (front : List Word) × (others : List Word)
+    × (ws ≡ front ++ others) × Writes slots place x front × Spells slots rest (make x) command others
 
 -- There is a first word, and this is so of it.
 abbrev pub First : List Word → (Word → Type 0) → Type 0
@@ -55,7 +56,8 @@ IsItem ws = (item : NamedItem) × (ws ≡ item_words item) × FitsItem item
 -- What stands before the first `=` is no name, or else what stands behind it is no value.
 abbrev pub CellRefused : Cause → Word → Type 0
 CellRefused cause w =
-    ((is_name (before 61 w) ≡ false) × (cause ≡ BadName)) ⊎ ((is_name (before 61 w) ≡ true) × ¬ (IsValue (behind 61 w)) × (cause ≡ BadValue))
+    ((is_name (before 61 w) ≡ false) × (cause ≡ BadName))
+    ⊎ ((is_name (before 61 w) ≡ true) × ¬ (IsValue (behind 61 w)) × (cause ≡ BadValue))
 
 -- A word is no cell, and those before it are cells.
 abbrev pub CellsRefused : Cause → List Word → Type 0
@@ -89,7 +91,8 @@ RefusedAt slots places.Name cause ws = First ws (λ w. (is_name w ≡ false) × 
 RefusedAt slots places.Key cause ws = First ws (λ w. (is_key w ≡ false) × (cause ≡ BadKey))
 RefusedAt slots (places.Number least most) cause ws = First ws (λ w. ¬ (IsNumber least most w) × (cause ≡ BadNumber))
 RefusedAt slots places.Slot cause ws = First ws (λ w. ¬ (IsNumber 1 slots w) × (cause ≡ NoSuchSlot))
-RefusedAt slots (places.Identifier kind) cause ws = First ws (λ w. ¬ (IsIdentifier (kind_of kind) w) × (cause ≡ BadIdentifier))
+RefusedAt slots (places.Identifier kind) cause ws =
+    First ws (λ w. ¬ (IsIdentifier (kind_of kind) w) × (cause ≡ BadIdentifier))
 RefusedAt slots places.Column cause ws = First ws (λ w. ¬ (IsColumn w) × (cause ≡ BadName))
 RefusedAt slots places.Time cause ws = ¬ (IsTime ws) × (cause ≡ BadTime)
 RefusedAt slots places.Cells cause ws = CellsRefused cause ws
@@ -101,12 +104,14 @@ abbrev pub Refused : ℕ → List Place → Cause → List Word → Type 0
 Refused slots [] cause ws = ⊥
 Refused slots (place ∷ rest) cause ws =
     RefusedAt slots place cause ws
-    ⊎ ((x : Meaning place) × (front : List Word) × (others : List Word) × (ws ≡ front ++ others) × Writes slots place x front × Refused slots rest cause others)
+    ⊎ ((x : Meaning place) × (front : List Word) × (others : List Word)
+    × (ws ≡ front ++ others) × Writes slots place x front × Refused slots rest cause others)
 
 -- The words are refused for their count or a fixed word, or else for the first wrong one.
 abbrev pub FormRefused : {C : Type 0} → ℕ → Form C → Cause → List Word → Type 0
 FormRefused slots form cause ws =
-    ((fits form.places ws ≡ false) × (cause ≡ WrongWords)) ⊎ ((fits form.places ws ≡ true) × Refused slots form.places cause ws)
+    ((fits form.places ws ≡ false) × (cause ≡ WrongWords))
+    ⊎ ((fits form.places ws ≡ true) × Refused slots form.places cause ws)
 
 -- whether the bounds of a number are those of a `u64`
 abbrev pub is_bounded : Place → Bool
@@ -144,9 +149,11 @@ SomeForm P (form ∷ forms) = P form ⊎ SomeForm P forms
 
 -- A form of the table has the first word, and the others spell the command as it says.
 abbrev pub SpelledIn : {C : Type 0} → ℕ → List (Form C) → C → Word → List Word → Type 0
-SpelledIn slots table command w ws = SomeForm (λ form. (w ≡ form.word) × Spells slots form.places form.makes command ws) table
+SpelledIn slots table command w ws =
+    SomeForm (λ form. (w ≡ form.word) × Spells slots form.places form.makes command ws) table
 
 -- No form of the table has the first word, or one has, and the others are refused by it.
 abbrev pub RefusedIn : {C : Type 0} → ℕ → List (Form C) → Cause → Word → List Word → Type 0
 RefusedIn slots table cause w ws =
-    ((has_word table w ≡ false) × (cause ≡ UnknownCommand)) ⊎ SomeForm (λ form. (w ≡ form.word) × FormRefused slots form cause ws) table
+    ((has_word table w ≡ false) × (cause ≡ UnknownCommand))
+    ⊎ SomeForm (λ form. (w ≡ form.word) × FormRefused slots form cause ws) table

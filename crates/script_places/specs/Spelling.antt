@@ -102,6 +102,7 @@ Writes slots places.Time time ws = (ws ≡ time_words time) × FitsTime time
 Writes slots places.Cells cells ws =
     (ws ≡ map cell_word cells) × AllByRecursion FitsCell cells × (1 ≤ length cells) × (length cells ≤ 16)
 Writes slots places.Columns columns ws =
-    (ws ≡ map column_word columns) × AllByRecursion FitsColumn columns × AreNew [] columns × (1 ≤ length columns) × (length columns ≤ 16)
+    (ws ≡ map column_word columns) × AllByRecursion FitsColumn columns × AreNew [] columns
+    × (1 ≤ length columns) × (length columns ≤ 16)
 Writes slots places.Items items ws =
     (ws ≡ joined (map item_words items)) × AllByRecursion FitsItem items × (1 ≤ length items) × (length items ≤ 64)

@@ -39,16 +39,17 @@ restoration_lines m = map {A = RestorationRecord} (λ r. record {
 }) m.restorations
 
 abbrev pub clone_lines : Master → List CloneLine
-clone_lines m = map {A = CloneRecord} (λ r. record { id = r.id; source = r.source_name; target = r.target; state = clone_state r.state; to = r.to }) m.clones
+clone_lines m = map {A = CloneRecord} (λ r. record {
+  id = r.id;
+  source = r.source_name;
+  target = r.target;
+  state = clone_state r.state;
+  to = r.to;
+}) m.clones
 
 -- the present tablets of a namespace by number, each with the end of its last interval
 abbrev pub tablet_lines : Master → Id → List TabletLine
 tablet_lines m ns =
-<<<<<<< HEAD
     map {A = Interval}
     (λ i. record { tablet = i.tablet; table = i.table; slot = i.slot; low = i.low; high = i.high; ended = i.to })
     (in_order (λ i j. nat_lt i.tablet.number j.tablet.number) (once (reverse (intervals_in m.catalog.owners m.activity ns))))
-=======
-    map {A = Interval} (λ i. record { tablet = i.tablet; table = i.table; slot = i.slot; low = i.low; high = i.high; ended = i.to })
-    (in_order (λ i j. nat_lt i.tablet.number j.tablet.number) (once (reverse (intervals_in m ns))))
->>>>>>> e0a3b4f (model: the chapter of lines as it was)

@@ -5,13 +5,5 @@ pub mod Naming
 pub mod Recording
 pub mod Slots
 pub mod Following
-pub mod NoClones
-pub mod Working
 pub mod Running
 pub mod Runs
-pub mod Drawing
-pub mod Fixing
-pub mod Fixed
-pub mod Newest
-pub mod Schemas
-pub mod Numbering

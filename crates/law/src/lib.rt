@@ -10,17 +10,14 @@ ghost use Rattle.model.specs.Running.{run_of};
 ghost use Rattle.model.specs.Entries.{ActAsked, Entry};
 ghost use Rattle.row_values.specs.Elements.{AllOf};
 ghost use Rattle.model.specs.History.{Legal, replay, journal_of, activity_of};
-ghost use Rattle.model.specs.Drawn.{DrawnBelow, DrawnWithin, SchemasDrawn};
 ghost use Rattle.model.specs.Replies.{Right};
-ghost use Rattle.model.specs.Strict.{FixedStays};
 ghost use Rattle.model.specs.Stands.{Cover, RecordFacts, Stands};
 ghost use Rattle.law_local.specs.Agreeing.{PlanNames};
 ghost use Rattle.law_invariants.specs.Invariant.{Inv};
 ghost use Rattle.law.specs.Covering.{Covered};
 ghost use Rattle.law.specs.Scripts.{ScriptCovered};
 
-/// A legal history of covered acts is right: each reply is that of one list of stamped changes. What its
-/// restores fixed stays as it was, and no change of their namespaces came too late for them. What
+/// A legal history of covered acts is right: each reply is that of one list of stamped changes. What
 /// holds after each entry holds of the parts that the history leaves. At each time at which the view
 /// has a table, the ranges of its tablets that were active then cover the codes, none twice, tablets
 /// that were removed since counted in. Each tablet stands for the journal: what is read of its live
@@ -32,24 +29,12 @@ pub fn legal_is_right()
     ensures stands { (slots : ℕ) (history : List Entry) → Legal slots history → Covered history → Stands (replay slots history) (journal_of slots history) }
     ensures facts { (slots : ℕ) (history : List Entry) → Legal slots history → Covered history → RecordFacts (replay slots history) (journal_of slots history) }
     ensures cover { (slots : ℕ) (history : List Entry) → Legal slots history → Covered history → Cover (activity_of slots history) (journal_of slots history) }
-    ensures fixed { (slots : ℕ) (history : List Entry) → Legal slots history → Covered history → FixedStays (journal_of slots history) }
 {}
 
 /// A step on what a legal history leaves depends on its touched parts alone: what that asks of the
 /// master's plans is so.
 pub fn plans_are_named()
     ensures named { (slots : ℕ) (history : List Entry) (act : Act) → Legal slots history → Covered history → ActAsked slots act → PlanNames act (replay slots history).master }
-{}
-
-/// A legal history of covered acts draws few numbers: at most as many of each kind as a cluster has
-/// slots, for each entry of the master's log. So numbers of identifiers stay below their bound, of
-/// which code makes its identifiers. A new column gets one more than the greatest id that was ever
-/// given to its table; and the newest schema that the catalog keeps of a table has as its version the
-/// changes of columns and the restores that made the table current, counted from 1.
-pub fn numbers_are_drawn()
-    ensures within { (slots : ℕ) (history : List Entry) → Legal slots history → Covered history → DrawnWithin slots history }
-    ensures below { (slots : ℕ) (history : List Entry) → Legal slots history → Covered history → DrawnBelow (replay slots history).master }
-    ensures schemas { (slots : ℕ) (history : List Entry) → Legal slots history → Covered history → SchemasDrawn (replay slots history).master (journal_of slots history) }
 {}
 
 /// The history of a script whose commands meet what is asked of them, and are of the covered ones, is

@@ -8,7 +8,7 @@ use Rattle.model.specs.Acts.{Act, Look, Event, Reply}
 use Rattle.model.specs.Entries.{Entry, touches, log_of, stamp_of}
 use Rattle.model.specs.History.{replay, held, most_entries, entry_of}
 use Rattle.model.specs.Settling.{event_of}
-use Rattle.model.specs.Scripts.{ScriptCommand, Numbered, Found, FoundSlots, FoundPlaces, FoundTargets, FoundRows, FoundNothing, found_in, Showing, ShowReply, ShowRow, ShowTable, ShowCount, Course, SetReading, SetLag, Perform, LookFor, WorkOff, ShowEntries, course_of}
+use Rattle.model.specs.Scripts.{ScriptCommand, Numbered, Found, FoundSlots, FoundPlaces, FoundTargets, FoundRows, FoundNothing, found_by, Showing, ShowReply, ShowRow, ShowTable, ShowCount, Course, SetReading, SetLag, Perform, LookFor, WorkOff, ShowEntries, course_of}
 use Rattle.model.specs.Texts.{told_text, row_text, rows_text}
 use Rattle.model.specs.HistoryTexts.{history_text}
 
@@ -64,7 +64,7 @@ worked_off slots (act ∷ acts) r = worked_off slots acts (with_event slots (eve
 -- the acts that follow the newest entry, a look
 abbrev pub after_look : (Found → List Act) → List Entry → List Act
 after_look follow [] = []
-after_look follow (look ∷ earlier) = follow (found_in look.reply)
+after_look follow (look ∷ earlier) = follow (found_by look.reply)
 
 -- the run after the acts that follow a look
 abbrev pub followed : ℕ → (Found → List Act) → Run → Run
@@ -95,7 +95,7 @@ columns_in FoundNothing = []
 
 abbrev pub columns_before : List Entry → List Column
 columns_before [] = []
-columns_before (look ∷ earlier) = columns_in (found_in look.reply)
+columns_before (look ∷ earlier) = columns_in (found_by look.reply)
 
 -- the text of rows where there are some, and else the other one
 abbrev pub rows_or : (List KeyedRow → List ℕ) → Found → List ℕ → List ℕ
@@ -105,16 +105,15 @@ rows_or text (FoundTargets targets) other = other
 rows_or text (FoundRows rows) other = text rows
 rows_or text FoundNothing other = other
 
--- the text of the reply to a read, whose rows have a text of their own
+-- the text of the reply to a read
 abbrev pub read_text : (List KeyedRow → List ℕ) → ℕ → Reply → List ℕ
-read_text text n reply = rows_or text (found_in reply) (told_text n reply)
+read_text text n reply = rows_or text (found_by reply) (told_text n reply)
 
--- the text of the newest reply
+-- the text of the newest reply; rows show the columns that the look before it placed
 abbrev pub newest_reply : List Entry → List ℕ
 newest_reply [] = []
 newest_reply (e ∷ earlier) = told_text e.stamp e.reply
 
--- that of a read, whose rows show the columns that the look before it placed
 abbrev pub newest_rows : (List Column → List KeyedRow → List ℕ) → List Entry → List ℕ
 newest_rows text [] = []
 newest_rows text (e ∷ earlier) = read_text (text (columns_before earlier)) e.stamp e.reply

@@ -81,30 +81,30 @@ pub data Found : Type 0 where
   FoundRows : (rows : List KeyedRow) → Found
   FoundNothing : Found
 
-abbrev pub found_in : Reply → Found
-found_in (acts.Ok made) = FoundNothing
-found_in (acts.Planned slots) = FoundSlots slots
-found_in (acts.Placed places version columns) = FoundPlaces places version columns
-found_in (acts.Work item) = FoundNothing
-found_in (acts.Removable targets) = FoundTargets targets
-found_in (acts.Present slots) = FoundSlots slots
-found_in (acts.Rows rows) = FoundRows rows
-found_in (acts.CutoffAt cutoff) = FoundNothing
-found_in (acts.Compacted before after) = FoundNothing
-found_in acts.SentTo = FoundNothing
-found_in (acts.Done operation kind) = FoundNothing
-found_in acts.Acked = FoundNothing
-found_in (acts.Advanced state) = FoundNothing
-found_in acts.Removed = FoundNothing
-found_in (acts.Pruned count) = FoundNothing
-found_in (acts.Counts cutoff versions frozen inbox) = FoundNothing
-found_in acts.NoTablet = FoundNothing
-found_in (acts.Schedules lines) = FoundNothing
-found_in (acts.Snapshots lines) = FoundNothing
-found_in (acts.Restorations lines) = FoundNothing
-found_in (acts.Clones lines) = FoundNothing
-found_in (acts.Tablets lines) = FoundNothing
-found_in (acts.Refused why) = FoundNothing
+abbrev pub found_by : Reply → Found
+found_by (acts.Ok made) = FoundNothing
+found_by (acts.Planned slots) = FoundSlots slots
+found_by (acts.Placed places version columns) = FoundPlaces places version columns
+found_by (acts.Work item) = FoundNothing
+found_by (acts.Removable targets) = FoundTargets targets
+found_by (acts.Present slots) = FoundSlots slots
+found_by (acts.Rows rows) = FoundRows rows
+found_by (acts.CutoffAt cutoff) = FoundNothing
+found_by (acts.Compacted before after) = FoundNothing
+found_by acts.SentTo = FoundNothing
+found_by (acts.Done operation kind) = FoundNothing
+found_by acts.Acked = FoundNothing
+found_by (acts.Advanced state) = FoundNothing
+found_by acts.Removed = FoundNothing
+found_by (acts.Pruned count) = FoundNothing
+found_by (acts.Counts cutoff versions frozen inbox) = FoundNothing
+found_by acts.NoTablet = FoundNothing
+found_by (acts.Schedules lines) = FoundNothing
+found_by (acts.Snapshots lines) = FoundNothing
+found_by (acts.Restorations lines) = FoundNothing
+found_by (acts.Clones lines) = FoundNothing
+found_by (acts.Tablets lines) = FoundNothing
+found_by (acts.Refused why) = FoundNothing
 
 -- The acts that follow a look: none where it found nothing
 

@@ -11,7 +11,7 @@ use Rattle.row_values.specs.Store.{written}
 use Rattle.row_values.specs.Stamps as rule
 use Rattle.model.specs.Running.{Run, made_by, ran, with_text, text_of as text_told, performed, performed_all, followed, read_text, columns_before, columns_in}
 use Rattle.model.specs.Scripts as scripts
-use Rattle.model.specs.Scripts.{Time, asked_at, found_in, change_under, write_into, read_from, key_alone}
+use Rattle.model.specs.Scripts.{Time, asked_at, found_by, change_under, write_into, read_from, key_alone}
 use Rattle.model.specs.Tablets.{Tablet, emptied}
 use Rattle.yb_script.specs.Runs.{State, Catalog, done, named, tabled, looked, wrote, read, got, keyed, keys_ask, keys_answer, read_answer, placed, is_placed, at_tablet, number_batch, number_cell, master_stamp, tablet_stamp, table_command}
 use Rattle.yb_script.specs.Texts as texts
@@ -199,7 +199,7 @@ number_right c number = rw (self_eq c.column)
 
 -- the one write that follows the look
 write_follows : (c : Catalog) (key : List ℕ) (number : ℤ)
-    → write_into (batch_of (names_of c) key (Int number)) (found_in (reply_of (placed c))) ≡ act_of (Write at_tablet 1 (number_batch key number)) ∷ []
+    → write_into (batch_of (names_of c) key (Int number)) (found_by (reply_of (placed c))) ≡ act_of (Write at_tablet 1 (number_batch key number)) ∷ []
 write_follows c key number = rw (self_eq c.column)
 
 pub goes_put : (line : ℕ) (key : List ℕ) (number : ℤ) (s : State) (r : Run) → ShowsTable s r → length r.history + 1 < 1000000
@@ -274,7 +274,7 @@ goes_refused line key time at s r why is answer h few =
     (s.entries ++ look ∷ []) r between h.going
     (begins_read s key time at r is
     ∙ ap (followed slot_count (read_from (Some key) at)) (performs_keys s key [] at r refl h (omega (arith, few)))
-    ∙ ap (λ reply. performed_all slot_count (read_from (Some key) at (found_in (reply_of reply))) between) answer)
+    ∙ ap (λ reply. performed_all slot_count (read_from (Some key) at (found_by (reply_of reply))) between) answer)
     (shows_keys s key [] at r refl h)
     refl refl (newest_line line s.catalog.column s.entries look _ text) (omega arith)
 
@@ -298,12 +298,12 @@ goes_read line key time at s r is answer h made few =
     let x : Entry = made_entry (s.entries ++ look ∷ []) reading act n reply in
     let c : scripts.ScriptCommand = reading_of s key time in
     let text : read_text (row_text (columns_before (entry_of look ∷ r.history))) n (reply_of reply) ≡ reply_text s.catalog.column n reply =
-    ap (λ placed. read_text (row_text (columns_in (found_in (reply_of placed)))) n (reply_of reply)) answer
+    ap (λ placed. read_text (row_text (columns_in (found_by (reply_of placed)))) n (reply_of reply)) answer
     ∙ read_shown next key at n s.catalog.column in
     goes line c (texts.last_text line s.catalog.column (s.entries ++ look ∷ [] ++ x ∷ [])) m next_t reading (s.entries ++ look ∷ [] ++ x ∷ []) r (with_newest (entry_of x) between) h.going
     (begins_read s key time at r is
     ∙ ap (followed slot_count (read_from (Some key) at)) (performs_keys s key [] at r refl h (omega (arith, few)))
-    ∙ ap (λ reply. performed_all slot_count (read_from (Some key) at (found_in (reply_of reply))) between) answer
+    ∙ ap (λ reply. performed_all slot_count (read_from (Some key) at (found_by (reply_of reply))) between) answer
     ∙ performs act n m m t next_t reading (s.entries ++ look ∷ []) reply between after_look does (omega (arith, few)))
     (shows_next act n m m t next_t reading (s.entries ++ look ∷ []) reply between after_look does)
     refl refl (newest_line line s.catalog.column (s.entries ++ look ∷ []) x _ text) (omega arith)

@@ -20,7 +20,7 @@ use Rattle.model.specs.Tablets.{Tablet, Make, Write as WriteRows}
 use Rattle.model.specs.RowActs.{write, read, cut_rows, covers, rows_in}
 use Rattle.model.specs.Parts.{Master, Outcome, Ticks, MakesNamespace, MakesTable, answered}
 use Rattle.yb_script.specs.Runs.{Catalog, State, keys_answer, read_answer}
-use Rattle.yb_script.specs.Seen.{reply_of, new_column, columns_of}
+use Rattle.yb_script.specs.Seen.{reply_of, columns_of}
 use Rattle.yb_script.proofs.ShownParts.{the_namespace, the_table, the_tablet, empty_at, named_at, tabled_at, serving_at}
 
 -- Tests
@@ -86,13 +86,13 @@ keys_then : (c : Catalog) (clock n x : ℕ) (key : List ℕ) (cells : List Named
 unfolding look_keys
 keys_then c clock n x key cells right soon kept made =
     let stood : nat_le c.made_at x ≡ true = grind (arith, nat_tests) in
-    rw (self_eq c.namespace, soon, kept, made, stood, self_eq c.table, right, in_whole key, in_whole key)
+    rw (self_eq c.namespace, soon, kept, made, stood, self_eq c.table, right, in_whole key, in_whole key, in_whole key)
 
 -- what a look for a key answers
 pub keys_told : (c : Catalog) (clock n : ℕ) (key : List ℕ) (cells : List NamedCell) (at : Option ℕ) → cells_fault (columns_of c.column) cells ≡ None
     → look_keys c.namespace c.table (one_item key cells) at n (tabled_at clock c) ≡ answered (reply_of (keys_answer c at n))
 unfolding look_keys
-keys_told c clock n key cells None right = rw (self_eq c.namespace, self_eq c.table, right, in_whole key, in_whole key)
+keys_told c clock n key cells None right = rw (self_eq c.namespace, self_eq c.table, right, in_whole key, in_whole key, in_whole key)
 keys_told c clock n key cells (Some x) right =
     either_way (nat_le n x)
     (λ late. keys_future c clock n x key cells late)

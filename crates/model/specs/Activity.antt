@@ -28,7 +28,8 @@ active_within a b i = active_between (a + 1) b i
 -- the interval of the table's tablet that held the code at x
 abbrev pub route : List Interval → Id → ℕ → ℕ → Option Interval
 route [] table code x = None
-route (i ∷ is) table code x = if same i.table table && (active_at x i && in_range i.low i.high code) then Some i else route is table code x
+route (i ∷ is) table code x =
+    if same i.table table && (active_at x i && in_range i.low i.high code) then Some i else route is table code x
 
 abbrev pub last_from : List Interval → Id → Option Interval → Option Interval
 last_from [] tablet found = found
@@ -40,11 +41,13 @@ last_of is tablet = last_from is tablet None
 
 -- the tablet's open interval ends
 abbrev pub end_tablet : Id → ℕ → List Interval → List Interval
-end_tablet tablet at is = map {A = Interval} (λ i. record i { to = if same i.tablet tablet then ended at i.to else i.to }) is
+end_tablet tablet at is =
+    map {A = Interval} (λ i. record i { to = if same i.tablet tablet then ended at i.to else i.to }) is
 
 -- the open intervals of a table's tablets end
 abbrev pub end_table_tablets : Id → ℕ → List Interval → List Interval
-end_table_tablets table at is = map {A = Interval} (λ i. record i { to = if same i.table table then ended at i.to else i.to }) is
+end_table_tablets table at is =
+    map {A = Interval} (λ i. record i { to = if same i.table table then ended at i.to else i.to }) is
 
 -- nothing is known of the tablet any more
 abbrev pub forget : Id → List Interval → List Interval

@@ -1,5 +1,5 @@
 -- What may be asked of a cluster, and what it answers.
-use Rattle.std.specs.Prelude.{ℕ, Bool, List, Option, Some, None, is_some}
+use Rattle.std.specs.Prelude.{ℕ, List, Option}
 use Rattle.row_values.specs.declared.value.Value.{Value}
 use Rattle.row_values.specs.declared.value.Item.{Item}
 use Rattle.row_values.specs.declared.rows.KeyedRow.{KeyedRow}
@@ -191,32 +191,3 @@ pub data Reply : Type 0 where
   Clones : (lines : List CloneLine) → Reply
   Tablets : (lines : List TabletLine) → Reply
   Refused : (why : Refusal) → Reply
-
--- what an accepted act made
-abbrev pub made_of : Reply → Option (List Id)
-made_of (Ok made) = Some made
-made_of (Planned slots) = None
-made_of (Placed places version columns) = None
-made_of (Work item) = None
-made_of (Removable targets) = None
-made_of (Present slots) = None
-made_of (Rows rows) = None
-made_of (CutoffAt cutoff) = None
-made_of (Compacted before after) = None
-made_of SentTo = None
-made_of (Done operation kind) = None
-made_of Acked = None
-made_of (Advanced state) = None
-made_of Removed = None
-made_of (Pruned count) = None
-made_of (Counts cutoff versions frozen inbox) = None
-made_of NoTablet = None
-made_of (Schedules lines) = None
-made_of (Snapshots lines) = None
-made_of (Restorations lines) = None
-made_of (Clones lines) = None
-made_of (Tablets lines) = None
-made_of (Refused why) = None
-
-abbrev pub is_ok : Reply → Bool
-is_ok reply = is_some (made_of reply)

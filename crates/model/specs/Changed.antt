@@ -1,5 +1,5 @@
--- What an accepted command makes of the master: names and schemas, tablets' activity, schedules and records. Each function
--- sets the clock to the stamp, besides what it says. Identifiers are the next ones of their kind.
+-- What an accepted command makes of the master: names and schemas, tablets' activity, schedules and records. Each
+-- function sets the clock to the stamp, besides what it says. Identifiers are the next ones of their kind.
 use Rattle.std.specs.Prelude.{ℕ, ◌+◌, ◌-◌, not, List, [], ◌∷◌, ◌++◌, map, length, if◌then◌else◌, Option, None, unwrap_or}
 use Rattle.std.specs.List.{filter}
 use Rattle.row_values.specs.Ranges.{share_from}
@@ -83,18 +83,20 @@ sources m ns to = (clone_map m.catalog m.activity ns to).places
 
 -- a new clone: names, identifiers and the least free slots are reserved
 abbrev pub new_clone : Id → List ℕ → List ℕ → ℕ → Master → CloneRecord
-new_clone ns source target to m = let tables = pair_tables (clone_map m.catalog m.activity ns to).tables m.drawn.tables in record {
-  id = next_clone m;
-  source = ns;
-  source_name = source;
-  target = target;
-  target_id = next_namespace m;
-  tables = tables;
-  tablets = pair_tablets (sources m ns to) (free_slots m) m.drawn.tablets tables;
-  to = to;
-  listed = [];
-  state = Accepted;
-}
+new_clone ns source target to m =
+    let tables = pair_tables (clone_map m.catalog m.activity ns to).tables m.drawn.tables in
+    record {
+      id = next_clone m;
+      source = ns;
+      source_name = source;
+      target = target;
+      target_id = next_namespace m;
+      tables = tables;
+      tablets = pair_tablets (sources m ns to) (free_slots m) m.drawn.tablets tables;
+      to = to;
+      listed = [];
+      state = Accepted;
+    }
 
 -- the clone's tables are those of its target
 abbrev pub owners_of : CloneRecord → List Owner

@@ -81,8 +81,8 @@ tell_children is version parent = map {A = Interval} (λ i. record {
 abbrev pub accepts : MasterAct → List Told → List Id → Outcome
 accepts act tablets made = record { master = act; tablets = tablets; reply = Ok made }
 
--- Each command: its refusals in order, its judgement, which is what was found or the first refusal that comes, and what it
--- does once it is accepted
+-- Each command: its refusals in order, its judgement, which is what was found or the first refusal that comes, and what
+-- it does once it is accepted
 
 abbrev pub create_namespace_checks : List ℕ → Master → List Check
 create_namespace_checks name m =

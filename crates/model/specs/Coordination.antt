@@ -1,10 +1,10 @@
--- A coordinator brings a record's commands to the listed tablets: it sends one, has the tablet do it, and tells the master
--- that it is done.
+-- A coordinator brings a record's commands to the listed tablets: it sends one, has the tablet do it, and tells the
+-- master that it is done.
 use Rattle.std.specs.Prelude.{ℕ, List, [], ◌∷◌, ◌++◌, Option, Some, None, ◌==◌, ◌&&◌, not, nat_lt, map, if◌then◌else◌}
 use Rattle.std.specs.Option.{option_and_then}
 use Rattle.row_values.specs.declared.rows.KeyedRow.{KeyedRow}
-use Rattle.row_values.specs.Ids.{Id, Kind, Snapshot, Restoration, Clone, same}
-use Rattle.model.specs.Tablets.{Tablet as TabletPart, FrozenSet, Body, RestoreFrom, Copy, Command, Offer, set_of, rows_of_set, cutoff_of_set, kind_of, is_done}
+use Rattle.row_values.specs.Ids.{Id, Kind, Namespace, Table, Tablet, Schedule, Snapshot, Restoration, Clone, same}
+use Rattle.model.specs.Tablets.{Tablet as TabletPart, FrozenSet, Body, Fence, Freeze, RestoreFrom, Hide, Copy, Release, Command, Offer, set_of, rows_of_set, cutoff_of_set, kind_of, is_done}
 use Rattle.model.specs.Tablets as tell
 use Rattle.model.specs.Records.{Listed, SnapshotRecord, RestorationRecord, CloneRecord, unacked_at, acked_at, is_restored, is_cloned, is_sent, unsent_at}
 use Rattle.model.specs.Acts.{NotPending, Idle, OtherSlot, NotDone, Gone, SentTo, Done, Acked, Refused}
@@ -14,22 +14,31 @@ use Rattle.model.specs.Parts.{Master, Parts, Outcome, Check, If, Ticks, Sends, A
 
 abbrev pub unfinished_snapshot : List SnapshotRecord → Id → Option SnapshotRecord
 unfinished_snapshot [] id = None
-unfinished_snapshot (r ∷ rs) id = if same r.id id && not r.complete then Some r else unfinished_snapshot rs id
+unfinished_snapshot (r ∷ rs) id =
+    if same r.id id && not r.complete then Some r else unfinished_snapshot rs id
 
 abbrev pub unfinished_restoration : List RestorationRecord → Id → Option RestorationRecord
 unfinished_restoration [] id = None
-unfinished_restoration (r ∷ rs) id = if same r.id id && not (is_restored r.state) then Some r else unfinished_restoration rs id
+unfinished_restoration (r ∷ rs) id =
+    if same r.id id && not (is_restored r.state) then Some r else unfinished_restoration rs id
 
 abbrev pub unfinished_clone : List CloneRecord → Id → Option CloneRecord
 unfinished_clone [] id = None
-unfinished_clone (r ∷ rs) id = if same r.id id && not (is_cloned r.state) then Some r else unfinished_clone rs id
+unfinished_clone (r ∷ rs) id =
+    if same r.id id && not (is_cloned r.state) then Some r else unfinished_clone rs id
 
 -- the tablet of the slot that the unfinished record of an id lists without ack, with what it is to do
 abbrev pub pending_of : Kind → Master → Id → ℕ → Option Listed
-pending_of Snapshot m operation slot = option_and_then (λ r. unacked_at r.listed slot) (unfinished_snapshot m.snapshots operation)
-pending_of Restoration m operation slot = option_and_then (λ r. unacked_at r.listed slot) (unfinished_restoration m.restorations operation)
-pending_of Clone m operation slot = option_and_then (λ r. unacked_at r.listed slot) (unfinished_clone m.clones operation)
-pending_of _ m operation slot = None
+pending_of Snapshot m operation slot =
+    option_and_then (λ r. unacked_at r.listed slot) (unfinished_snapshot m.snapshots operation)
+pending_of Restoration m operation slot =
+    option_and_then (λ r. unacked_at r.listed slot) (unfinished_restoration m.restorations operation)
+pending_of Clone m operation slot =
+    option_and_then (λ r. unacked_at r.listed slot) (unfinished_clone m.clones operation)
+pending_of Namespace m operation slot = None
+pending_of Table m operation slot = None
+pending_of Tablet m operation slot = None
+pending_of Schedule m operation slot = None
 
 abbrev pub pending : Master → Id → ℕ → Option Listed
 pending m operation slot = pending_of operation.kind m operation slot
@@ -41,7 +50,11 @@ command_for operation l = record { operation = operation; tablet = l.tablet; bod
 abbrev pub sending : Option Listed → Id → ℕ → Outcome
 sending None operation slot = refused (NotPending operation)
 sending (Some l) operation slot =
-    record { master = Sends operation slot; tablets = record { slot = slot; act = Offer (command_for operation l) } ∷ []; reply = SentTo }
+    record {
+      master = Sends operation slot;
+      tablets = record { slot = slot; act = Offer (command_for operation l) } ∷ [];
+      reply = SentTo;
+    }
 
 -- the pending command goes into the tablet's inbox, and the master marks it as sent
 unfoldable pub send : Id → ℕ → ℕ → Parts → Outcome
@@ -50,12 +63,20 @@ send operation slot n ps = sending (pending ps.master operation slot) operation 
 -- the slot of the tablet whose frozen rows a command takes: of a copy its source, else the tablet's own
 abbrev pub source_slot : ℕ → Body → ℕ
 source_slot slot (Copy source snapshot to stamp table low high version) = source
-source_slot slot _ = slot
+source_slot slot Fence = slot
+source_slot slot (Freeze snapshot at) = slot
+source_slot slot (RestoreFrom snapshot to point version) = slot
+source_slot slot (Hide ended) = slot
+source_slot slot (Release cutoff) = slot
 
 -- the rows that a copy takes from its source
 abbrev pub rows_for : Body → List FrozenSet → List KeyedRow
 rows_for (Copy source snapshot to stamp table low high version) frozen = rows_of_set (set_of frozen snapshot) to
-rows_for _ frozen = []
+rows_for Fence frozen = []
+rows_for (Freeze snapshot at) frozen = []
+rows_for (RestoreFrom snapshot to point version) frozen = []
+rows_for (Hide ended) frozen = []
+rows_for (Release cutoff) frozen = []
 
 -- the history of the frozen set that a command takes its rows from may be cut above the time that it asks for
 abbrev pub gone_from : Option FrozenSet → ℕ → Check
@@ -64,7 +85,10 @@ gone_from set to = If (nat_lt to (cutoff_of_set set)) (Gone to (cutoff_of_set se
 abbrev pub gone : Body → List FrozenSet → List Check
 gone (RestoreFrom snapshot to point version) frozen = gone_from (set_of frozen snapshot) to ∷ []
 gone (Copy source snapshot to stamp table low high version) frozen = gone_from (set_of frozen snapshot) to ∷ []
-gone _ frozen = []
+gone Fence frozen = []
+gone (Freeze snapshot at) frozen = []
+gone (Hide ended) frozen = []
+gone (Release cutoff) frozen = []
 
 abbrev pub processing : List Command → ℕ → ℕ → TabletPart → Outcome
 processing [] slot other source = refused Idle
@@ -87,7 +111,8 @@ acknowledging (Some l) operation slot t =
     then record { master = Acks operation slot; tablets = []; reply = Acked }
     else record { master = Unsends operation slot; tablets = []; reply = Refused NotDone }
 
--- the master notes that the tablet did its command; where it didn't, the sent mark goes, so that the command is sent again
+-- the master notes that the tablet did its command; where it didn't, the sent mark goes, so that the command is sent
+-- again
 unfoldable pub ack : Id → ℕ → ℕ → Parts → Outcome
 ack operation slot n ps = acknowledging (pending ps.master operation slot) operation slot (ps.tablet slot)
 
@@ -105,19 +130,34 @@ unsent_by operation slot n m = record m { clock = n; sent = unsent_at operation 
 -- the operation's record notes the ack of the slot's tablet
 
 abbrev pub acked_snapshot : Id → ℕ → List SnapshotRecord → List SnapshotRecord
-acked_snapshot id slot rs = map {A = SnapshotRecord} (λ r. record r { listed = if same r.id id then acked_at slot r.listed else r.listed }) rs
+acked_snapshot id slot rs =
+    map {A = SnapshotRecord} (λ r. record r {
+      listed = if same r.id id then acked_at slot r.listed else r.listed;
+    }) rs
 
 abbrev pub acked_restoration : Id → ℕ → List RestorationRecord → List RestorationRecord
-acked_restoration id slot rs = map {A = RestorationRecord} (λ r. record r { listed = if same r.id id then acked_at slot r.listed else r.listed }) rs
+acked_restoration id slot rs =
+    map {A = RestorationRecord} (λ r. record r {
+      listed = if same r.id id then acked_at slot r.listed else r.listed;
+    }) rs
 
 abbrev pub acked_clone : Id → ℕ → List CloneRecord → List CloneRecord
-acked_clone id slot rs = map {A = CloneRecord} (λ r. record r { listed = if same r.id id then acked_at slot r.listed else r.listed }) rs
+acked_clone id slot rs =
+    map {A = CloneRecord} (λ r. record r {
+      listed = if same r.id id then acked_at slot r.listed else r.listed;
+    }) rs
 
 abbrev pub acked_by : Kind → Id → ℕ → ℕ → Master → Master
-acked_by Snapshot operation slot n m = record m { clock = n; snapshots = acked_snapshot operation slot m.snapshots }
-acked_by Restoration operation slot n m = record m { clock = n; restorations = acked_restoration operation slot m.restorations }
-acked_by Clone operation slot n m = record m { clock = n; clones = acked_clone operation slot m.clones }
-acked_by _ operation slot n m = record m { clock = n }
+acked_by Snapshot operation slot n m =
+    record m { clock = n; snapshots = acked_snapshot operation slot m.snapshots }
+acked_by Restoration operation slot n m =
+    record m { clock = n; restorations = acked_restoration operation slot m.restorations }
+acked_by Clone operation slot n m =
+    record m { clock = n; clones = acked_clone operation slot m.clones }
+acked_by Namespace operation slot n m = record m { clock = n }
+acked_by Table operation slot n m = record m { clock = n }
+acked_by Tablet operation slot n m = record m { clock = n }
+acked_by Schedule operation slot n m = record m { clock = n }
 
 abbrev pub acked : Id → ℕ → ℕ → Master → Master
 acked operation slot n m = acked_by operation.kind operation slot n m

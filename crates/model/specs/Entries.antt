@@ -2,11 +2,11 @@
 use Rattle.std.specs.Prelude.{◌≡◌, ℕ, ◌≤◌, ◌<◌, false, List, [], ◌∷◌, Option, Some, None, ◌==◌, ◌^◌, min, fold, map, length, if◌then◌else◌}
 use Rattle.std.specs.Str.{bytes_eq}
 use Rattle.row_values.specs.Stamps as rule
-use Rattle.row_values.specs.Ids.{Kind, Tablet, Snapshot}
+use Rattle.row_values.specs.Ids.{Kind, Namespace, Table, Tablet, Schedule, Snapshot, Restoration, Clone}
 use Rattle.row_values.specs.Slots.{rising}
 use Rattle.model.specs.Times.{end_of_time}
 use Rattle.row_values.specs.Schema.{NewColumn}
-use Rattle.model.specs.Acts.{NamedOp, NamedUpsert, NamedDelete, NamedItem, Command, CreateNamespace, DropNamespace, CreateTable, AddColumn, DropColumn, RenameTable, DropTable, Split, CreateSchedule, Restore, CloneNamespace, ListTablets, Ask, AskPlan, AskKeys, AskTable, Act, Look, Change, Write, Read, Cutoff, Compact, Send, Process, Ack, Advance, Remove, Prune, Restart, Stats, Event, Reply}
+use Rattle.model.specs.Acts.{NamedOp, NamedUpsert, NamedDelete, NamedItem, Command, CreateNamespace, DropNamespace, CreateTable, AddColumn, DropColumn, RenameTable, DropTable, Split, CreateSchedule, DeleteSchedule, TakeSnapshot, Restore, CloneNamespace, ListSchedules, ListSnapshots, ListRestorations, ListClones, ListTablets, Ask, AskPlan, AskKeys, AskTable, AskWork, AskRemovable, AskPresent, Act, Look, Change, Write, Read, Cutoff, Compact, Send, Process, Ack, Advance, Remove, Prune, Restart, Stats, Event, Reply}
 use Rattle.model.specs.Parts.{Parts}
 use Rattle.row_values.specs.Elements.{AllOf}
 use Rattle.row_values.specs.Batches.{IsKey, IsValue, IsBatch}
@@ -91,35 +91,49 @@ abbrev pub CommandAsked : Command → Type 0
 CommandAsked (CreateNamespace name) = IsName name
 CommandAsked (DropNamespace name) = IsName name
 CommandAsked (CreateTable namespace table tablets columns) =
-    IsName namespace × IsName table × ((1 ≤ tablets) × (tablets ≤ 64)) × ((1 ≤ length columns) × (length columns ≤ 16)) × AllOf (λ c. IsName c.name) columns × NamesDiffer columns
+    IsName namespace × IsName table × ((1 ≤ tablets) × (tablets ≤ 64))
+    × ((1 ≤ length columns) × (length columns ≤ 16)) × AllOf (λ c. IsName c.name) columns × NamesDiffer columns
 CommandAsked (AddColumn namespace table name kind) = IsName namespace × IsName table × IsName name
 CommandAsked (DropColumn namespace table name) = IsName namespace × IsName table × IsName name
 CommandAsked (RenameTable namespace table name) = IsName namespace × IsName table × IsName name
 CommandAsked (DropTable namespace table) = IsName namespace × IsName table
 CommandAsked (Split namespace table code) = IsName namespace × IsName table × (code < 65536)
-CommandAsked (CreateSchedule interval retention namespace) = IsName namespace × (interval < 2 ^ 64) × (retention < 2 ^ 64)
+CommandAsked (CreateSchedule interval retention namespace) =
+    IsName namespace × (interval < 2 ^ 64) × (retention < 2 ^ 64)
+CommandAsked (DeleteSchedule schedule) = Unit {0}
+CommandAsked (TakeSnapshot schedule) = Unit {0}
 CommandAsked (Restore schedule to) = to < end_of_time
 CommandAsked (CloneNamespace source target to) = IsName source × IsName target × IsTime to
 CommandAsked (ListTablets namespace) = IsName namespace
-CommandAsked _ = Unit {0}
+CommandAsked ListSchedules = Unit {0}
+CommandAsked ListSnapshots = Unit {0}
+CommandAsked ListRestorations = Unit {0}
+CommandAsked ListClones = Unit {0}
 
 abbrev pub AskAsked : Ask → Type 0
 AskAsked (AskPlan command) = CommandAsked command
 AskAsked (AskKeys namespace table batch at) = IsName namespace × IsName table × IsNamedBatch batch × IsTime at
 AskAsked (AskTable namespace table at) = IsName namespace × IsName table × IsTime at
-AskAsked _ = Unit {0}
+AskAsked AskWork = Unit {0}
+AskAsked AskRemovable = Unit {0}
+AskAsked AskPresent = Unit {0}
 
 -- a removal is of a tablet or of a snapshot
 abbrev pub IsRemovable : Kind → Type 0
 IsRemovable Tablet = Unit {0}
 IsRemovable Snapshot = Unit {0}
-IsRemovable _ = ⊥
+IsRemovable Namespace = ⊥
+IsRemovable Table = ⊥
+IsRemovable Schedule = ⊥
+IsRemovable Restoration = ⊥
+IsRemovable Clone = ⊥
 
 abbrev pub ActAsked : ℕ → Act → Type 0
 ActAsked slots (Look ask) = AskAsked ask
 ActAsked slots (Change command plan) = CommandAsked command × AllOf (λ slot. slot ≤ slots) plan
 ActAsked slots (Write place version batch) = IsSlot slots place.slot × IsBatch batch
-ActAsked slots (Read places version key at columns) = (1 ≤ length places) × AllOf (λ place. IsSlot slots place.slot) places × MayHoldKey key × IsTime at
+ActAsked slots (Read places version key at columns) =
+    (1 ≤ length places) × AllOf (λ place. IsSlot slots place.slot) places × MayHoldKey key × IsTime at
 ActAsked slots (Cutoff slot) = IsSlot slots slot
 ActAsked slots (Compact slot) = IsSlot slots slot
 ActAsked slots (Send operation slot) = IsSlot slots slot

@@ -7,9 +7,9 @@ use Rattle.row_values.specs.Slots.{has}
 use Rattle.model.specs.Times.{end_of_time}
 use Rattle.row_values.specs.Schema.{Column, numbered, with_column, without_column}
 use Rattle.model.specs.Activity.{Interval}
-use Rattle.model.specs.Tablets.{act_for, effect}
+use Rattle.model.specs.Tablets.{Told, act_for, effect}
 use Rattle.model.specs.Records.{SnapshotRecord, RestorationRecord, RestorationState, Fencing, Snapshotting, Switching, Restoring, Releasing, Restored, CloneRecord, CloneState, Accepted, CloneSnapshot, Copying, CloneReleasing, CloneComplete}
-use Rattle.model.specs.Acts.{Ask, AskPlan, AskKeys, AskTable, AskWork, AskRemovable, AskPresent, Act, Look, Change, Write, Read, Cutoff, Compact, Send, Process, Ack, Advance, Remove, Prune, Restart, Stats, Event, Work, Removable, is_ok}
+use Rattle.model.specs.Acts.{Ask, AskPlan, AskKeys, AskTable, AskWork, AskRemovable, AskPresent, Act, Look, Change, Write, Read, Cutoff, Compact, Send, Process, Ack, Advance, Remove, Prune, Restart, Stats, Event, Work, Removable}
 use Rattle.model.specs.Parts.{Master, Parts, start, MasterAct, Ticks, MakesNamespace, DropsNamespace, MakesTable, AddsColumn, DropsColumn, RenamesTable, DropsTable, SplitsTablet, MakesSchedule, DeletesSchedule, TakesSnapshot, BeginsRestoration, BeginsClone, Sends, Acks, Unsends, Moves, Removes, Prunes, Restarts, Outcome, answered}
 use Rattle.model.specs.Looks.{look_plan, look_keys, look_table, look_present}
 use Rattle.model.specs.Changes.{change}
@@ -189,12 +189,17 @@ with_master (Removes target) n m earlier = earlier
 with_master Prunes n m earlier = earlier
 with_master Restarts n m earlier = earlier
 
+-- the rows of a write, where its tablet is told of it: an accepted one
+abbrev pub with_rows : List Told → ℕ → Id → List Item → List made.Change → List made.Change
+with_rows [] n table batch earlier = earlier
+with_rows (told ∷ rest) n table batch earlier = rows_made n table batch earlier
+
 -- the changes of an act in front of the earlier ones; one that was refused has none
 abbrev pub with_changes : Act → Outcome → ℕ → Parts → List made.Change → List made.Change
 with_changes (Change command slots) o n ps earlier = with_master o.master n ps.master earlier
 with_changes (Advance operation) o n ps earlier = with_master o.master n ps.master earlier
 with_changes (Write place version batch) o n ps earlier =
-    if is_ok o.reply then rows_made n (ps.tablet place.slot).table batch earlier else earlier
+    with_rows o.tablets n (ps.tablet place.slot).table batch earlier
 with_changes (Look ask) o n ps earlier = earlier
 with_changes (Read places version key at columns) o n ps earlier = earlier
 with_changes (Cutoff slot) o n ps earlier = earlier

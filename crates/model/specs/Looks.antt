@@ -65,7 +65,7 @@ holding m table code = find (λ i. in_range i.low i.high code) (active_in m tabl
 abbrev pub slots_of_table : Master → Id → List ℕ
 slots_of_table m table = rising (map (λ i. i.slot) (active_in m table))
 
--- a table's tablet that is to be split
+-- a table's tablet that is to be split: its active one that holds the code
 pub record Parent : Type 0 where
   pub table : TableRecord
   pub tablet : Interval
@@ -183,7 +183,7 @@ found_at namespace table at n m =
     (λ ns. If (is_future at n) (Future n) ∷ If (is_below at (kept ns)) (TooOld (time_of at n) (kept ns)) ∷ []))
     (λ ns. table_asked m.catalog.tables ns table at) UnknownTable
 
--- whose columns take the batch, and of which one tablet holds the keys
+-- the table of a look for keys: its columns take the batch, and one tablet holds all keys
 abbrev pub judge_keys : List ℕ → List ℕ → List NamedItem → Option ℕ → ℕ → Master
     → Result TableRecord Refusal
 judge_keys namespace table batch at n m =

@@ -1,5 +1,5 @@
--- The parts of a cluster: the master, and a tablet's part in each slot from 1 on. What an act does is told as plain data:
--- its refusals in order, and else what each touched part is told, and the reply.
+-- The parts of a cluster: the master, and a tablet's part in each slot from 1 on. What an act does is told as plain
+-- data: its refusals in order, and else what each touched part is told, and the reply.
 use Rattle.std.specs.Prelude.{ℕ, Bool, List, [], ◌∷◌, Option, Some, None, Result, Ok, Err, if◌then◌else◌}
 use Rattle.std.specs.Option.{option_or, option_map, ok_or}
 use Rattle.row_values.specs.Ids.{Id}
@@ -89,7 +89,8 @@ pub data MasterAct : Type 0 where
   Prunes : MasterAct
   Restarts : MasterAct
 
--- what the master and the touched tablets' parts are told, and the reply. A touched part that isn't named sets its clock
+-- what the master and the touched tablets' parts are told, and the reply. A touched part that isn't named sets its
+-- clock
 pub record Outcome : Type 0 where
   pub master : MasterAct
   pub tablets : List Told

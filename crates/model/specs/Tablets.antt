@@ -241,19 +241,41 @@ compacted n t = record t { clock = n; versions = kept t.versions t.cutoff }
 abbrev pub offered : Command → ℕ → Tablet → Tablet
 offered c n t = record t {
   clock = n;
-  inbox = if is_done t.done c.operation (kind_of c.body) || holds_command t.inbox c.operation (kind_of c.body) then t.inbox else t.inbox ++ c ∷ [];
+  inbox =
+      if is_done t.done c.operation (kind_of c.body) || holds_command t.inbox c.operation (kind_of c.body)
+      then t.inbox
+      else t.inbox ++ c ∷ [];
 }
 
 -- what a body does to a tablet; the rows are those that a copy takes from its source
 abbrev pub obeyed : Body → Id → Id → List KeyedRow → Tablet → Tablet
 obeyed Fence operation tablet rows t = record t { fence = Some operation }
 obeyed (Freeze snapshot at) operation tablet rows t =
-    record t { frozen = t.frozen ++ record { snapshot = snapshot; at = at; versions = frozen at t.versions; cutoff = t.cutoff } ∷ [] }
+    record t {
+      frozen = t.frozen
+          ++ record { snapshot = snapshot; at = at; versions = frozen at t.versions; cutoff = t.cutoff } ∷ [];
+    }
 obeyed (RestoreFrom snapshot to point version) operation tablet rows t =
-    record t { presence = ServingPart; version = version; versions = of_rows (rows_of_set (set_of t.frozen snapshot) to) point; cutoff = point; fence = Some operation }
+    record t {
+      presence = ServingPart;
+      version = version;
+      versions = of_rows (rows_of_set (set_of t.frozen snapshot) to) point;
+      cutoff = point;
+      fence = Some operation;
+    }
 obeyed (Hide ended) operation tablet rows t = record t { presence = HiddenPart ended; fence = None }
 obeyed (Copy source snapshot to stamp table low high version) operation tablet rows t =
-    record t { presence = ServingPart; tablet = tablet; table = table; low = low; high = high; version = version; versions = of_rows rows stamp; cutoff = stamp; fence = Some operation }
+    record t {
+      presence = ServingPart;
+      tablet = tablet;
+      table = table;
+      low = low;
+      high = high;
+      version = version;
+      versions = of_rows rows stamp;
+      cutoff = stamp;
+      fence = Some operation;
+    }
 obeyed (Release cutoff) operation tablet rows t = record t { cutoff = max t.cutoff cutoff; fence = None }
 
 -- the first command of the inbox is done and marked
@@ -261,7 +283,8 @@ abbrev pub processed : List Command → List KeyedRow → ℕ → Tablet → Tab
 processed [] rows n t = ticked n t
 processed (c ∷ cs) rows n t =
     let after = obeyed c.body c.operation c.tablet rows t in
-    record after { clock = n; inbox = cs; done = after.done ++ record { operation = c.operation; kind = kind_of c.body } ∷ [] }
+    let mark : Mark = record { operation = c.operation; kind = kind_of c.body } in
+    record after { clock = n; inbox = cs; done = after.done ++ mark ∷ [] }
 
 abbrev pub unfrozen : Id → ℕ → Tablet → Tablet
 unfrozen snapshot n t = record t { clock = n; frozen = filter (λ f. not (same f.snapshot snapshot)) t.frozen }
@@ -274,7 +297,8 @@ restarted n t = record t { clock = n; inbox = [] }
 abbrev pub effect : TabletAct → ℕ → Tablet → Tablet
 effect Clock n t = ticked n t
 effect (Make tablet table low high version) n t = placed tablet table low high version [] n n t
-effect (Child tablet table low high version versions cutoff) n t = placed tablet table low high version versions cutoff n t
+effect (Child tablet table low high version versions cutoff) n t =
+    placed tablet table low high version versions cutoff n t
 effect (SetVersion version) n t = versioned version n t
 effect (HideSince ended) n t = hidden_since ended n t
 effect (Write batch) n t = wrote batch n t

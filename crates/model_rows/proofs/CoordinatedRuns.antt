@@ -1,18 +1,17 @@
 -- A run stays right over a coordinator's events where its journal is in order: those events answer no rows.
-use Rattle.std.proofs.Common.{ℕ, zero, suc, Bool, true, false, List, [], ◌∷◌, Option, Some, None}
-use Rattle.std.specs.Prelude.{if◌then◌else◌}
+use Rattle.std.proofs.Common.{ℕ, zero, suc, List, [], ◌∷◌, Option, Some, None}
 use Rattle.std.specs.Option.{option_map_or, option_map}
 use Rattle.row_values.specs.declared.value.Item.{Item}
 use Rattle.row_values.specs.Ids.{Id}
-use Rattle.model.specs.Tablets.{Command as TabletCommand}
+use Rattle.model.specs.Tablets.{Command as TabletCommand, Told}
 use Rattle.model.specs.Records.{RestorationRecord, RestorationState, Switching, CloneRecord, CloneState, Copying}
-use Rattle.model.specs.Acts.{Act, Change, Write, Advance, Reply, WorkItem, SendWork, CollectWork, AdvanceWork, is_ok}
+use Rattle.model.specs.Acts.{Act, Change, Write, Advance, Reply, WorkItem, SendWork, CollectWork, AdvanceWork}
 use Rattle.model.specs.Journal as made
 use Rattle.model.specs.Parts.{Master, Parts, Outcome, MasterAct, MakesNamespace, DropsNamespace, MakesTable, AddsColumn, DropsColumn, RenamesTable, DropsTable, Moves}
 use Rattle.model.specs.Right.{NothingLate}
 use Rattle.model.specs.Work.{act_of_work, collecting, next_act, next_work}
 use Rattle.model.specs.Replies.{Right, ReplyRight}
-use Rattle.model.specs.History.{journal_of, rows_made, with_restoration, with_clone, with_either, with_master, with_changes}
+use Rattle.model.specs.History.{journal_of, rows_made, with_restoration, with_clone, with_either, with_master, with_rows, with_changes}
 use Rattle.model_rows.specs.Runs.{Run, done, coordinated}
 
 -- nothing is late among the earlier changes
@@ -46,16 +45,15 @@ before_master (DropsTable table) n m earlier late = late.0
 before_master (Moves operation) n m earlier late = before_either _ _ n earlier late
 before_master _ n m earlier late = late
 
-before_written : (accepted : Bool) (items : List Item) (n : ℕ) (table : Id) (earlier : List made.Change) → NothingLate (if accepted then rows_made n table items earlier else earlier)
-    → NothingLate earlier
-before_written true items n table earlier late = before_rows items n table earlier late
-before_written false items n table earlier late = late
+before_written : (told : List Told) (items : List Item) (n : ℕ) (table : Id) (earlier : List made.Change) → NothingLate (with_rows told n table items earlier) → NothingLate earlier
+before_written [] items n table earlier late = late
+before_written (told ∷ rest) items n table earlier late = before_rows items n table earlier late
 
 before_changes : (act : Act) (o : Outcome) (n : ℕ) (ps : Parts) (earlier : List made.Change)
     → NothingLate (with_changes act o n ps earlier) → NothingLate earlier
 before_changes (Change command slots) o n ps earlier late = before_master o.master n ps.master earlier late
 before_changes (Advance operation) o n ps earlier late = before_master o.master n ps.master earlier late
-before_changes (Write place version batch) o n ps earlier late = before_written (is_ok o.reply) batch n _ earlier late
+before_changes (Write place version batch) o n ps earlier late = before_written o.tablets batch n _ earlier late
 before_changes _ o n ps earlier late = late
 
 before_done : (act : Act) (slots : ℕ) (run : Run) → NothingLate (journal_of slots (done act run).entries) → NothingLate (journal_of slots run.entries)

@@ -6,7 +6,7 @@ use Rattle.row_values.specs.declared.value.Value.TheVariants.{Int}
 use Rattle.row_values.specs.declared.value.Cell.{Cell}
 use Rattle.row_values.specs.declared.value.RowOp.TheVariants.{Upsert, Delete}
 use Rattle.row_values.specs.declared.rows.KeyedRow.{KeyedRow}
-use Rattle.row_values.specs.Ids.{Id, Namespace, Table, Tablet, Schedule, Snapshot, Restoration, Clone, no_id}
+use Rattle.row_values.specs.Ids.{Id, Namespace, Table, Tablet, Schedule, Snapshot, Restoration, Clone}
 use Rattle.row_values.specs.Schema.{Column, IntColumn, TextColumn, NewColumn, column_named, column_ids}
 use Rattle.model.specs.Activity.{Interval}
 use Rattle.model.specs.Acts.{Act, NamedCell, NamedItem, NamedUpsert, NamedDelete, Command, CreateNamespace, CreateTable, CreateSchedule, Restore, TakeSnapshot, AskPlan, AskKeys, AskTable, AskPresent, AskRemovable, At, Look, Change, Write, Read, Cutoff, Compact, Ack, Remove, Prune, Restart, Stats, Place, Ok, Planned, Placed, Rows, Refusal, Refused, Reply}
@@ -115,7 +115,7 @@ abbrev pub at_place : Place → At
 at_place p = record { slot = p.slot; tablet = p.tablet }
 
 abbrev pub first_place : List Place → At
-first_place [] = record { slot = 0; tablet = no_id }
+first_place [] = record { slot = 0; tablet = record { kind = Tablet; number = 0 } }
 first_place (p ∷ ps) = at_place p
 
 -- named cells under the ids of their columns

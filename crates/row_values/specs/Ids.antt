@@ -88,10 +88,6 @@ same_kind Clone Clone = true
 abbrev pub same : Id → Id → Bool
 same a b = (a.number == b.number) && same_kind a.kind b.kind
 
--- the identifier of nothing
-abbrev pub no_id : Id
-no_id = record { kind = Namespace; number = 0 }
-
 -- Its text
 
 abbrev pub hex_digit : ℕ → ℕ

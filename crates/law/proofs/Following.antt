@@ -18,6 +18,8 @@ use Rattle.model.specs.Looks.{look_plan, look_present, plan_of, least_slots, fre
 use Rattle.model.specs.Entries.{IsSlot, IsName, IsNamedOp, IsNamedBatch, IsTime, ActAsked, CommandAsked}
 use Rattle.row_values.specs.Batches.{IsKey, IsValue, IsOp, IsBatch}
 use Rattle.model.specs.History.{look}
+use Rattle.model.specs.Left.{left}
+use Rattle.model.specs.Settling.{coordinated}
 use Rattle.model.specs.Replies.{ReplyRight}
 use Rattle.model.specs.Right.{IsActivePlace, PlacesRight, holds_keys}
 use Rattle.model.specs.Scripts.{ScriptCommand, Tick, Lag, CreateNamespace, DropNamespace, CreateTable, AddColumn, DropColumn, RenameTable, DropTable, WriteRows, ReadRow, ReadTable, Split, CreateSchedule, DeleteSchedule, TakeSnapshot, Restore, CloneNamespace, ListSchedules, ListSnapshots, ListRestorations, ListClones, ListTablets, RaiseCutoffs, CompactTablets, CleanUp, Coordinate, Settle, RestartMaster, RestartTablet, ShowStats, ShowHistory, Found, found_by, Course, SetReading, SetLag, Perform, LookFor, WorkOff, ShowEntries, tell, plan_and_tell, course_of, time_at, asked_at, key_alone, at_place, cell_by_id, op_by_id, item_by_id, write_at, write_into, change_under, read_from, at_each, CourseAsked}
@@ -55,14 +57,19 @@ pub record IsAnswer (slots : ℕ) (ask : Ask) (reply : Reply) : Type 0 where
 abbrev pub Follows : ℕ → Ask → (Found → List Act) → Type 0
 Follows slots ask follow = (reply : Reply) → IsAnswer slots ask reply → AllOf (IsFit slots) (follow (found_by reply))
 
+-- the acts are a coordinator's next ones, so many as the parts bound
+pub record IsWork (reading : ℕ) (work : Parts → List Act) : Type 0 where
+  pub bound : Parts → ℕ
+  pub is : (ps : Parts) → work ps ≡ coordinated (bound ps) reading ps
+
 -- what a covered command begins with is fit
-abbrev pub CourseFits : ℕ → Course → Type 0
-CourseFits slots (SetReading micros) = micros < 2 ^ 50
-CourseFits slots (SetLag slot micros) = Unit {0}
-CourseFits slots (Perform act) = IsFit slots act
-CourseFits slots (LookFor ask follow showing) = IsFit slots (Look ask) × Follows slots ask follow
-CourseFits slots (WorkOff work) = ⊥
-CourseFits slots ShowEntries = Unit {0}
+abbrev pub CourseFits : ℕ → ℕ → Course → Type 0
+CourseFits slots reading (SetReading micros) = micros < 2 ^ 50
+CourseFits slots reading (SetLag slot micros) = Unit {0}
+CourseFits slots reading (Perform act) = IsFit slots act
+CourseFits slots reading (LookFor ask follow showing) = IsFit slots (Look ask) × Follows slots ask follow
+CourseFits slots reading (WorkOff work) = IsWork reading work
+CourseFits slots reading ShowEntries = Unit {0}
 
 -- Lists
 
@@ -239,42 +246,42 @@ each_follows act slots fit reply a =
 
 -- Commands
 
-tell_fits : (command : Command) (slots : ℕ) → CourseAsked slots (tell command) → CommandCovered command → CourseFits slots (tell command)
-tell_fits command slots asked covered = record { asked = asked; covered = covered }
+tell_fits : (command : Command) (slots reading : ℕ) → CourseAsked slots (tell command) → CommandCovered command → CourseFits slots reading (tell command)
+tell_fits command slots reading asked covered = record { asked = asked; covered = covered }
 
-plan_fits : (command : Command) (slots : ℕ) → CourseAsked slots (plan_and_tell command) → CommandCovered command → CourseFits slots (plan_and_tell command)
-plan_fits command slots asked covered = (record { asked = asked; covered = tt }, plan_follows command slots asked covered)
+plan_fits : (command : Command) (slots reading : ℕ) → CourseAsked slots (plan_and_tell command) → CommandCovered command → CourseFits slots reading (plan_and_tell command)
+plan_fits command slots reading asked covered = (record { asked = asked; covered = tt }, plan_follows command slots asked covered)
 
-pub course_fits : (c : ScriptCommand) (slots reading : ℕ) → CourseAsked slots (course_of reading c) → ScriptCovered c → CourseFits slots (course_of reading c)
+pub course_fits : (c : ScriptCommand) (slots reading : ℕ) → CourseAsked slots (course_of reading c) → ScriptCovered c → CourseFits slots reading (course_of reading c)
 course_fits (Tick micros) slots reading asked covered = asked
 course_fits (Lag slot micros) slots reading asked covered = tt
-course_fits (CreateNamespace name) slots reading asked covered = tell_fits (acts.CreateNamespace name) slots asked tt
-course_fits (DropNamespace name) slots reading asked covered = tell_fits (acts.DropNamespace name) slots asked tt
-course_fits (CreateTable namespace table tablets columns) slots reading asked covered = plan_fits (acts.CreateTable namespace table tablets columns) slots asked tt
-course_fits (AddColumn namespace table name kind) slots reading asked covered = plan_fits (acts.AddColumn namespace table name kind) slots asked tt
-course_fits (DropColumn namespace table name) slots reading asked covered = plan_fits (acts.DropColumn namespace table name) slots asked tt
-course_fits (RenameTable namespace table name) slots reading asked covered = tell_fits (acts.RenameTable namespace table name) slots asked tt
-course_fits (DropTable namespace table) slots reading asked covered = plan_fits (acts.DropTable namespace table) slots asked tt
+course_fits (CreateNamespace name) slots reading asked covered = tell_fits (acts.CreateNamespace name) slots reading asked tt
+course_fits (DropNamespace name) slots reading asked covered = tell_fits (acts.DropNamespace name) slots reading asked tt
+course_fits (CreateTable namespace table tablets columns) slots reading asked covered = plan_fits (acts.CreateTable namespace table tablets columns) slots reading asked tt
+course_fits (AddColumn namespace table name kind) slots reading asked covered = plan_fits (acts.AddColumn namespace table name kind) slots reading asked tt
+course_fits (DropColumn namespace table name) slots reading asked covered = plan_fits (acts.DropColumn namespace table name) slots reading asked tt
+course_fits (RenameTable namespace table name) slots reading asked covered = tell_fits (acts.RenameTable namespace table name) slots reading asked tt
+course_fits (DropTable namespace table) slots reading asked covered = plan_fits (acts.DropTable namespace table) slots reading asked tt
 course_fits (WriteRows namespace table batch) slots reading asked covered = (record { asked = asked; covered = tt }, rows_follow namespace table batch slots asked.2)
 course_fits (ReadRow namespace table key at) slots reading asked covered =
     (record { asked = asked; covered = tt }, row_follows namespace table key (asked_at reading at) slots asked.2.2.0.0 asked.3)
 course_fits (ReadTable namespace table at) slots reading asked covered = (record { asked = asked; covered = tt }, table_follows namespace table (asked_at reading at) slots asked.2)
-course_fits (Split namespace table code) slots reading asked covered = plan_fits (acts.Split namespace table code) slots asked tt
-course_fits (CreateSchedule interval retention namespace) slots reading asked covered = tell_fits (acts.CreateSchedule interval retention namespace) slots asked tt
-course_fits (DeleteSchedule schedule) slots reading asked covered = tell_fits (acts.DeleteSchedule schedule) slots asked tt
-course_fits (TakeSnapshot schedule) slots reading asked covered = tell_fits (acts.TakeSnapshot schedule) slots asked tt
-course_fits (Restore schedule to) slots reading asked covered = tell_fits (acts.Restore schedule (time_at reading to)) slots asked tt
+course_fits (Split namespace table code) slots reading asked covered = plan_fits (acts.Split namespace table code) slots reading asked tt
+course_fits (CreateSchedule interval retention namespace) slots reading asked covered = tell_fits (acts.CreateSchedule interval retention namespace) slots reading asked tt
+course_fits (DeleteSchedule schedule) slots reading asked covered = tell_fits (acts.DeleteSchedule schedule) slots reading asked tt
+course_fits (TakeSnapshot schedule) slots reading asked covered = tell_fits (acts.TakeSnapshot schedule) slots reading asked tt
+course_fits (Restore schedule to) slots reading asked covered = tell_fits (acts.Restore schedule (time_at reading to)) slots reading asked tt
 course_fits (CloneNamespace source target to) slots reading asked covered = absurd covered
-course_fits ListSchedules slots reading asked covered = tell_fits acts.ListSchedules slots asked tt
-course_fits ListSnapshots slots reading asked covered = tell_fits acts.ListSnapshots slots asked tt
-course_fits ListRestorations slots reading asked covered = tell_fits acts.ListRestorations slots asked tt
-course_fits ListClones slots reading asked covered = tell_fits acts.ListClones slots asked tt
-course_fits (ListTablets namespace) slots reading asked covered = tell_fits (acts.ListTablets namespace) slots asked tt
+course_fits ListSchedules slots reading asked covered = tell_fits acts.ListSchedules slots reading asked tt
+course_fits ListSnapshots slots reading asked covered = tell_fits acts.ListSnapshots slots reading asked tt
+course_fits ListRestorations slots reading asked covered = tell_fits acts.ListRestorations slots reading asked tt
+course_fits ListClones slots reading asked covered = tell_fits acts.ListClones slots reading asked tt
+course_fits (ListTablets namespace) slots reading asked covered = tell_fits (acts.ListTablets namespace) slots reading asked tt
 course_fits RaiseCutoffs slots reading asked covered = (record { asked = asked; covered = tt }, each_follows Cutoff slots (λ slot is. record { asked = is; covered = tt }))
 course_fits CompactTablets slots reading asked covered = (record { asked = asked; covered = tt }, each_follows Compact slots (λ slot is. record { asked = is; covered = tt }))
 course_fits CleanUp slots reading asked covered = absurd covered
-course_fits (Coordinate count) slots reading asked covered = absurd covered
-course_fits Settle slots reading asked covered = absurd covered
+course_fits (Coordinate count) slots reading asked covered = record { bound = λ ps. count; is = λ ps. refl }
+course_fits Settle slots reading asked covered = record { bound = λ ps. left ps.master; is = λ ps. refl }
 course_fits RestartMaster slots reading asked covered = record { asked = asked; covered = tt }
 course_fits (RestartTablet slot) slots reading asked covered = record { asked = asked; covered = tt }
 course_fits (ShowStats slot) slots reading asked covered = record { asked = asked; covered = tt }

@@ -5,5 +5,7 @@ pub mod Naming
 pub mod Recording
 pub mod Slots
 pub mod Following
+pub mod NoClones
+pub mod Working
 pub mod Running
 pub mod Runs

@@ -1,19 +1,23 @@
 -- Each command of a script leaves a legal history.
-use Rattle.std.proofs.Common.{ℕ, ◌≡◌, ◌<◌, ◌+◌, ◌^◌, List, [], ◌∷◌, ◌++◌, true, refl, sym, ap, subst, ◌∙◌, arith, cond, ltb, ltb-true}
+use Rattle.std.proofs.Common.{ℕ, ◌≡◌, ◌<◌, ◌+◌, ◌^◌, List, [], ◌∷◌, ◌++◌, true, refl, sym, ap, subst, ◌∙◌, arith, cond, ltb, ltb-true, Option, Some, None, zero, suc}
+use Rattle.std.specs.Option.{option_map_or}
 use Rattle.std.proofs.lemmas.Bool.{cond_both}
 use Rattle.model.specs.Times.{end_of_time}
 use Rattle.model.specs.Acts.{Act, Look, Ask, Event}
 use Rattle.row_values.specs.Elements.{AllOf}
 use Rattle.model.specs.Entries.{Asked, log_of, stamp_of, touches, Entry}
 use Rattle.model.specs.History.{IsStep, Legal, entry_of, held, journal_of, activity_of, most_entries, replay}
-use Rattle.model.specs.Settling.{event_of}
+use Rattle.model.specs.Settling.{event_of, after_act, coordinated}
+use Rattle.model.specs.Work.{next_act}
 use Rattle.model.specs.Scripts.{ScriptCommand, Numbered, Found, found_by, Course, SetReading, SetLag, Perform, LookFor, WorkOff, ShowEntries, course_of, ScriptAsked}
-use Rattle.model.specs.Running.{Run, may_follow, reading_for, performed, performed_all, after_look, followed, taken, made_by, with_text, text_of, ran, run_from, run_of, begun}
+use Rattle.model.specs.Running.{Run, may_follow, with_event, reading_for, performed, performed_all, worked_off, after_look, followed, taken, made_by, with_text, text_of, ran, run_from, run_of, begun}
 use Rattle.law_invariants.proofs.Finding.{both_pass}
 use Rattle.law.specs.Covering.{Covered}
 use Rattle.law.proofs.Law.{legal_holds}
 use Rattle.law.specs.Scripts.{ScriptCovered}
 use Rattle.law.proofs.Slots.{replay_slots}
+use Rattle.law.proofs.NoClones.{replay_clones}
+use Rattle.law.proofs.Working.{NextFits, next_fits}
 use Rattle.law.proofs.Following.{IsFit, IsAnswer, Follows, CourseFits, course_fits}
 
 -- a run so far: its history is legal, and of covered acts
@@ -106,12 +110,51 @@ look_legal slots ask follow r h fit fits =
     all_legal (follow (found_by look.reply)) slots (with_entry slots event r) now (fits look.reply (look_answers slots ask r now)))
     (λ _. stopped_legal slots follow (record r { stopped = true }) (record { legal = h.legal; covered = h.covered; reading = h.reading }) refl))
 
-taken_legal : (course : Course) (slots : ℕ) (r : Run) → IsLegalRun slots r → CourseFits slots course → IsLegalRun slots (taken slots course r)
+-- Work
+
+work_stays : (acts : List Act) (slots : ℕ) (r : Run) → r.stopped ≡ true → worked_off slots acts r ≡ r
+work_stays [] slots r e = refl
+work_stays (act ∷ acts) slots r e =
+    let event = event_of r.reading act in
+    let once : with_event slots event r ≡ r = ap (λ b. cond b r (cond (may_follow slots event r.history) (with_entry slots event r) (record r { stopped = true }))) e in
+    ap (worked_off slots acts) once ∙ work_stays acts slots r e
+
+-- the run after so many of a coordinator's next acts
+abbrev coordinates : ℕ → ℕ → Run → Run
+coordinates slots count r = worked_off slots (coordinated count r.reading (replay slots r.history)) r
+
+-- an act and those that come next after it
+next_legal : (found : Option Act) (count slots : ℕ) (r : Run) → IsLegalRun slots r → NextFits slots found → ((next : Run) → IsLegalRun slots next → IsLegalRun slots (coordinates slots count next))
+    → IsLegalRun slots (worked_off slots (option_map_or (λ act. act ∷ coordinated count r.reading (after_act r.reading act (replay slots r.history))) found []) r)
+unfolding replay entry_of
+next_legal None count slots r h fit rest = h
+next_legal (Some act) count slots r h fit rest =
+    let event = event_of r.reading act in
+    let may = may_follow slots event r.history in
+    let more = coordinated count r.reading (after_act r.reading act (replay slots r.history)) in
+    let P : Run → Type 0 = λ k. IsLegalRun slots (worked_off slots more k) in
+    let halts : (k : Run) → IsLegalRun slots k → k.stopped ≡ true → P k = λ k legal e. subst (IsLegalRun slots) (sym (work_stays more slots k e)) legal in
+    cond_both r.stopped r (cond may (with_entry slots event r) (record r { stopped = true })) P
+    (λ e. halts r h e)
+    (λ _. cond_both may (with_entry slots event r) (record r { stopped = true }) P
+    (λ e. rest (with_entry slots event r) (entry_legal slots event r h h.reading fit e))
+    (λ _. halts (record r { stopped = true }) (record { legal = h.legal; covered = h.covered; reading = h.reading }) refl))
+
+work_legal : (count slots : ℕ) (r : Run) → IsLegalRun slots r → IsLegalRun slots (coordinates slots count r)
+work_legal zero slots r h = h
+work_legal (suc count) slots r h =
+    let holds = legal_holds r.history slots h.legal h.covered in
+    next_legal (next_act (replay slots r.history)) count slots r h
+    (next_fits slots (replay slots r.history) _ _ (replay_slots r.history slots) holds.inv (replay_clones r.history slots h.covered))
+    (λ next legal. work_legal count slots next legal)
+
+taken_legal : (course : Course) (slots : ℕ) (r : Run) → IsLegalRun slots r → CourseFits slots r.reading course → IsLegalRun slots (taken slots course r)
 taken_legal (SetReading micros) slots r h fits = record { legal = h.legal; covered = h.covered; reading = fits }
 taken_legal (SetLag slot micros) slots r h fits = record { legal = h.legal; covered = h.covered; reading = h.reading }
 taken_legal (Perform act) slots r h fits = performed_legal slots act r h fits
 taken_legal (LookFor ask follow showing) slots r h fits = look_legal slots ask follow r h fits.0 fits.1
-taken_legal (WorkOff work) slots r h fits = absurd fits
+taken_legal (WorkOff work) slots r h fits =
+    let ps = replay slots r.history in subst (λ acts. IsLegalRun slots (worked_off slots acts r)) (sym (fits.is ps)) (work_legal (fits.bound ps) slots r h)
 taken_legal ShowEntries slots r h fits = h
 
 made_legal : (c : ScriptCommand) (slots : ℕ) (r : Run) → IsLegalRun slots r → ScriptAsked slots c → ScriptCovered c → IsLegalRun slots (made_by slots c r)

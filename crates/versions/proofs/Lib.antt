@@ -1,5 +1,7 @@
+pub mod Adding
 pub mod Canonical
 pub mod Indexing
 pub mod KeyOrder
+pub mod Next
 pub mod Placing
 pub mod Walking

@@ -1,10 +1,11 @@
 ghost use Rattle.std.specs.Prelude.{◌≡◌, map, IfOk};
-ghost use Rattle.row_values.specs.Store.{frozen, part_of};
+ghost use Rattle.row_values.specs.Store.{frozen, part_of, of_rows};
+ghost use Rattle.versions.specs.Rows.{present_rows};
 
 use crate::version::Version;
 use hybrid_time::HybridTime;
 use partition_codes::{Range, code};
-use row_values::{Copied, NoMemory, Records};
+use row_values::{Copied, KeyedRow, NoMemory, Records, RowOp};
 use std::alloc::Global;
 
 /// Copies of these versions.
@@ -48,6 +49,27 @@ pub fn part_copies(
         let code = u32::from(code(&version.key));
         if range.low <= code && code < range.high {
             copies.push(version.copy()?)?;
+        }
+    }
+    Ok(copies)
+}
+
+/// Present rows as one upsert each, at a stamp.
+pub fn row_copies(
+    alloc: Global,
+    rows: &[KeyedRow],
+    stamp: HybridTime,
+) -> Result<Vec<Version>, NoMemory>
+    ensures { IfOk result (λ copies. copies.items ≡ of_rows (present_rows rows.now) stamp) }
+{
+    let mut copies = Vec::new(alloc);
+    for keyed in rows {
+        if keyed.row.present {
+            copies.push(Version {
+                key: keyed.key.copy()?,
+                stamp,
+                op: RowOp::Upsert(keyed.row.cells.copy()?),
+            })?;
         }
     }
     Ok(copies)

@@ -1,12 +1,14 @@
 ghost use Rattle.std.specs.Prelude.{ℕ, List, [], length, max, ◌≡◌, ◌≤◌, ◌<◌, IfOk, OnOk, MatchResult};
-ghost use Rattle.row_values.specs.Store.{Version, read_of, written, frozen, part_of, Below};
+ghost use Rattle.row_values.specs.Store.{Version, read_of, written, kept, frozen, part_of, rows_at, of_rows, Below};
 ghost use Rattle.row_values.specs.Batches.{FitsStore};
+ghost use Rattle.law_store.specs.Sorted.{Rising};
 ghost use Rattle.versions.specs.Causes.{RefusedFor};
+ghost use Rattle.versions.specs.Rows.{FitsRows, present_rows};
 
 use crate::version::Version;
 use hybrid_time::HybridTime;
 use partition_codes::Range;
-use row_values::{Batch, Key, NoMemory, Records, Row};
+use row_values::{Batch, Key, NoMemory, Records, Row, Rows};
 use std::alloc::Global;
 
 /// Why a read gives no row.
@@ -34,6 +36,13 @@ pub trait VersionStore: Drop {
     fn empty(alloc: Global, from: HybridTime) -> Result<Self, NoMemory>
         ensures versions { IfOk result (λ s. versions s ≡ []) }
         ensures cutoff { IfOk result (λ s. cutoff s ≡ from) };
+
+    /// A store of present rows, each as one upsert at a stamp, from which on its reads are right.
+    fn of_rows(alloc: Global, rows: &Rows, stamp: HybridTime) -> Result<Self, NoMemory>
+        requires keys { Rising rows.now }
+        requires rows { FitsRows rows.now }
+        ensures versions { IfOk result (λ s. versions s ≡ of_rows (present_rows rows.now) stamp) }
+        ensures cutoff { IfOk result (λ s. cutoff s ≡ stamp) };
 
     /// The number of versions.
     fn len(&self) -> u64
@@ -64,6 +73,12 @@ pub trait VersionStore: Drop {
         ensures right { IfOk result (λ _. cutoff self.now ≤ x) }
         ensures cause { MatchResult result (λ _. Unit {0}) (RefusedFor x (cutoff self.now)) };
 
+    /// The present rows at a time, by rising key.
+    fn rows_at(&self, x: HybridTime) -> Result<Rows, ReadRefused>
+        ensures rows { IfOk result (λ rows. rows ≡ rows_at (versions self.now) x) }
+        ensures right { IfOk result (λ _. cutoff self.now ≤ x) }
+        ensures cause { MatchResult result (λ _. Unit {0}) (RefusedFor x (cutoff self.now)) };
+
     /// All versions, by key and then in the order of writing.
     fn all_versions(&self) -> Result<Records<Version>, NoMemory>
         ensures all { IfOk result (λ all. all ≡ versions self.now) };
@@ -73,6 +88,12 @@ pub trait VersionStore: Drop {
         ensures versions { versions self.new ≡ versions self.old }
         ensures cutoff { cutoff self.new ≡ max (cutoff self.old) to }
         ensures room { room self.new ≡ room self.old };
+
+    /// A store of what compaction keeps: for each key the versions after the cutoff, and one upsert
+    /// of the row at the cutoff, where it is present.
+    fn compacted(&self) -> Result<Self, NoMemory>
+        ensures versions { IfOk result (λ s. versions s ≡ kept (versions self.now) (cutoff self.now)) }
+        ensures cutoff { IfOk result (λ s. cutoff s ≡ cutoff self.now) };
 
     /// A store of the versions that are stamped at or before a time.
     fn frozen(&self, at: HybridTime) -> Result<Self, NoMemory>

@@ -1,12 +1,14 @@
 ghost use Rattle.std.specs.Prelude.{◌≡◌, ◌<◌, ◌≤◌, ◌^◌, [], ◌∷◌, length, IfOk};
 ghost use Rattle.row_values.specs.Batches.{FitsStore};
-ghost use Rattle.versions.specs.Tried.{number_item};
+ghost use Rattle.versions.specs.Tried.{number_item, number_row, no_row};
 
 use crate::plain::PlainStore;
 use crate::store::{ReadRefused, VersionStore};
 use hybrid_time::HybridTime;
 use partition_codes::Range;
-use row_values::{Batch, Bytes, Cell, Cells, Item, Key, NoMemory, Records, Row, RowOp, Value};
+use row_values::{
+    Batch, Bytes, Cell, Cells, Item, Key, KeyedRow, NoMemory, Records, Row, RowOp, Rows, Value,
+};
 use std::alloc::Global;
 use std::test::Fail;
 
@@ -95,16 +97,35 @@ fn told(alloc: Global, store: &PlainStore) -> Result<Vec<(u8, u64, i64)>, NoMemo
     Ok(told)
 }
 
+// The first byte of the key of each row at a time, and its number.
+fn listed(alloc: Global, store: &PlainStore, x: u64) -> Result<Vec<(u8, i64)>, NoMemory>
+    requires { x ≤ 2 ^ 62 }
+{
+    let mut listed = Vec::new(alloc);
+    let Ok(rows) = store.rows_at(HybridTime { value: x }) else {
+        return Ok(listed);
+    };
+    for keyed in rows.as_slice() {
+        let letter = keyed.key.get(0).copied().unwrap_or(0);
+        listed.push((letter, number_in(&keyed.row.cells)))?;
+    }
+    Ok(listed)
+}
+
 fn number_of(op: &RowOp) -> i64 {
     match op {
         RowOp::Delete => -1,
-        RowOp::Upsert(cells) => match cells.get(0) {
-            Some(cell) => match &cell.value {
-                Value::Int(number) => *number,
-                _ => -3,
-            },
-            None => -2,
+        RowOp::Upsert(cells) => number_in(cells),
+    }
+}
+
+fn number_in(cells: &Cells) -> i64 {
+    match cells.get(0) {
+        Some(cell) => match &cell.value {
+            Value::Int(number) => *number,
+            _ => -3,
         },
+        None => -2,
     }
 }
 
@@ -140,9 +161,67 @@ fn versions_are_told_by_key_and_chosen_by_stamp_and_code(rt: HostRuntime) -> Res
         let part = store.part_of(Range { low, high })?;
         assert_eq!(rt; part.len(), count, "codes from {low}");
     }
+    assert_eq!(rt;
+        listed(alloc, &store, 3)?.as_slice(),
+        &[(b'x', 1i64), (b'y', 7)][..]
+    );
     for (to, cutoff) in [(4u64, 4u64), (2, 4)] {
         store.raise_cutoff(HybridTime { value: to });
         assert_eq!(rt; store.cutoff().value, cutoff);
     }
+    let compacted = store.compacted()?;
+    assert_eq!(rt;
+        told(alloc, &compacted)?.as_slice(),
+        &[(b'x', 4u64, 2i64), (b'y', 2, 7)][..]
+    );
+    assert_eq!(rt;
+        listed(alloc, &compacted, 4)?.as_slice(),
+        &[(b'x', 2i64), (b'y', 7)][..]
+    );
+    let answer = compacted.rows_at(HybridTime { value: 3 });
+    assert!(rt;
+        matches!(&answer, Err(ReadRefused::TooOld { asked, cutoff }) if asked.value == 3 && cutoff.value == 4)
+    );
+    Ok(())
+}
+
+// A row with a number in column 1.
+fn row_of(alloc: Global, text: &[u8], number: i64) -> Result<KeyedRow, NoMemory>
+    ensures { IfOk result (λ row. row ≡ number_row text.now number) }
+{
+    let mut cells = Cells::new(alloc);
+    cells.push(Cell {
+        column: 1,
+        value: Value::Int(number),
+    })?;
+    Ok(KeyedRow {
+        key: key_of(alloc, text)?,
+        row: Row {
+            present: true,
+            cells,
+        },
+    })
+}
+
+// A present row of x and an absent one of y.
+fn two_rows(alloc: Global, number: i64) -> Result<Rows, NoMemory>
+    ensures { IfOk result (λ rows. rows ≡ number_row (120 ∷ []) number ∷ no_row (121 ∷ []) ∷ []) }
+{
+    let mut rows: Rows = Records::new(alloc);
+    rows.push(row_of(alloc, b"x", number)?)?;
+    rows.push(KeyedRow {
+        key: key_of(alloc, b"y")?,
+        row: Row::absent(alloc),
+    })?;
+    Ok(rows)
+}
+
+#[test]
+fn a_store_is_made_of_present_rows(rt: HostRuntime) -> Result<(), Fail> {
+    let alloc = rt.alloc();
+    let rows = two_rows(alloc, 5)?;
+    let store = PlainStore::of_rows(alloc, &rows, HybridTime { value: 9 })?;
+    assert_eq!(rt; told(alloc, &store)?.as_slice(), &[(b'x', 9u64, 5i64)][..]);
+    assert_eq!(rt; store.cutoff().value, 9);
     Ok(())
 }

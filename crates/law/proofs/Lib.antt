@@ -9,3 +9,10 @@ pub mod NoClones
 pub mod Working
 pub mod Running
 pub mod Runs
+pub mod Drawing
+pub mod Newest
+pub mod Schemas
+pub mod Numbering
+pub mod InTurn
+pub mod Taking
+pub mod Plain

@@ -10,6 +10,7 @@ ghost use Rattle.model.specs.Running.{run_of};
 ghost use Rattle.model.specs.Entries.{ActAsked, Entry};
 ghost use Rattle.row_values.specs.Elements.{AllOf};
 ghost use Rattle.model.specs.History.{Legal, replay, journal_of, activity_of};
+ghost use Rattle.model.specs.Drawn.{DrawnBelow, DrawnWithin, DrawsInTurn, SchemasDrawn, SnapshotsAsTaken};
 ghost use Rattle.model.specs.Replies.{Right};
 ghost use Rattle.model.specs.Stands.{Cover, RecordFacts, Stands};
 ghost use Rattle.law_local.specs.Agreeing.{PlanNames};
@@ -35,6 +36,21 @@ pub fn legal_is_right()
 /// master's plans is so.
 pub fn plans_are_named()
     ensures named { (slots : ℕ) (history : List Entry) (act : Act) → Legal slots history → Covered history → ActAsked slots act → PlanNames act (replay slots history).master }
+{}
+
+/// Each entry of a legal history of covered acts draws as many identifiers of each kind as its act
+/// takes, and these are the next ones, in order; a refused entry draws none. The history draws few:
+/// at most as many of each kind as a cluster has slots, for each entry of the master's log. So numbers
+/// of identifiers stay below their bound, of which code makes its identifiers. A new column gets one
+/// more than the greatest id that was ever given to its table; and the newest schema that the catalog
+/// keeps of a table has as its version the changes of columns and the restores that made the table
+/// current, counted from 1. A kept snapshot is as it was taken, in any history.
+pub fn numbers_are_drawn()
+    ensures drawn { (slots : ℕ) (history : List Entry) → Legal slots history → Covered history → DrawsInTurn slots history }
+    ensures within { (slots : ℕ) (history : List Entry) → Legal slots history → Covered history → DrawnWithin slots history }
+    ensures below { (slots : ℕ) (history : List Entry) → Legal slots history → Covered history → DrawnBelow (replay slots history).master }
+    ensures schemas { (slots : ℕ) (history : List Entry) → Legal slots history → Covered history → SchemasDrawn (replay slots history).master (journal_of slots history) }
+    ensures taken { (slots : ℕ) (history : List Entry) → SnapshotsAsTaken slots history }
 {}
 
 /// The history of a script whose commands meet what is asked of them, and are of the covered ones, is

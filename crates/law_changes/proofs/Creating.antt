@@ -451,7 +451,7 @@ onward_made m n changes ns name columns slots before h drawn unheld free = recor
 }
 
 -- the plan of a known namespace, where enough slots are free
-planned_free : (m : Master) (namespace table : List ℕ) (tablets : ℕ) (columns : List NewColumn) (ns : Id) → found_namespace m namespace ≡ Ok ns → tablets ≤ length (free_slots m)
+pub planned_free : (m : Master) (namespace table : List ℕ) (tablets : ℕ) (columns : List NewColumn) (ns : Id) → found_namespace m namespace ≡ Ok ns → tablets ≤ length (free_slots m)
     → plan_of (CreateTable namespace table tablets columns) m ≡ take tablets (free_slots m)
 unfolding plan_of
 planned_free m namespace table tablets columns ns found enough =

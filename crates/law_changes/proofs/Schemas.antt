@@ -89,7 +89,7 @@ add_column_keeps ps activity changes n namespace table name kind slots later inv
           (λ i. told_either IsMild slots (SetVersion (t.schema.version + 1)) i tt tt);
     })
 
-column_found : (t : TableRecord) (name : List ℕ) (c : ColumnOf) → column_of name t ≡ Some c → (c.table ≡ t) × (column_named t.schema.columns name ≡ Some c.column)
+pub column_found : (t : TableRecord) (name : List ℕ) (c : ColumnOf) → column_of name t ≡ Some c → (c.table ≡ t) × (column_named t.schema.columns name ≡ Some c.column)
 column_found t name c e = by_column (column_named t.schema.columns name) refl
   where
     by_column : (o : Option Column) → column_named t.schema.columns name ≡ o → (c.table ≡ t) × (o ≡ Some c.column)

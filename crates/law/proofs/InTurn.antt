@@ -1,0 +1,388 @@
+-- Each entry of a legal history draws the next numbers of each kind, as many as its act takes, and no other.
+use Rattle.std.proofs.Common.{if◌then◌else◌, not, ◌≡◌, ℕ, ◌≤◌, ◌<◌, ◌+◌, ◌*◌, ◌/◌, List, [], ◌∷◌, ◌++◌, Option, Some, None, Bool, true, false, refl, sym, ap, subst, ◌∙◌, arith, length, map, take, Result, Ok, Err, ltb, ltb-false, le_trans, inl, inr}
+use Rattle.std.specs.List.{filter}
+use Rattle.std.proofs.lemmas.Bool.Decides.{nat_tests}
+use Rattle.std.proofs.Math.Nat.{div-mul-le_self}
+use Rattle.std.proofs.lemmas.Nat.{le-div}
+use Rattle.std.proofs.lemmas.List.Elements.{filter-append}
+use Rattle.row_values.specs.Ids.{Id, Kind, Namespace, Table, Tablet, Schedule, Snapshot, Restoration, Clone, same}
+use Rattle.row_values.specs.Elements.{In, put_in}
+use Rattle.row_values.specs.Ranges.{share_from}
+use Rattle.row_values.specs.Slots.{same_slots, has}
+use Rattle.model.specs.Activity.{Interval}
+use Rattle.model.specs.Acts.{Act, Change, Command, CreateNamespace, DropNamespace, CreateTable, AddColumn, DropColumn, RenameTable, DropTable, Split, CreateSchedule, DeleteSchedule, TakeSnapshot, Restore, CloneNamespace, ListSchedules, ListSnapshots, ListRestorations, ListClones, ListTablets, Refusal, StalePlan, Reply, Refused, Look, Write, Read, Cutoff, Compact, Send, Process, Ack, Advance, Remove, Prune, Restart, Stats, Advanced}
+use Rattle.model.specs.Parts.{Master, Parts, Outcome, If, decided, refused, judged, none_drawn, MasterAct, Ticks, MakesNamespace, DropsNamespace, MakesTable, AddsColumn, DropsColumn, RenamesTable, DropsTable, SplitsTablet, MakesSchedule, DeletesSchedule, TakesSnapshot, BeginsRestoration, BeginsClone, Sends, Acks, Unsends, Moves, Removes, Prunes, Restarts}
+use Rattle.model.specs.Lists.{by_range, next_snapshot, numbered_as, with_snapshot}
+use Rattle.model.specs.Changed.{begins, shares, next_namespace, next_table, next_tablet}
+use Rattle.model.specs.Drawn.{AreNext, DrawsNext, drawn_of, drawn_by, given_of, given_by, none_given, given_for, own_of, own_of_clone, own_of_restoration, tablets_of, DrawsInTurn}
+use Rattle.model.specs.Changes.{accepts, change, planned, create_namespace, create_namespace_checks, drop_namespace, create_table, create_table_checks, add_column, drop_column, rename_table, drop_table, split, create_schedule, delete_schedule, take_snapshot, restore, list_tablets, judge_create_namespace, judge_drop_namespace, judge_create_table, judge_add_column, judge_drop_column, judge_rename_table, judge_drop_table, judge_split, judge_create_schedule, judge_delete_schedule, judge_take_snapshot, judge_restore}
+use Rattle.model.specs.Entries.{ActAsked, CommandAsked, Entry, slots_of}
+use Rattle.model.specs.History.{activity_of, journal_of, Legal, master_effect, outcome, replay, told}
+use Rattle.model.specs.Journal.{Change as Made}
+use Rattle.model.specs.Looks.{found_namespace, free_slots, plan_of}
+use Rattle.model.specs.Tablets.{Told}
+use Rattle.law_invariants.specs.Invariant.{Inv}
+use Rattle.law_changes.proofs.Creating.{planned_free}
+use Rattle.law_invariants.proofs.Judging.{checked_is}
+use Rattle.law_changes.proofs.Free.{AreFree, least_free}
+use Rattle.law_changes.proofs.Told.{slots_equal}
+use Rattle.law.specs.Covering.{ActCovered, AdvanceCovered, CommandCovered, Covered}
+use Rattle.law_store.proofs.Keys.{either_way}
+use Rattle.law_invariants.proofs.Finding.{same_self, not_same, apart_by_number}
+use Rattle.model.specs.Records.{RestorationRecord, RestorationState, Fencing, Snapshotting, Switching, Restoring, Releasing, Restored, SnapshotRecord, CloneRecord, State, IsCreating, IsComplete, IsFencing, IsSnapshot, IsSwitching, IsRestoring, IsReleasing, IsRestored, IsAccepted, IsCopying, first_unacked, schedule_with}
+use Rattle.model.specs.Coordination.{unfinished_snapshot, unfinished_restoration, unfinished_clone, acked_by}
+use Rattle.model.specs.Moves.{advance, advancing, moving, moved, moved_of, progress_of, snapshot_progress, restoration_progress, awaited_by_restoration, after_restoration, waits_for, with_own_snapshot, completed, restoration_enters, restoration_moved}
+use Rattle.model.specs.Cleanup.{prune, removed_of}
+use Rattle.law_moves.proofs.Advancing.{no_clone}
+use Rattle.law_moves.proofs.Pending.{unfinished_restoration_is}
+use Rattle.law_moves.proofs.Serving.{schedule_found}
+use Rattle.law.proofs.Plain.{is_weighty, may_weigh, act_none}
+use Rattle.law.proofs.Law.{legal_holds}
+use Rattle.std.specs.Option.{option_map, option_map_or}
+use Rattle.std.proofs.lemmas.Bool.{cond_both}
+
+-- so many of a kind are drawn, the next ones
+abbrev pub DrawsKind : Act → Reply → ℕ → Master → Master → Kind → Type 0
+DrawsKind act reply n before after kind =
+    (drawn_of kind after.drawn ≡ drawn_of kind before.drawn + drawn_of kind (drawn_by act reply n before))
+    × ((length (given_of kind (given_by act reply after)) ≡ drawn_of kind (drawn_by act reply n before))
+    × AreNext kind (drawn_of kind before.drawn) (given_of kind (given_by act reply after)))
+
+pub next_of : (act : Act) (reply : Reply) (n : ℕ) (before after : Master) → DrawsKind act reply n before after Namespace → DrawsKind act reply n before after Table → DrawsKind act reply n before after Tablet → DrawsKind act reply n before after Schedule
+    → DrawsKind act reply n before after Snapshot → DrawsKind act reply n before after Restoration → DrawsKind act reply n before after Clone → DrawsNext act reply n before after
+next_of act reply n before after a b c d e f g = record { count = λ kind. (each kind).0; given = λ kind. (each kind).1.0; next = λ kind. (each kind).1.1 }
+  where
+    each : (kind : Kind) → DrawsKind act reply n before after kind
+    each Namespace = a
+    each Table = b
+    each Tablet = c
+    each Schedule = d
+    each Snapshot = e
+    each Restoration = f
+    each Clone = g
+
+-- what draws none
+pub none_next : (act : Act) (reply : Reply) (n : ℕ) (before after : Master) → drawn_by act reply n before ≡ none_drawn → given_by act reply after ≡ none_given → after.drawn ≡ before.drawn → DrawsNext act reply n before after
+none_next act reply n before after drawn given same_ = next_of act reply n before after (by Namespace refl refl) (by Table refl refl) (by Tablet refl refl) (by Schedule refl refl) (by Snapshot refl refl) (by Restoration refl refl) (by Clone refl refl)
+  where
+    by : (kind : Kind) → drawn_of kind none_drawn ≡ 0 → given_of kind none_given ≡ [] → DrawsKind act reply n before after kind
+    by kind zero_ empty =
+        let d : drawn_of kind (drawn_by act reply n before) ≡ 0 = ap (drawn_of kind) drawn ∙ zero_ in
+        let g : given_of kind (given_by act reply after) ≡ [] = ap (given_of kind) given ∙ empty in
+        let s : drawn_of kind after.drawn ≡ drawn_of kind before.drawn = ap (drawn_of kind) same_ in
+        (omega (arith, d, s), (ap length g ∙ sym d, subst (AreNext kind (drawn_of kind before.drawn)) (sym g) tt))
+
+-- The tablets of a new table
+
+shares_of_table : (slots : List ℕ) (place count n drawn : ℕ) (table : Id) → filter (λ i. same i.table table) (shares slots place count n drawn table) ≡ shares slots place count n drawn table
+shares_of_table [] place count n drawn table = refl
+shares_of_table (slot ∷ slots) place count n drawn table =
+    let here = same_self table in rw here (ap (λ is. begins slot (next_tablet drawn (place + 1)) table (share_from count place) (share_from count (place + 1)) n ∷ is) (shares_of_table slots (place + 1) count n drawn table))
+
+put_first : (i : Interval) (is : List Interval) → ((j : Interval) → In j is → i.low ≤ j.low) → put_in (λ i j. ltb i.low j.low) i is ≡ i ∷ is
+put_first i [] low = refl
+put_first i (j ∷ is) low = let l : i.low ≤ j.low = low j (inl refl) in let e : ltb j.low i.low ≡ false = grind (arith, nat_tests) in rw e refl
+
+-- a later share begins no lower
+share_up : (count place later : ℕ) → 0 < count → place ≤ later → share_from count place ≤ share_from count later
+share_up count place later some le = le-div (place * 65536 / count) (later * 65536) count some (le_trans (div-mul-le_self (place * 65536) count) (omega (arith, le)))
+
+share_low : (slots : List ℕ) (place count n drawn bound : ℕ) (table : Id) → 0 < count → bound ≤ place → (j : Interval) → In j (shares slots place count n drawn table) → share_from count bound ≤ j.low
+share_low [] place count n drawn bound table some le j isin = absurd isin
+share_low (slot ∷ slots) place count n drawn bound table some le j (inl e) =
+    let l : share_from count bound ≤ share_from count place = share_up count bound place some le in subst (λ k. share_from count bound ≤ k.low) e l
+share_low (slot ∷ slots) place count n drawn bound table some le j (inr isin) = share_low slots (place + 1) count n drawn bound table some (omega arith) j isin
+
+shares_in_order : (slots : List ℕ) (place count n drawn : ℕ) (table : Id) → 0 < count → by_range (shares slots place count n drawn table) ≡ shares slots place count n drawn table
+shares_in_order [] place count n drawn table some = refl
+shares_in_order (slot ∷ slots) place count n drawn table some =
+    let i = begins slot (next_tablet drawn (place + 1)) table (share_from count place) (share_from count (place + 1)) n in
+    ap (put_in (λ i j. ltb i.low j.low) i) (shares_in_order slots (place + 1) count n drawn table some)
+    ∙ put_first i (shares slots (place + 1) count n drawn table) (λ j isin. share_low slots (place + 1) count n drawn place table some (omega arith) j isin)
+
+none_of_table : (is : List Interval) (m : Master) → ((i : Interval) → In i is → i.table.number ≤ m.drawn.tables) → filter (λ i. same i.table (next_table m)) is ≡ []
+none_of_table [] m drawn = refl
+none_of_table (i ∷ is) m drawn =
+    let l : i.table.number ≤ m.drawn.tables = drawn i (inl refl) in
+    let apart : same i.table (next_table m) ≡ false = not_same i.table (next_table m) (apart_by_number i.table (next_table m) (omega arith)) in
+    rw apart (none_of_table is m (λ j isin. drawn j (inr isin)))
+
+shares_next : (slots : List ℕ) (place count n drawn first : ℕ) (table : Id) → drawn ≡ first + place → AreNext Tablet drawn (map {A = Interval} (λ i. i.tablet) (shares slots place count n first table))
+shares_next [] place count n drawn first table is = tt
+shares_next (slot ∷ slots) place count n drawn first table is =
+    (ap (numbered_as Tablet) (omega (arith, is)), shares_next slots (place + 1) count n (drawn + 1) first table (omega (arith, is)))
+
+shares_long : (slots : List ℕ) (place count n drawn : ℕ) (table : Id) → length (map {A = Interval} (λ i. i.tablet) (shares slots place count n drawn table)) ≡ length slots
+shares_long [] place count n drawn table = refl
+shares_long (slot ∷ slots) place count n drawn table = let e = shares_long slots (place + 1) count n drawn table in omega (arith, e)
+
+-- the tablets of a new table, by range, are its shares
+tablets_made : (m : Master) (slots : List ℕ) (count n : ℕ) → 0 < count → ((i : Interval) → In i m.activity → i.table.number ≤ m.drawn.tables)
+    → tablets_of (m.activity ++ shares slots 0 count n m.drawn.tablets (next_table m)) (next_table m ∷ []) ≡ map {A = Interval} (λ i. i.tablet) (shares slots 0 count n m.drawn.tablets (next_table m))
+tablets_made m slots count n some drawn =
+    let of_table = λ (i : Interval). same i.table (next_table m) in
+    let new = shares slots 0 count n m.drawn.tablets (next_table m) in
+    let found : filter of_table (m.activity ++ new) ≡ new
+    = filter-append of_table m.activity new ∙ ap (λ is. is ++ filter of_table new) (none_of_table m.activity m drawn) ∙ shares_of_table slots 0 count n m.drawn.tablets (next_table m) in
+    ap (λ is. map {A = Interval} (λ i. i.tablet) (by_range is) ++ []) found ∙ ap (λ is. map {A = Interval} (λ i. i.tablet) is ++ []) (shares_in_order slots 0 count n m.drawn.tablets (next_table m) some) ∙ append_nil (map {A = Interval} (λ i. i.tablet) new)
+  where
+    append_nil : (xs : List Id) → xs ++ [] ≡ xs
+    append_nil [] = refl
+    append_nil (x ∷ xs) = ap (λ ys. x ∷ ys) (append_nil xs)
+
+-- Commands
+
+-- a record of an outcome by which the next numbers are drawn
+record Draws (act : Act) (n : ℕ) (m : Master) (o : Outcome) : Type 0 where
+  next : DrawsNext act o.reply n m (master_effect o.master n m)
+
+given_none : (command : Command) (m : Master) → CommandCovered command → given_for command [] m ≡ none_given
+given_none (CloneNamespace source target to) m covered = absurd covered
+given_none (CreateNamespace name) m covered = refl
+given_none (DropNamespace name) m covered = refl
+given_none (CreateTable namespace table tablets columns) m covered = refl
+given_none (AddColumn namespace table name kind) m covered = refl
+given_none (DropColumn namespace table name) m covered = refl
+given_none (RenameTable namespace table name) m covered = refl
+given_none (DropTable namespace table) m covered = refl
+given_none (Split namespace table code) m covered = refl
+given_none (CreateSchedule interval retention namespace) m covered = refl
+given_none (DeleteSchedule schedule) m covered = refl
+given_none (TakeSnapshot schedule) m covered = refl
+given_none (Restore schedule to) m covered = refl
+given_none ListSchedules m covered = refl
+given_none ListSnapshots m covered = refl
+given_none ListRestorations m covered = refl
+given_none ListClones m covered = refl
+given_none (ListTablets namespace) m covered = refl
+
+refused_next : (command : Command) (slots : List ℕ) (n : ℕ) (m : Master) (why : Refusal) → CommandCovered command → Draws (Change command slots) n m (refused why)
+refused_next command slots n m why covered = record { next = none_next (Change command slots) (Refused why) n m (record m { clock = n }) refl (given_none command (record m { clock = n }) covered) refl }
+
+decided_next : {A : Type 0} (judgement : Result A Refusal) (go : A → Outcome) (command : Command) (slots : List ℕ) (n : ℕ) (m : Master) → CommandCovered command → ((a : A) → judgement ≡ Ok a → Draws (Change command slots) n m (go a)) → Draws (Change command slots) n m (decided judgement go)
+decided_next (Err why) go command slots n m covered accepted = refused_next command slots n m why covered
+decided_next (Ok a) go command slots n m covered accepted = accepted a refl
+
+-- a command that makes nothing leaves the numbers
+made_none : (command : Command) (slots : List ℕ) (act : MasterAct) (tablets : List Told) (n : ℕ) (m : Master) → CommandCovered command → (master_effect act n m).drawn ≡ m.drawn → Draws (Change command slots) n m (accepts act tablets [])
+made_none command slots act tablets n m covered same_ = record { next = none_next (Change command slots) _ n m (master_effect act n m) refl (given_none command (master_effect act n m) covered) same_ }
+
+planned_next : (command : Command) (slots : List ℕ) (n : ℕ) (ps : Parts) (activity : List Interval) (changes : List Made) → CommandAsked command → CommandCovered command → same_slots slots (plan_of command ps.master) ≡ true → Inv ps activity changes
+    → Draws (Change command slots) n ps.master (planned command slots n ps)
+unfolding create_namespace drop_namespace create_table add_column drop_column rename_table drop_table split create_schedule delete_schedule take_snapshot restore list_tablets
+planned_next (CreateNamespace name) slots n ps activity changes asked covered plan inv =
+    decided_next (judge_create_namespace name ps.master) _ (CreateNamespace name) slots n ps.master covered
+    (λ id e. let next : id ≡ next_namespace ps.master = (let q = (checked_is (Ok (next_namespace ps.master)) (λ id. create_namespace_checks name ps.master) id e).0 in cc) in
+    record { next = next_of _ _ n ps.master _ (refl, (refl, (next, tt))) (omega arith, (refl, tt)) (omega arith, (refl, tt)) (omega arith, (refl, tt)) (omega arith, (refl, tt)) (omega arith, (refl, tt)) (omega arith, (refl, tt)) })
+planned_next (CreateTable namespace table tablets columns) slots n ps activity changes asked covered plan inv =
+    let m = ps.master in
+    let command = CreateTable namespace table tablets columns in
+    let count = length slots in
+    decided_next (judge_create_table namespace table tablets m) _ command slots n m covered
+    (λ ns found.
+    let judged = checked_is (found_namespace m namespace) (λ ns. create_table_checks ns table tablets m) ns found in
+    let enough : tablets ≤ length (free_slots m) = ltb-false (length (free_slots m)) tablets judged.1.1.1.1.0 in
+    let least : slots ≡ take tablets (free_slots m) = slots_equal slots (plan_of command m) plan ∙ planned_free m namespace table tablets columns ns judged.0 enough in
+    let long : count ≡ tablets = (subst (AreFree m tablets) (sym least) (least_free m tablets enough)).long in
+    let some : 0 < count = (let l : 1 ≤ tablets = asked.2.0 in omega (arith, l, long)) in
+    let made = tablets_made m slots count n some (λ i isin. ((inv.slots i.slot).each i isin refl).drawn_table) in
+    record {
+      next = next_of _ _ n m _ (omega arith, (refl, tt)) (refl, (refl, (refl, tt)))
+          (ap (λ k. m.drawn.tablets + k) long, (ap length made ∙ shares_long slots 0 count n m.drawn.tablets (next_table m) ∙ long, subst (AreNext Tablet m.drawn.tablets) (sym made) (shares_next slots 0 count n m.drawn.tablets m.drawn.tablets (next_table m) (omega arith))))
+          (omega arith, (refl, tt)) (omega arith, (refl, tt)) (omega arith, (refl, tt)) (omega arith, (refl, tt));
+    })
+planned_next (Split namespace table code) slots n ps activity changes asked covered plan inv =
+    decided_next (judge_split namespace table code ps.master) _ (Split namespace table code) slots n ps.master covered
+    (λ f e. record { next = next_of _ _ n ps.master _ (omega arith, (refl, tt)) (omega arith, (refl, tt)) (refl, (refl, (refl, (ap (numbered_as Tablet) (omega arith), tt)))) (omega arith, (refl, tt)) (omega arith, (refl, tt)) (omega arith, (refl, tt)) (omega arith, (refl, tt)) })
+planned_next (CreateSchedule interval retention namespace) slots n ps activity changes asked covered plan inv =
+    decided_next (judge_create_schedule interval retention namespace ps.master) _ (CreateSchedule interval retention namespace) slots n ps.master covered
+    (λ ns e. record { next = next_of _ _ n ps.master _ (omega arith, (refl, tt)) (omega arith, (refl, tt)) (omega arith, (refl, tt)) (refl, (refl, (refl, tt))) (omega arith, (refl, tt)) (omega arith, (refl, tt)) (omega arith, (refl, tt)) })
+planned_next (TakeSnapshot schedule) slots n ps activity changes asked covered plan inv =
+    decided_next (judge_take_snapshot schedule n ps.master) _ (TakeSnapshot schedule) slots n ps.master covered
+    (λ s e. record { next = next_of _ _ n ps.master _ (omega arith, (refl, tt)) (omega arith, (refl, tt)) (omega arith, (refl, tt)) (omega arith, (refl, tt)) (refl, (refl, (refl, tt))) (omega arith, (refl, tt)) (omega arith, (refl, tt)) })
+planned_next (Restore schedule to) slots n ps activity changes asked covered plan inv =
+    decided_next (judge_restore schedule to n ps.master) _ (Restore schedule to) slots n ps.master covered
+    (λ s e. record { next = next_of _ _ n ps.master _ (omega arith, (refl, tt)) (omega arith, (refl, tt)) (omega arith, (refl, tt)) (omega arith, (refl, tt)) (omega arith, (refl, tt)) (refl, (refl, (refl, tt))) (omega arith, (refl, tt)) })
+planned_next (CloneNamespace source target to) slots n ps activity changes asked covered plan inv = absurd covered
+planned_next (DropNamespace name) slots n ps activity changes asked covered plan inv =
+    decided_next (judge_drop_namespace name ps.master) _ (DropNamespace name) slots n ps.master covered (λ found e. made_none (DropNamespace name) slots _ _ n ps.master covered refl)
+planned_next (AddColumn namespace table name kind) slots n ps activity changes asked covered plan inv =
+    decided_next (judge_add_column namespace table name ps.master) _ (AddColumn namespace table name kind) slots n ps.master covered (λ found e. made_none (AddColumn namespace table name kind) slots _ _ n ps.master covered refl)
+planned_next (DropColumn namespace table name) slots n ps activity changes asked covered plan inv =
+    decided_next (judge_drop_column namespace table name ps.master) _ (DropColumn namespace table name) slots n ps.master covered (λ found e. made_none (DropColumn namespace table name) slots _ _ n ps.master covered refl)
+planned_next (RenameTable namespace table name) slots n ps activity changes asked covered plan inv =
+    decided_next (judge_rename_table namespace table name ps.master) _ (RenameTable namespace table name) slots n ps.master covered (λ found e. made_none (RenameTable namespace table name) slots _ _ n ps.master covered refl)
+planned_next (DropTable namespace table) slots n ps activity changes asked covered plan inv =
+    decided_next (judge_drop_table namespace table ps.master) _ (DropTable namespace table) slots n ps.master covered (λ found e. made_none (DropTable namespace table) slots _ _ n ps.master covered refl)
+planned_next (DeleteSchedule schedule) slots n ps activity changes asked covered plan inv =
+    decided_next (judge_delete_schedule schedule ps.master) _ (DeleteSchedule schedule) slots n ps.master covered (λ found e. made_none (DeleteSchedule schedule) slots _ _ n ps.master covered refl)
+planned_next ListSchedules slots n ps activity changes asked covered plan inv = record { next = none_next _ _ n ps.master _ refl refl refl }
+planned_next ListSnapshots slots n ps activity changes asked covered plan inv = record { next = none_next _ _ n ps.master _ refl refl refl }
+planned_next ListRestorations slots n ps activity changes asked covered plan inv = record { next = none_next _ _ n ps.master _ refl refl refl }
+planned_next ListClones slots n ps activity changes asked covered plan inv = record { next = none_next _ _ n ps.master _ refl refl refl }
+planned_next (ListTablets namespace) slots n ps activity changes asked covered plan inv =
+    decided_next (found_namespace ps.master namespace) _ (ListTablets namespace) slots n ps.master covered (λ ns e. record { next = none_next _ _ n ps.master _ refl refl refl })
+
+-- Moves
+
+-- the record that a restoration has after it entered a state, as the master finds it by its id
+own_found : (rs : List RestorationRecord) (r : RestorationRecord) (id own : Id) (point : ℕ) → r.id ≡ id → unfinished_restoration rs id ≡ Some r
+    → option_map_or (λ q. own_of_restoration q.state) (unfinished_restoration (map {A = RestorationRecord} (λ x. record x { listed = if same x.id r.id then [] else x.listed; state = if same x.id r.id then Snapshotting point own else x.state }) rs) id) [] ≡ own ∷ []
+own_found [] r id own point is found = absurd (let q = found in grind arith)
+own_found (x ∷ rs) r id own point is found = either_way (same x.id id)
+    (λ b. let mine : same x.id r.id ≡ true = ap (same x.id) is ∙ b in rw mine (rw b refl))
+    (λ b. let rest : unfinished_restoration rs id ≡ Some r = rw b at found in rw b (own_found rs r id own point is rest))
+
+-- whether it is the state in which an operation waits for the snapshot that it made
+abbrev is_snapshot : State → Bool
+is_snapshot IsSnapshot = true
+is_snapshot IsCreating = false
+is_snapshot IsComplete = false
+is_snapshot IsFencing = false
+is_snapshot IsSwitching = false
+is_snapshot IsRestoring = false
+is_snapshot IsReleasing = false
+is_snapshot IsRestored = false
+is_snapshot IsAccepted = false
+is_snapshot IsCopying = false
+
+-- a move into a state that makes no snapshot
+quiet_move : (operation : Id) (next : State) (n : ℕ) (before after : Master) → is_snapshot next ≡ false → after.drawn ≡ before.drawn → DrawsNext (Advance operation) (Advanced next) n before after
+quiet_move operation IsSnapshot n before after e same_ = absurd (let q = e in grind arith)
+quiet_move operation IsCreating n before after e same_ = none_next _ _ n before after refl refl same_
+quiet_move operation IsComplete n before after e same_ = none_next _ _ n before after refl refl same_
+quiet_move operation IsFencing n before after e same_ = none_next _ _ n before after refl refl same_
+quiet_move operation IsSwitching n before after e same_ = none_next _ _ n before after refl refl same_
+quiet_move operation IsRestoring n before after e same_ = none_next _ _ n before after refl refl same_
+quiet_move operation IsReleasing n before after e same_ = none_next _ _ n before after refl refl same_
+quiet_move operation IsRestored n before after e same_ = none_next _ _ n before after refl refl same_
+quiet_move operation IsAccepted n before after e same_ = none_next _ _ n before after refl refl same_
+quiet_move operation IsCopying n before after e same_ = none_next _ _ n before after refl refl same_
+
+-- a restoration makes a snapshot for itself
+own_move : (r : RestorationRecord) (operation : Id) (n : ℕ) (ps : Parts) (activity : List Interval) (changes : List Made) → operation.kind ≡ Restoration → unfinished_restoration ps.master.restorations operation ≡ Some r → Inv ps activity changes
+    → DrawsNext (Advance operation) (Advanced IsSnapshot) n ps.master (restoration_moved Fencing r n ps.master)
+own_move r operation n ps activity changes kind found inv =
+    let m = ps.master in
+    let is = unfinished_restoration_is m.restorations operation r found in
+    let t = (inv.operations.restorations r is.0).scheduled is.1.1 in
+    let k = schedule_found m.schedules t.0 t.1.0 in
+    let scheduled : schedule_with m.schedules r.schedule ≡ Some k.0 = ap (schedule_with m.schedules) (sym t.1.1.0) ∙ k.1 in
+    let after = restoration_enters r (Snapshotting (n + 1) (next_snapshot m)) [] n (with_snapshot k.0 n m) in
+    let own : own_of after operation ≡ next_snapshot m ∷ []
+    = ap (λ ids. ids ++ option_map_or (λ c. own_of_clone c.state) (unfinished_clone m.clones operation) []) (own_found m.restorations r operation (next_snapshot m) (n + 1) is.1.0 found)
+    ∙ ap (λ c. next_snapshot m ∷ option_map_or {T = CloneRecord} (λ c. own_of_clone c.state) c []) (no_clone m changes operation inv.operations (λ q. let e = sym kind ∙ q in grind arith)) in
+    subst (λ o. DrawsNext (Advance operation) (Advanced IsSnapshot) n m (restoration_enters r (Snapshotting (n + 1) (next_snapshot m)) [] n (with_own_snapshot o n m))) (sym scheduled)
+    (next_of (Advance operation) (Advanced IsSnapshot) n m after (omega arith, (refl, tt)) (omega arith, (refl, tt)) (omega arith, (refl, tt)) (omega arith, (refl, tt))
+    (refl, (ap length own, subst (AreNext Snapshot m.drawn.snapshots) (sym own) (refl, tt)))
+    (omega arith, (refl, tt)) (omega arith, (refl, tt)))
+
+state_next : (state : RestorationState) (r : RestorationRecord) (operation : Id) (n : ℕ) (ps : Parts) (activity : List Interval) (changes : List Made) → operation.kind ≡ Restoration → unfinished_restoration ps.master.restorations operation ≡ Some r → Inv ps activity changes
+    → DrawsNext (Advance operation) (Advanced (after_restoration state)) n ps.master (restoration_moved state r n ps.master)
+state_next Fencing r operation n ps activity changes kind found inv = own_move r operation n ps activity changes kind found inv
+state_next (Snapshotting point own) r operation n ps activity changes kind found inv = quiet_move operation IsSwitching n ps.master _ refl refl
+state_next (Switching point serving) r operation n ps activity changes kind found inv = quiet_move operation IsRestoring n ps.master _ refl refl
+state_next (Restoring point serving) r operation n ps activity changes kind found inv = quiet_move operation IsReleasing n ps.master _ refl refl
+state_next (Releasing point serving) r operation n ps activity changes kind found inv = quiet_move operation IsRestored n ps.master _ refl refl
+state_next (Restored point serving) r operation n ps activity changes kind found inv = quiet_move operation IsRestored n ps.master _ refl refl
+
+waits_next : (awaited : Option Id) (operation : Id) (next : State) (n : ℕ) (m : Master) → DrawsNext (Advance operation) (Advanced next) n m (moved operation n m) → Draws (Advance operation) n m (moving awaited operation next)
+waits_next (Some on) operation next n m h = record { next = none_next _ _ n m _ refl refl refl }
+waits_next None operation next n m h = record { next = h }
+
+restoration_next : (found : Option RestorationRecord) (operation : Id) (n : ℕ) (ps : Parts) (activity : List Interval) (changes : List Made) → operation.kind ≡ Restoration → unfinished_restoration ps.master.restorations operation ≡ found → Inv ps activity changes
+    → Draws (Advance operation) n ps.master (advancing (option_map (restoration_progress ps.master) found) operation)
+restoration_next None operation n ps activity changes kind found inv = record { next = none_next _ _ n ps.master _ refl refl refl }
+restoration_next (Some r) operation n ps activity changes kind found inv =
+    let m = ps.master in
+    let is : moved operation n m ≡ restoration_moved r.state r n m = ap (λ k. moved_of k operation n m) kind ∙ ap (λ o. option_map_or {T = RestorationRecord} (λ r. restoration_moved r.state r n m) o (record m { clock = n })) found in
+    waits_next (waits_for (first_unacked r.listed) (awaited_by_restoration r.state m r)) operation (after_restoration r.state) n m
+    (subst (DrawsNext (Advance operation) (Advanced (after_restoration r.state)) n m) (sym is) (state_next r.state r operation n ps activity changes kind found inv))
+
+snapshot_next : (found : Option SnapshotRecord) (operation : Id) (n : ℕ) (m : Master) → operation.kind ≡ Snapshot → unfinished_snapshot m.snapshots operation ≡ found → Draws (Advance operation) n m (advancing (option_map snapshot_progress found) operation)
+snapshot_next None operation n m kind found = record { next = none_next _ _ n m _ refl refl refl }
+snapshot_next (Some r) operation n m kind found =
+    let is : moved operation n m ≡ completed r n m = ap (λ k. moved_of k operation n m) kind ∙ ap (λ o. option_map_or {T = SnapshotRecord} (λ r. completed r n m) o (record m { clock = n })) found in
+    waits_next (waits_for (first_unacked r.listed) None) operation IsComplete n m (subst (DrawsNext (Advance operation) (Advanced IsComplete) n m) (sym is) (quiet_move operation IsComplete n m (completed r n m) refl refl))
+
+kind_next : (kind : Kind) (operation : Id) (n : ℕ) (ps : Parts) (activity : List Interval) (changes : List Made) → operation.kind ≡ kind → AdvanceCovered kind → Inv ps activity changes → Draws (Advance operation) n ps.master (advancing (progress_of kind ps.master operation) operation)
+kind_next Clone operation n ps activity changes is covered inv = absurd covered
+kind_next Restoration operation n ps activity changes is covered inv = restoration_next (unfinished_restoration ps.master.restorations operation) operation n ps activity changes is refl inv
+kind_next Snapshot operation n ps activity changes is covered inv = snapshot_next (unfinished_snapshot ps.master.snapshots operation) operation n ps.master is refl
+kind_next Namespace operation n ps activity changes is covered inv = record { next = none_next _ _ n ps.master _ refl refl refl }
+kind_next Table operation n ps activity changes is covered inv = record { next = none_next _ _ n ps.master _ refl refl refl }
+kind_next Tablet operation n ps activity changes is covered inv = record { next = none_next _ _ n ps.master _ refl refl refl }
+kind_next Schedule operation n ps activity changes is covered inv = record { next = none_next _ _ n ps.master _ refl refl refl }
+
+-- Each act
+
+removed_drawn : (kind : Kind) (target : Id) (n : ℕ) (m : Master) → (removed_of kind target n m).drawn ≡ m.drawn
+removed_drawn Tablet target n m = refl
+removed_drawn _ target n m = refl
+
+acked_drawn : (kind : Kind) (operation : Id) (slot n : ℕ) (m : Master) → (acked_by kind operation slot n m).drawn ≡ m.drawn
+acked_drawn Snapshot operation slot n m = refl
+acked_drawn Restoration operation slot n m = refl
+acked_drawn Clone operation slot n m = refl
+acked_drawn _ operation slot n m = refl
+
+plain_drawn : (a : MasterAct) (n : ℕ) (m : Master) → is_weighty a ≡ false → (master_effect a n m).drawn ≡ m.drawn
+plain_drawn (MakesNamespace name) n m e = absurd (let q = e in grind arith)
+plain_drawn (DropsNamespace namespace) n m e = absurd (let q = e in grind arith)
+plain_drawn (MakesTable namespace name columns slots) n m e = absurd (let q = e in grind arith)
+plain_drawn (AddsColumn table name kind) n m e = absurd (let q = e in grind arith)
+plain_drawn (DropsColumn table column) n m e = absurd (let q = e in grind arith)
+plain_drawn (RenamesTable table name) n m e = absurd (let q = e in grind arith)
+plain_drawn (DropsTable table) n m e = absurd (let q = e in grind arith)
+plain_drawn (SplitsTablet parent code low_slot high_slot) n m e = absurd (let q = e in grind arith)
+plain_drawn (MakesSchedule namespace interval retention) n m e = absurd (let q = e in grind arith)
+plain_drawn (DeletesSchedule schedule) n m e = absurd (let q = e in grind arith)
+plain_drawn (TakesSnapshot schedule) n m e = absurd (let q = e in grind arith)
+plain_drawn (BeginsRestoration schedule to) n m e = absurd (let q = e in grind arith)
+plain_drawn (BeginsClone namespace source target to) n m e = absurd (let q = e in grind arith)
+plain_drawn (Moves operation) n m e = absurd (let q = e in grind arith)
+plain_drawn Prunes n m e = absurd (let q = e in grind arith)
+plain_drawn Ticks n m e = refl
+plain_drawn (Sends operation slot) n m e = refl
+plain_drawn (Acks operation slot) n m e = acked_drawn operation.kind operation slot n m
+plain_drawn (Unsends operation slot) n m e = refl
+plain_drawn (Removes target) n m e = removed_drawn target.kind target n m
+plain_drawn Restarts n m e = refl
+
+abbrev Turn : Act → ℕ → Parts → Type 0
+Turn act n ps = DrawsNext act (outcome act n ps).reply n ps.master (told act (outcome act n ps) n ps).master
+
+plain_told : (act : Act) (n : ℕ) (ps : Parts) → may_weigh act ≡ false → (told act (outcome act n ps) n ps).master.drawn ≡ ps.master.drawn
+plain_told act n ps e =
+    cond_both (has (slots_of act) 0) (master_effect (outcome act n ps).master n ps.master) ps.master (λ m. m.drawn ≡ ps.master.drawn) (λ touched. plain_drawn (outcome act n ps).master n ps.master (act_none act n ps e).none) (λ alone. refl)
+
+act_next : (act : Act) (slots n : ℕ) (ps : Parts) (activity : List Interval) (changes : List Made) → ActAsked slots act → ActCovered act → Inv ps activity changes → Turn act n ps
+unfolding change advance prune
+act_next (Change command plan) slots n ps activity changes asked covered inv = (by (same_slots plan (plan_of command ps.master)) refl).next
+  where
+    by : (b : Bool) → same_slots plan (plan_of command ps.master) ≡ b → Draws (Change command plan) n ps.master (judged (If (not (same_slots plan (plan_of command ps.master))) (StalePlan (plan_of command ps.master)) ∷ []) (planned command plan n ps))
+    by true e = rw e (planned_next command plan n ps activity changes asked.0 covered e inv)
+    by false e = rw e (refused_next command plan n ps.master (StalePlan (plan_of command ps.master)) covered)
+act_next (Advance operation) slots n ps activity changes asked covered inv = (kind_next operation.kind operation n ps activity changes refl covered inv).next
+act_next Prune slots n ps activity changes asked covered inv = none_next _ _ n ps.master _ refl refl refl
+act_next (Look ask) slots n ps activity changes asked covered inv = none_next _ _ n ps.master _ refl refl (plain_told (Look ask) n ps refl)
+act_next (Write place version batch) slots n ps activity changes asked covered inv = none_next _ _ n ps.master _ refl refl (plain_told (Write place version batch) n ps refl)
+act_next (Read places version key at columns) slots n ps activity changes asked covered inv = none_next _ _ n ps.master _ refl refl (plain_told (Read places version key at columns) n ps refl)
+act_next (Cutoff slot) slots n ps activity changes asked covered inv = none_next _ _ n ps.master _ refl refl (plain_told (Cutoff slot) n ps refl)
+act_next (Compact slot) slots n ps activity changes asked covered inv = none_next _ _ n ps.master _ refl refl (plain_told (Compact slot) n ps refl)
+act_next (Send operation slot) slots n ps activity changes asked covered inv = none_next _ _ n ps.master _ refl refl (plain_told (Send operation slot) n ps refl)
+act_next (Process slot other) slots n ps activity changes asked covered inv = none_next _ _ n ps.master _ refl refl (plain_told (Process slot other) n ps refl)
+act_next (Ack operation slot) slots n ps activity changes asked covered inv = none_next _ _ n ps.master _ refl refl (plain_told (Ack operation slot) n ps refl)
+act_next (Remove target plan) slots n ps activity changes asked covered inv = none_next _ _ n ps.master _ refl refl (plain_told (Remove target plan) n ps refl)
+act_next (Restart slot) slots n ps activity changes asked covered inv = none_next _ _ n ps.master _ refl refl (plain_told (Restart slot) n ps refl)
+act_next (Stats slot) slots n ps activity changes asked covered inv = none_next _ _ n ps.master _ refl refl (plain_told (Stats slot) n ps refl)
+
+pub drawn_in_turn : (history : List Entry) (slots : ℕ) → Legal slots history → Covered history → DrawsInTurn slots history
+unfolding replay
+drawn_in_turn [] slots legal covered = tt
+drawn_in_turn (e ∷ earlier) slots legal covered =
+    let ps = replay slots earlier in
+    let turn = act_next e.event.act slots e.stamp ps (activity_of slots earlier) (journal_of slots earlier) legal.1.asked.act covered.1 (legal_holds earlier slots legal.0 covered.0).inv in (
+      drawn_in_turn earlier slots legal.0 covered.0,
+      subst (λ reply. DrawsNext e.event.act reply e.stamp ps.master (told e.event.act (outcome e.event.act e.stamp ps) e.stamp ps).master) (sym legal.1.reply) turn,
+    )

@@ -1,0 +1,248 @@
+-- After each entry of a legal history the newest schemas go on from the journal's.
+use Rattle.std.proofs.Common.{◌≡◌, ℕ, ◌≤◌, List, [], ◌∷◌, Option, Some, None, false, refl, sym, ap, subst, ◌∙◌, arith, not, le_trans}
+use Rattle.std.specs.Prelude.{Result, Ok as Granted, Err as Denied}
+use Rattle.std.specs.Option.{option_map_or}
+use Rattle.std.proofs.lemmas.Bool.{cond_both}
+use Rattle.row_values.specs.Ids.{Id, Kind, Namespace, Table, Tablet, Schedule, Snapshot, Restoration, Clone}
+use Rattle.row_values.specs.Slots.{has, same_slots}
+use Rattle.row_values.specs.Schema.{first_schema}
+use Rattle.model.specs.Activity.{Interval}
+use Rattle.model.specs.Catalog.{TableRecord, kept_from}
+use Rattle.model.specs.Journal as made
+use Rattle.model.specs.Records.{Schedule as ScheduleRecord, RestorationRecord, RestorationState, Fencing, Snapshotting, Switching, Restoring, Releasing, Restored, SnapshotRecord, State, schedule_with, is_restored, first_unacked}
+use Rattle.model.specs.Acts.{Act, At, Look, Change, Write, Read, Cutoff, Compact, Send, Process, Ack, Advance, Remove, Prune, Restart, Stats, Command, CreateNamespace, DropNamespace, CreateTable, AddColumn, DropColumn, RenameTable, DropTable, Split, CreateSchedule, DeleteSchedule, TakeSnapshot, Restore, CloneNamespace, ListSchedules, ListSnapshots, ListRestorations, ListClones, ListTablets, Refusal, StalePlan, UnknownColumn, is_ok}
+use Rattle.model.specs.Parts.{Master, Parts, Outcome, MasterAct, Ticks, MakesNamespace, DropsNamespace, MakesTable, AddsColumn, DropsColumn, RenamesTable, DropsTable, SplitsTablet, MakesSchedule, DeletesSchedule, TakesSnapshot, BeginsRestoration, BeginsClone, Sends, Acks, Unsends, Moves, Removes, Prunes, Restarts, If, unless, refused, decided, refusal_in}
+use Rattle.model.specs.Changed.{next_namespace, next_table}
+use Rattle.model.specs.Changes.{change, planned, create_namespace, drop_namespace, create_table, add_column, add_column_checks, drop_column, column_of, found_column, unheld_checks, rename_table, rename_table_checks, drop_table, split, create_schedule, delete_schedule, take_snapshot, restore, list_tablets, judge_create_namespace, judge_drop_namespace, judge_create_table, judge_add_column, judge_drop_column, judge_rename_table, judge_drop_table, judge_split, judge_create_schedule, judge_delete_schedule, judge_take_snapshot, judge_restore}
+use Rattle.model.specs.Cleanup.{prune, removed_of}
+use Rattle.model.specs.Coordination.{unfinished_snapshot, unfinished_restoration, unfinished_clone, acked_by}
+use Rattle.model.specs.Drawn.{SchemasDrawn}
+use Rattle.model.specs.Entries.{Entry, slots_of}
+use Rattle.model.specs.History.{outcome, told, master_effect, replay, journal_of, activity_of, with_changes, rows_made, with_either, with_restoration, Legal}
+use Rattle.model.specs.Looks.{plan_of, found_namespace, found_table}
+use Rattle.model.specs.Moves.{Progress, advance, advancing, moving, moved_of, progress_of, waits_for, with_own_snapshot, completed, restoration_moved}
+use Rattle.law_invariants.specs.Invariant.{Inv, TablesStand}
+use Rattle.law_invariants.proofs.Cataloguing.{table_is}
+use Rattle.law_invariants.proofs.Judging.{and_found_is, checked_is}
+use Rattle.law_changes.proofs.Schemas.{column_found}
+use Rattle.row_values.specs.declared.value.Item.{Item}
+use Rattle.law_moves.proofs.Advancing.{no_restoration, no_clone}
+use Rattle.law_moves.proofs.Pending.{unfinished_restoration_is}
+use Rattle.law_moves.proofs.Serving.{floor_restores}
+use Rattle.law.specs.Covering.{ActCovered, AdvanceCovered, CommandCovered, Covered}
+use Rattle.law.proofs.Plain.{is_weighty, may_weigh, act_none}
+use Rattle.law.proofs.Schemas.{SchemasStand, namespace_changed, namespace_ended, rows_changed, table_made, column_added, column_dropped, table_renamed, table_dropped, tables_pruned, tables_restored}
+use Rattle.law.proofs.Law.{legal_holds}
+
+abbrev Stand : Master → List made.Change → Type 0
+Stand m changes = SchemasStand m.catalog.tables changes
+
+-- an outcome by which the schemas go on
+record GoesOn (act : Act) (n : ℕ) (ps : Parts) (changes : List made.Change) (o : Outcome) : Type 0 where
+  stand : Stand (master_effect o.master n ps.master) (with_changes act o n ps changes)
+
+-- Commands
+
+refused_go : (command : Command) (slots : List ℕ) (n : ℕ) (ps : Parts) (changes : List made.Change) (why : Refusal) → Stand ps.master changes → GoesOn (Change command slots) n ps changes (refused why)
+refused_go command slots n ps changes why h = record { stand = h }
+
+unless_go : (refusal : Option Refusal) (command : Command) (slots : List ℕ) (n : ℕ) (ps : Parts) (changes : List made.Change) (o : Outcome) → Stand ps.master changes → GoesOn (Change command slots) n ps changes o
+    → GoesOn (Change command slots) n ps changes (unless refusal o)
+unless_go (Some why) command slots n ps changes o h go = refused_go command slots n ps changes why h
+unless_go None command slots n ps changes o h go = go
+
+decided_go : {A : Type 0} (judgement : Result A Refusal) (go : A → Outcome) (command : Command) (slots : List ℕ) (n : ℕ) (ps : Parts) (changes : List made.Change) → Stand ps.master changes → ((a : A) → judgement ≡ Granted a → GoesOn (Change command slots) n ps changes (go a))
+    → GoesOn (Change command slots) n ps changes (decided judgement go)
+decided_go (Denied why) go command slots n ps changes h accepted = refused_go command slots n ps changes why h
+decided_go (Granted a) go command slots n ps changes h accepted = accepted a refl
+
+planned_go : (command : Command) (slots : List ℕ) (n : ℕ) (ps : Parts) (activity : List Interval) (changes : List made.Change) → CommandCovered command → Inv ps activity changes → Stand ps.master changes
+    → GoesOn (Change command slots) n ps changes (planned command slots n ps)
+unfolding create_namespace drop_namespace create_table add_column drop_column rename_table drop_table split create_schedule delete_schedule take_snapshot restore list_tablets
+planned_go (CreateNamespace name) slots n ps activity changes covered inv h =
+    decided_go (judge_create_namespace name ps.master) _ (CreateNamespace name) slots n ps changes h (λ id e. record { stand = namespace_changed ps.master.catalog.tables changes n (next_namespace ps.master) name h })
+planned_go (DropNamespace name) slots n ps activity changes covered inv h =
+    decided_go (judge_drop_namespace name ps.master) _ (DropNamespace name) slots n ps changes h (λ ns e. record { stand = namespace_ended ps.master.catalog.tables changes n ns h })
+planned_go (CreateTable namespace table tablets columns) slots n ps activity changes covered inv h =
+    decided_go (judge_create_table namespace table tablets ps.master) _ (CreateTable namespace table tablets columns) slots n ps changes h (λ ns e. record { stand = table_made ps.master.catalog.tables changes n (record { id = next_table ps.master; namespace = ns; name = table; schema = first_schema columns; from = n; to = None }) columns refl h })
+planned_go (AddColumn namespace table name kind) slots n ps activity changes covered inv h =
+    let m = ps.master in
+    decided_go (judge_add_column namespace table name m) _ (AddColumn namespace table name kind) slots n ps changes h
+    (λ t e.
+    let is = table_is m namespace table t (checked_is (found_table m namespace table) (λ t. add_column_checks t name m) t e).0 in
+    record { stand = column_added m.catalog.tables changes n t name kind inv.master.tables.rise is.listed is.current h })
+planned_go (DropColumn namespace table name) slots n ps activity changes covered inv h =
+    let m = ps.master in
+    decided_go (judge_drop_column namespace table name m) _ (DropColumn namespace table name) slots n ps changes h
+    (λ c e.
+    let found = and_found_is (found_table m namespace table) (column_of name) UnknownColumn c (checked_is (found_column m namespace table name) (λ c. unheld_checks c.table.namespace m) c e).0 in
+    let is = table_is m namespace table c.table (found.1.0 ∙ ap Granted (sym (column_found found.0 name c found.1.1).0)) in
+    record { stand = column_dropped m.catalog.tables changes n c.table c.column.name c.column.id inv.master.tables.rise is.listed is.current h })
+planned_go (RenameTable namespace table name) slots n ps activity changes covered inv h =
+    let m = ps.master in
+    decided_go (judge_rename_table namespace table name m) _ (RenameTable namespace table name) slots n ps changes h
+    (λ t e.
+    let is = table_is m namespace table t (checked_is (found_table m namespace table) (λ t. rename_table_checks t name m) t e).0 in
+    record { stand = table_renamed m.catalog.tables changes n t name inv.master.tables.rise is.listed is.current h })
+planned_go (DropTable namespace table) slots n ps activity changes covered inv h =
+    decided_go (judge_drop_table namespace table ps.master) _ (DropTable namespace table) slots n ps changes h (λ t e. record { stand = table_dropped ps.master.catalog.tables changes n t.id h })
+planned_go (Split namespace table code) slots n ps activity changes covered inv h =
+    decided_go (judge_split namespace table code ps.master) _ (Split namespace table code) slots n ps changes h (λ f e. record { stand = h })
+planned_go (CreateSchedule interval retention namespace) slots n ps activity changes covered inv h =
+    decided_go (judge_create_schedule interval retention namespace ps.master) _ (CreateSchedule interval retention namespace) slots n ps changes h (λ ns e. record { stand = h })
+planned_go (DeleteSchedule schedule) slots n ps activity changes covered inv h =
+    decided_go (judge_delete_schedule schedule ps.master) _ (DeleteSchedule schedule) slots n ps changes h (λ s e. record { stand = h })
+planned_go (TakeSnapshot schedule) slots n ps activity changes covered inv h =
+    decided_go (judge_take_snapshot schedule n ps.master) _ (TakeSnapshot schedule) slots n ps changes h (λ s e. record { stand = h })
+planned_go (Restore schedule to) slots n ps activity changes covered inv h =
+    decided_go (judge_restore schedule to n ps.master) _ (Restore schedule to) slots n ps changes h (λ s e. record { stand = h })
+planned_go (CloneNamespace source target to) slots n ps activity changes covered inv h = absurd covered
+planned_go ListSchedules slots n ps activity changes covered inv h = record { stand = h }
+planned_go ListSnapshots slots n ps activity changes covered inv h = record { stand = h }
+planned_go ListRestorations slots n ps activity changes covered inv h = record { stand = h }
+planned_go ListClones slots n ps activity changes covered inv h = record { stand = h }
+planned_go (ListTablets namespace) slots n ps activity changes covered inv h =
+    decided_go (found_namespace ps.master namespace) _ (ListTablets namespace) slots n ps changes h (λ ns e. record { stand = h })
+
+-- Acts that leave the tables
+
+removed_tables : (kind : Kind) (target : Id) (n : ℕ) (m : Master) → (removed_of kind target n m).catalog.tables ≡ m.catalog.tables
+removed_tables Tablet target n m = refl
+removed_tables _ target n m = refl
+
+acked_tables : (kind : Kind) (operation : Id) (slot n : ℕ) (m : Master) → (acked_by kind operation slot n m).catalog.tables ≡ m.catalog.tables
+acked_tables Snapshot operation slot n m = refl
+acked_tables Restoration operation slot n m = refl
+acked_tables Clone operation slot n m = refl
+acked_tables _ operation slot n m = refl
+
+plain_tables : (a : MasterAct) (n : ℕ) (m : Master) → is_weighty a ≡ false → (master_effect a n m).catalog.tables ≡ m.catalog.tables
+plain_tables (MakesNamespace name) n m e = absurd (let q = e in grind arith)
+plain_tables (DropsNamespace namespace) n m e = absurd (let q = e in grind arith)
+plain_tables (MakesTable namespace name columns slots) n m e = absurd (let q = e in grind arith)
+plain_tables (AddsColumn table name kind) n m e = absurd (let q = e in grind arith)
+plain_tables (DropsColumn table column) n m e = absurd (let q = e in grind arith)
+plain_tables (RenamesTable table name) n m e = absurd (let q = e in grind arith)
+plain_tables (DropsTable table) n m e = absurd (let q = e in grind arith)
+plain_tables (SplitsTablet parent code low_slot high_slot) n m e = absurd (let q = e in grind arith)
+plain_tables (MakesSchedule namespace interval retention) n m e = absurd (let q = e in grind arith)
+plain_tables (DeletesSchedule schedule) n m e = absurd (let q = e in grind arith)
+plain_tables (TakesSnapshot schedule) n m e = absurd (let q = e in grind arith)
+plain_tables (BeginsRestoration schedule to) n m e = absurd (let q = e in grind arith)
+plain_tables (BeginsClone namespace source target to) n m e = absurd (let q = e in grind arith)
+plain_tables (Moves operation) n m e = absurd (let q = e in grind arith)
+plain_tables Prunes n m e = absurd (let q = e in grind arith)
+plain_tables Ticks n m e = refl
+plain_tables (Sends operation slot) n m e = refl
+plain_tables (Acks operation slot) n m e = acked_tables operation.kind operation slot n m
+plain_tables (Unsends operation slot) n m e = refl
+plain_tables (Removes target) n m e = removed_tables target.kind target n m
+plain_tables Restarts n m e = refl
+
+-- after an act: the schemas of the parts that it leaves, and the journal with its changes
+abbrev Left : Act → ℕ → Parts → List made.Change → Type 0
+Left act n ps changes = SchemasStand (told act (outcome act n ps) n ps).master.catalog.tables (with_changes act (outcome act n ps) n ps changes)
+
+plain_left : (act : Act) (n : ℕ) (ps : Parts) (changes : List made.Change) → may_weigh act ≡ false → Stand ps.master changes → SchemasStand (told act (outcome act n ps) n ps).master.catalog.tables changes
+plain_left act n ps changes e h =
+    cond_both (has (slots_of act) 0) (master_effect (outcome act n ps).master n ps.master) ps.master (λ m. Stand m changes)
+    (λ touched. subst (λ rs. SchemasStand rs changes) (sym (plain_tables (outcome act n ps).master n ps.master (act_none act n ps e).none)) h)
+    (λ alone. h)
+
+written : (o : Outcome) (place : At) (version : ℕ) (batch : List Item) (n : ℕ) (ps : Parts) (rs : List TableRecord) (changes : List made.Change) → SchemasStand rs changes → SchemasStand rs (with_changes (Write place version batch) o n ps changes)
+written o place version batch n ps rs changes h =
+    cond_both (is_ok o.reply) (rows_made n (ps.tablet place.slot).table batch changes) changes (SchemasStand rs) (λ e. rows_changed batch rs changes n (ps.tablet place.slot).table h) (λ e. h)
+
+-- Moves
+
+own_tables : (s : Option ScheduleRecord) (n : ℕ) (m : Master) → (with_own_snapshot s n m).catalog.tables ≡ m.catalog.tables
+own_tables None n m = refl
+own_tables (Some s) n m = refl
+
+state_go : (state : RestorationState) (r : RestorationRecord) (n : ℕ) (m : Master) (changes : List made.Change) → TablesStand m.catalog m.clock m.drawn.tables changes → (is_restored state ≡ false → kept_from m.catalog.kept_from r.namespace ≤ r.to) → Stand m changes
+    → Stand (restoration_moved state r n m) (with_restoration state r changes)
+state_go Fencing r n m changes tables known h = subst (λ rs. SchemasStand rs changes) (sym (own_tables (schedule_with m.schedules r.schedule) n m)) h
+state_go (Snapshotting point own) r n m changes tables known h = h
+state_go (Switching point serving) r n m changes tables known h = tables_restored m changes r.namespace r.to point tables (known refl) h
+state_go (Restoring point serving) r n m changes tables known h = h
+state_go (Releasing point serving) r n m changes tables known h = h
+state_go (Restored point serving) r n m changes tables known h = h
+
+restoration_go : (found : Option RestorationRecord) (n : ℕ) (ps : Parts) (activity : List Interval) (changes : List made.Change) (operation : Id) → unfinished_restoration ps.master.restorations operation ≡ found → Inv ps activity changes → Stand ps.master changes
+    → Stand (option_map_or (λ r. restoration_moved r.state r n ps.master) found (record ps.master { clock = n })) (with_either found None n changes)
+restoration_go None n ps activity changes operation e inv h = h
+restoration_go (Some r) n ps activity changes operation e inv h =
+    let is = unfinished_restoration_is ps.master.restorations operation r e in
+    state_go r.state r n ps.master changes inv.master.tables (λ unfinished. le_trans (inv.operations.kept r.namespace) (floor_restores ps.master changes r inv.operations is.0 unfinished)) h
+
+snapshot_go : (found : Option SnapshotRecord) (n : ℕ) (m : Master) (changes : List made.Change) → Stand m changes → Stand (option_map_or (λ r. completed r n m) found (record m { clock = n })) changes
+snapshot_go None n m changes h = h
+snapshot_go (Some r) n m changes h = h
+
+-- an operation that is none of the kind makes no change
+quiet_go : (n : ℕ) (ps : Parts) (activity : List Interval) (changes : List made.Change) (operation : Id) (rs : List TableRecord) → (operation.kind ≡ Restoration → ⊥) → (operation.kind ≡ Clone → ⊥) → Inv ps activity changes → SchemasStand rs changes
+    → SchemasStand rs (with_either (unfinished_restoration ps.master.restorations operation) (unfinished_clone ps.master.clones operation) n changes)
+quiet_go n ps activity changes operation rs apart other inv h =
+    subst (λ r. SchemasStand rs (with_either r (unfinished_clone ps.master.clones operation) n changes)) (sym (no_restoration ps.master changes operation inv.operations apart))
+    (subst (λ c. SchemasStand rs (with_either None c n changes)) (sym (no_clone ps.master changes operation inv.operations other)) h)
+
+kind_go : (kind : Kind) (n : ℕ) (ps : Parts) (activity : List Interval) (changes : List made.Change) (operation : Id) → operation.kind ≡ kind → AdvanceCovered kind → Inv ps activity changes → Stand ps.master changes
+    → Stand (moved_of kind operation n ps.master) (with_either (unfinished_restoration ps.master.restorations operation) (unfinished_clone ps.master.clones operation) n changes)
+kind_go Clone n ps activity changes operation is covered inv h = absurd covered
+kind_go Restoration n ps activity changes operation is covered inv h =
+    subst (λ c. Stand (moved_of Restoration operation n ps.master) (with_either (unfinished_restoration ps.master.restorations operation) c n changes)) (sym (no_clone ps.master changes operation inv.operations (λ q. let e = sym is ∙ q in grind arith)))
+    (restoration_go (unfinished_restoration ps.master.restorations operation) n ps activity changes operation refl inv h)
+kind_go Snapshot n ps activity changes operation is covered inv h =
+    quiet_go n ps activity changes operation _ (λ q. let e = sym is ∙ q in grind arith) (λ q. let e = sym is ∙ q in grind arith) inv (snapshot_go (unfinished_snapshot ps.master.snapshots operation) n ps.master changes h)
+kind_go Namespace n ps activity changes operation is covered inv h = quiet_go n ps activity changes operation _ (λ q. let e = sym is ∙ q in grind arith) (λ q. let e = sym is ∙ q in grind arith) inv h
+kind_go Table n ps activity changes operation is covered inv h = quiet_go n ps activity changes operation _ (λ q. let e = sym is ∙ q in grind arith) (λ q. let e = sym is ∙ q in grind arith) inv h
+kind_go Tablet n ps activity changes operation is covered inv h = quiet_go n ps activity changes operation _ (λ q. let e = sym is ∙ q in grind arith) (λ q. let e = sym is ∙ q in grind arith) inv h
+kind_go Schedule n ps activity changes operation is covered inv h = quiet_go n ps activity changes operation _ (λ q. let e = sym is ∙ q in grind arith) (λ q. let e = sym is ∙ q in grind arith) inv h
+
+moving_go : (awaited : Option Id) (operation : Id) (next : State) (n : ℕ) (ps : Parts) (changes : List made.Change) → Stand ps.master changes
+    → Stand (moved_of operation.kind operation n ps.master) (with_either (unfinished_restoration ps.master.restorations operation) (unfinished_clone ps.master.clones operation) n changes)
+    → GoesOn (Advance operation) n ps changes (moving awaited operation next)
+moving_go None operation next n ps changes h moved = record { stand = moved }
+moving_go (Some on) operation next n ps changes h moved = record { stand = h }
+
+advancing_go : (p : Option Progress) (operation : Id) (n : ℕ) (ps : Parts) (changes : List made.Change) → Stand ps.master changes
+    → Stand (moved_of operation.kind operation n ps.master) (with_either (unfinished_restoration ps.master.restorations operation) (unfinished_clone ps.master.clones operation) n changes)
+    → GoesOn (Advance operation) n ps changes (advancing p operation)
+advancing_go None operation n ps changes h moved = record { stand = h }
+advancing_go (Some p) operation n ps changes h moved = moving_go (waits_for (first_unacked p.listed) p.awaited) operation p.next n ps changes h moved
+
+-- Each act
+
+act_left : (act : Act) (n : ℕ) (ps : Parts) (activity : List Interval) (changes : List made.Change) → ActCovered act → Inv ps activity changes → Stand ps.master changes → Left act n ps changes
+unfolding change advance prune
+act_left (Change command slots) n ps activity changes covered inv h =
+    (unless_go (refusal_in (If (not (same_slots slots (plan_of command ps.master))) (StalePlan (plan_of command ps.master)) ∷ [])) command slots n ps changes (planned command slots n ps) h
+    (planned_go command slots n ps activity changes covered inv h)).stand
+act_left (Advance operation) n ps activity changes covered inv h =
+    (advancing_go (progress_of operation.kind ps.master operation) operation n ps changes h (kind_go operation.kind n ps activity changes operation refl covered inv h)).stand
+act_left Prune n ps activity changes covered inv h = tables_pruned ps.master n changes inv.master.tables h
+act_left (Write place version batch) n ps activity changes covered inv h =
+    written (outcome (Write place version batch) n ps) place version batch n ps _ changes (plain_left (Write place version batch) n ps changes refl h)
+act_left (Look ask) n ps activity changes covered inv h = plain_left (Look ask) n ps changes refl h
+act_left (Read places version key at columns) n ps activity changes covered inv h = plain_left (Read places version key at columns) n ps changes refl h
+act_left (Cutoff slot) n ps activity changes covered inv h = plain_left (Cutoff slot) n ps changes refl h
+act_left (Compact slot) n ps activity changes covered inv h = plain_left (Compact slot) n ps changes refl h
+act_left (Send operation slot) n ps activity changes covered inv h = plain_left (Send operation slot) n ps changes refl h
+act_left (Process slot other) n ps activity changes covered inv h = plain_left (Process slot other) n ps changes refl h
+act_left (Ack operation slot) n ps activity changes covered inv h = plain_left (Ack operation slot) n ps changes refl h
+act_left (Remove target slots) n ps activity changes covered inv h = plain_left (Remove target slots) n ps changes refl h
+act_left (Restart slot) n ps activity changes covered inv h = plain_left (Restart slot) n ps changes refl h
+act_left (Stats slot) n ps activity changes covered inv h = plain_left (Stats slot) n ps changes refl h
+
+all_stand : (history : List Entry) (slots : ℕ) → Legal slots history → Covered history → Stand (replay slots history).master (journal_of slots history)
+unfolding replay journal_of
+all_stand [] slots legal covered = record { columns = tt; newest = λ table s e. absurd (let q = e in grind arith) }
+all_stand (e ∷ earlier) slots legal covered =
+    let ps = replay slots earlier in
+    let changes = journal_of slots earlier in
+    act_left e.event.act e.stamp ps (activity_of slots earlier) changes covered.1 (legal_holds earlier slots legal.0 covered.0).inv (all_stand earlier slots legal.0 covered.0)
+
+pub schemas_drawn : (history : List Entry) (slots : ℕ) → Legal slots history → Covered history → SchemasDrawn (replay slots history).master (journal_of slots history)
+schemas_drawn history slots legal covered =
+    let h = all_stand history slots legal covered in
+    record { columns = h.columns; next = λ table s e. (h.newest table s e).next; version = λ table s e. (h.newest table s e).version }

@@ -1,0 +1,130 @@
+-- Acts by which the master is told no command, to move no record and not to prune.
+use Rattle.std.proofs.Common.{◌≡◌, ℕ, Bool, true, false, List, [], ◌∷◌, Option, Some, None, refl, arith, eqb, Result, Ok, Err}
+use Rattle.std.proofs.lemmas.Bool.{cond_both}
+use Rattle.row_values.specs.Ids.{Id, Kind, Namespace, Table, Tablet, Schedule, Snapshot, Restoration, Clone}
+use Rattle.model.specs.Records.{Listed, snapshot_with, SnapshotRecord}
+use Rattle.model.specs.Acts.{Act, Ask, AskPlan, AskKeys, AskTable, AskWork, AskRemovable, AskPresent, Look, Change, Write, Read, Cutoff, Compact, Send, Process, Ack, Advance, Remove, Prune, Restart, Stats, Refusal}
+use Rattle.model.specs.Parts.{Master, Parts, Outcome, MasterAct, Ticks, MakesNamespace, DropsNamespace, MakesTable, AddsColumn, DropsColumn, RenamesTable, DropsTable, SplitsTablet, MakesSchedule, DeletesSchedule, TakesSnapshot, BeginsRestoration, BeginsClone, Sends, Acks, Unsends, Moves, Removes, Prunes, Restarts, unless, decided}
+use Rattle.model.specs.History.{outcome, look}
+use Rattle.model.specs.Activity.{Interval, last_of}
+use Rattle.model.specs.Tablets.{Tablet as TabletPart, Command as TabletCommand, kind_of, is_done}
+use Rattle.model.specs.Looks.{look_plan, look_keys, look_table, look_present, found_at, judge_keys}
+use Rattle.model.specs.RowActs.{write, read, cutoff, compact, stats, restart}
+use Rattle.model.specs.Coordination.{send, sending, pending, process, processing, ack, acknowledging}
+use Rattle.model.specs.Cleanup.{remove, removing, removing_tablet, removing_snapshot}
+
+-- What the master is told
+
+-- whether it is told a command, to move a record or to prune
+abbrev pub is_weighty : MasterAct → Bool
+is_weighty (MakesNamespace name) = true
+is_weighty (DropsNamespace namespace) = true
+is_weighty (MakesTable namespace name columns slots) = true
+is_weighty (AddsColumn table name kind) = true
+is_weighty (DropsColumn table column) = true
+is_weighty (RenamesTable table name) = true
+is_weighty (DropsTable table) = true
+is_weighty (SplitsTablet parent code low_slot high_slot) = true
+is_weighty (MakesSchedule namespace interval retention) = true
+is_weighty (DeletesSchedule schedule) = true
+is_weighty (TakesSnapshot schedule) = true
+is_weighty (BeginsRestoration schedule to) = true
+is_weighty (BeginsClone namespace source target to) = true
+is_weighty Ticks = false
+is_weighty (Sends operation slot) = false
+is_weighty (Acks operation slot) = false
+is_weighty (Unsends operation slot) = false
+is_weighty (Moves operation) = true
+is_weighty (Removes target) = false
+is_weighty Prunes = true
+is_weighty Restarts = false
+
+-- an outcome by which the master is told none of that
+pub record IsPlain (o : Outcome) : Type 0 where
+  pub none : is_weighty o.master ≡ false
+
+-- the refusal, or the outcome, is plain where the outcome is
+unless_none : (refusal : Option Refusal) (o : Outcome) → IsPlain o → IsPlain (unless refusal o)
+unless_none (Some why) o e = record { none = refl }
+unless_none None o e = e
+
+decided_none : {A : Type 0} (judgement : Result A Refusal) (go : A → Outcome) → ((a : A) → IsPlain (go a)) → IsPlain (decided judgement go)
+decided_none (Err why) go plain = record { none = refl }
+decided_none (Ok a) go plain = plain a
+
+look_none : (ask : Ask) (n : ℕ) (m : Master) → IsPlain (look ask n m)
+unfolding look_plan look_keys look_table look_present
+look_none (AskPlan command) n m = record { none = refl }
+look_none (AskKeys namespace table batch at) n m = decided_none (judge_keys namespace table batch at n m) _ (λ t. record { none = refl })
+look_none (AskTable namespace table at) n m = decided_none (found_at namespace table at n m) _ (λ t. record { none = refl })
+look_none AskWork n m = record { none = refl }
+look_none AskRemovable n m = record { none = refl }
+look_none AskPresent n m = record { none = refl }
+
+sending_none : (found : Option Listed) (operation : Id) (slot : ℕ) → IsPlain (sending found operation slot)
+sending_none None operation slot = record { none = refl }
+sending_none (Some l) operation slot = record { none = refl }
+
+processing_none : (inbox : List TabletCommand) (slot other : ℕ) (source : TabletPart) → IsPlain (processing inbox slot other source)
+processing_none [] slot other source = record { none = refl }
+processing_none (c ∷ cs) slot other source = search (unless_none)
+
+acknowledging_none : (found : Option Listed) (operation : Id) (slot : ℕ) (t : TabletPart) → IsPlain (acknowledging found operation slot t)
+acknowledging_none None operation slot t = record { none = refl }
+acknowledging_none (Some l) operation slot t =
+    cond_both (is_done t.done operation (kind_of l.body)) _ _ IsPlain (λ e. record { none = refl }) (λ e. record { none = refl })
+
+removing_tablet_none : (i : Option Interval) (target : Id) (slots : List ℕ) (n : ℕ) (ps : Parts) → IsPlain (removing_tablet i target slots n ps)
+removing_tablet_none None target slots n ps = search (unless_none)
+removing_tablet_none (Some i) target slots n ps = search (unless_none)
+
+removing_snapshot_none : (r : Option SnapshotRecord) (target : Id) (slots : List ℕ) (n : ℕ) (ps : Parts) → IsPlain (removing_snapshot r target slots n ps)
+removing_snapshot_none None target slots n ps = search (unless_none)
+removing_snapshot_none (Some r) target slots n ps = search (unless_none)
+
+removing_none : (kind : Kind) (target : Id) (slots : List ℕ) (n : ℕ) (ps : Parts) → IsPlain (removing kind target slots n ps)
+removing_none Tablet target slots n ps = removing_tablet_none (last_of ps.master.activity target) target slots n ps
+removing_none Snapshot target slots n ps = removing_snapshot_none (snapshot_with ps.master.snapshots target) target slots n ps
+removing_none Namespace target slots n ps = search (unless_none)
+removing_none Table target slots n ps = search (unless_none)
+removing_none Schedule target slots n ps = search (unless_none)
+removing_none Restoration target slots n ps = search (unless_none)
+removing_none Clone target slots n ps = search (unless_none)
+
+restart_none : (slot n : ℕ) (ps : Parts) → IsPlain (restart slot n ps)
+unfolding restart
+restart_none slot n ps = cond_both (eqb slot 0) _ _ IsPlain (λ e. record { none = refl }) (λ e. record { none = refl })
+
+-- whether an act may tell the master any of that
+abbrev pub may_weigh : Act → Bool
+may_weigh (Change command slots) = true
+may_weigh (Look ask) = false
+may_weigh (Write place version batch) = false
+may_weigh (Read places version key at columns) = false
+may_weigh (Cutoff slot) = false
+may_weigh (Compact slot) = false
+may_weigh (Send operation slot) = false
+may_weigh (Process slot other) = false
+may_weigh (Ack operation slot) = false
+may_weigh (Advance operation) = true
+may_weigh (Remove target slots) = false
+may_weigh Prune = true
+may_weigh (Restart slot) = false
+may_weigh (Stats slot) = false
+
+pub act_none : (act : Act) (n : ℕ) (ps : Parts) → may_weigh act ≡ false → IsPlain (outcome act n ps)
+unfolding write read cutoff compact stats send process ack remove
+act_none (Change command slots) n ps e = absurd (let q = e in grind arith)
+act_none (Look ask) n ps e = look_none ask n ps.master
+act_none (Write place version batch) n ps e = search (unless_none)
+act_none (Read places version key at columns) n ps e = search (unless_none)
+act_none (Cutoff slot) n ps e = search (unless_none)
+act_none (Compact slot) n ps e = search (unless_none)
+act_none (Send operation slot) n ps e = sending_none (pending ps.master operation slot) operation slot
+act_none (Process slot other) n ps e = processing_none (ps.tablet slot).inbox slot other (ps.tablet other)
+act_none (Ack operation slot) n ps e = acknowledging_none (pending ps.master operation slot) operation slot (ps.tablet slot)
+act_none (Advance operation) n ps e = absurd (let q = e in grind arith)
+act_none (Remove target slots) n ps e = removing_none target.kind target slots n ps
+act_none Prune n ps e = absurd (let q = e in grind arith)
+act_none (Restart slot) n ps e = restart_none slot n ps
+act_none (Stats slot) n ps e = record { none = refl }

@@ -1,0 +1,15 @@
+-- Each entry draws few, the master's log has room for so many, and each change of a table takes the next numbers.
+use Rattle.law.proofs.Drawing.{drawn_within, drawn_below}
+use Rattle.law.proofs.InTurn.{drawn_in_turn}
+use Rattle.law.proofs.Numbering.{schemas_drawn}
+use Rattle.law.proofs.Taking.{as_taken}
+use Rattle.law.proofs.numbers_are_drawn.Goals as goal
+
+pub returns : goal.returns
+returns c = record {
+  drawn = λ slots history legal covered. drawn_in_turn history slots legal covered;
+  within = λ slots history legal covered. drawn_within history slots legal covered;
+  below = λ slots history legal covered. drawn_below history slots legal covered;
+  taken = λ slots history. as_taken history slots;
+  schemas = λ slots history legal covered. schemas_drawn history slots legal covered;
+}

@@ -1,5 +1,5 @@
 -- The moves of a restoration before its switch and after it.
-use Rattle.std.proofs.Common.{ℕ, ◌≡◌, ◌≤◌, ◌<◌, List, [], ◌∷◌, map, Option, Some, None, true, false, cond, ◌&&◌, ◌||◌, ◌⊎◌, inl, inr, refl, sym, ap, subst, ◌∙◌, arith, not, eqb, eqb-true, le_trans, le_refl, le_of_lt}
+use Rattle.std.proofs.Common.{ℕ, ◌≡◌, ◌≤◌, ◌<◌, List, [], ◌∷◌, map, Option, Some, None, true, false, cond, ◌&&◌, ◌||◌, ◌⊎◌, inl, inr, refl, sym, ap, subst, ◌∙◌, arith, not, le_trans, le_refl, le_of_lt}
 use Rattle.std.specs.List.{list_any}
 use Rattle.std.specs.Option.{option_map, option_or}
 use Rattle.std.proofs.lemmas.Bool.{true≢false}
@@ -7,7 +7,7 @@ use Rattle.row_values.specs.Ids.{Id, same}
 use Rattle.row_values.specs.Elements.{In}
 use Rattle.model.specs.Activity.{Interval}
 use Rattle.model.specs.Journal.{Change}
-use Rattle.model.specs.Tablets.{Body, Fence, Freeze, RestoreFrom, Hide, Copy, Release, BodyKind, FenceKind, FreezeKind, RestoreFromKind, HideKind, CopyKind, ReleaseKind, same_body, Mark, is_mark, is_done, kind_of}
+use Rattle.model.specs.Tablets.{Body, Fence, Freeze, RestoreFrom, Hide, Copy, Release, BodyKind, RestoreFromKind, HideKind, ReleaseKind, same_body, Mark, is_mark, is_done, kind_of}
 use Rattle.model.specs.Records.{Listed, Schedule, RestorationRecord, RestorationState, Restoring, Releasing, Restored, CloneRecord, is_restored, point_of, schedule_of}
 use Rattle.model.specs.Schedules.{floor, low}
 use Rattle.model.specs.Stands.{awaited_of, is_restore}

@@ -61,7 +61,7 @@ below_greatest (s ∷ ss) ps a slot is = either_way (eqb s slot)
     (λ e. subst (λ k. clock_at ps k ≤ fold max (max a (clock_at ps s)) (map (clock_at ps) ss)) (eqb-true s slot e) (le_trans (omega arith) (rises (map (clock_at ps) ss) (max a (clock_at ps s)))))
     (λ e. below_greatest ss ps (max a (clock_at ps s)) slot (rw e at is))
 
-stamps_later : (e : Entry) (ps : Parts) → e.stamp ≡ stamp_of e.event ps → Later (slots_of e.event.act) ps e.stamp
+pub stamps_later : (e : Entry) (ps : Parts) → e.stamp ≡ stamp_of e.event ps → Later (slots_of e.event.act) ps e.stamp
 stamps_later e ps is = λ slot touched. let l = below_greatest (slots_of e.event.act) ps 0 slot touched in omega arith
 
 -- what a legal history leaves, and that it is right

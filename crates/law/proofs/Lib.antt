@@ -16,3 +16,5 @@ pub mod Numbering
 pub mod InTurn
 pub mod Taking
 pub mod Plain
+pub mod Fixing
+pub mod Fixed

@@ -2,6 +2,7 @@
 use Rattle.law.proofs.Law.{legal_holds}
 use Rattle.law.proofs.Standing.{all_stand}
 use Rattle.law.proofs.Recording.{all_recorded}
+use Rattle.law.proofs.Fixed.{fixed_stays}
 use Rattle.law.proofs.legal_is_right.Goals as goal
 
 pub returns : goal.returns
@@ -11,4 +12,5 @@ returns c = record {
   stands = λ slots history legal covered. all_stand _ _ _ (legal_holds history slots legal covered).inv;
   facts = λ slots history legal covered. all_recorded _ _ _ (legal_holds history slots legal covered).inv;
   cover = λ slots history legal covered. let cover = (legal_holds history slots legal covered).inv.cover in λ table code x below there. cover.whole table code x below there;
+  fixed = λ slots history legal covered. fixed_stays history slots legal covered;
 }

@@ -1,0 +1,234 @@
+-- After each entry of a legal history what its restores fixed is as it was, and nothing came too late for it.
+use Rattle.std.proofs.Common.{ℕ, ◌≡◌, ◌≤◌, ◌<◌, List, [], ◌∷◌, Option, Some, None, true, false, not, refl, sym, ap, subst, ◌∙◌, arith, le_refl, eqb, Bool}
+use Rattle.std.specs.Option.{is_some}
+use Rattle.std.proofs.lemmas.Bool.{true≢false}
+use Rattle.std.proofs.lemmas.Bool.Decides.{nat_tests}
+use Rattle.row_values.specs.Slots.{has}
+use Rattle.row_values.specs.declared.value.Item.{Item}
+use Rattle.row_values.specs.Ids.{Id, same}
+use Rattle.row_values.specs.Schema.{numbered}
+use Rattle.model.specs.Catalog.{Owner, is_owned_by, owner_of}
+use Rattle.model.specs.Activity.{Interval}
+use Rattle.model.specs.Tablets.{Tablet, Write as WriteRows, is_serving, serves}
+use Rattle.model.specs.Records.{RestorationRecord, RestorationState, Switching, CloneRecord, first_unacked}
+use Rattle.std.specs.Prelude.{Result, Ok, Err, if◌then◌else◌}
+use Rattle.model.specs.Acts.{ListSchedules, ListSnapshots, ListRestorations, ListClones, ListTablets, Split, CreateSchedule, DeleteSchedule, TakeSnapshot, Restore, CloneNamespace, is_ok, StaleSchema, Fenced, At, Command, CreateNamespace, DropNamespace, CreateTable, AddColumn, DropColumn, RenameTable, DropTable, Act, Change, Write, Advance, Ok, Refusal, Ok as ReplyOk}
+use Rattle.model.specs.Journal as made
+use Rattle.model.specs.Journal.{ChangeAct, TableView, table_at, owner_in}
+use Rattle.model.specs.Parts.{Master, Parts, MasterAct, MakesNamespace, DropsNamespace, MakesTable, AddsColumn, DropsColumn, RenamesTable, DropsTable, Moves, Ticks, Check, If, Names, Fault, Outcome, judged, decided, unless}
+use Rattle.model.specs.Looks.{found_namespace}
+use Rattle.model.specs.Changed.{next_table, clone_time}
+use Rattle.model.specs.Changes.{judge_create_namespace, judge_drop_namespace, judge_create_table, judge_add_column, judge_drop_column, judge_rename_table, judge_drop_table, judge_split, judge_create_schedule, judge_delete_schedule, judge_take_snapshot, judge_restore, judge_clone, create_namespace, drop_namespace, create_table, add_column, drop_column, rename_table, drop_table, split, create_schedule, delete_schedule, take_snapshot, restore, clone_namespace, list_tablets, planned, change}
+use Rattle.model.specs.Moves.{Progress, progress_of, waits_for, moving, advancing, advance}
+use Rattle.model.specs.RowActs.{has_moved, serves_all, write}
+use Rattle.model.specs.Coordination.{unfinished_restoration, unfinished_clone}
+use Rattle.model.specs.Right.{fixes, is_fixed}
+use Rattle.model.specs.Strict.{FixedStays}
+use Rattle.model.specs.Entries.{Entry, ActAsked, slots_of}
+use Rattle.model.specs.History.{outcome, replay, journal_of, activity_of, Legal, with, rows_made, with_master, with_restoration, with_either, with_changes}
+use Rattle.law_cleanup.proofs.Forgetting.{not_false}
+use Rattle.law_invariants.specs.Invariant.{Inv, Later, Passes}
+use Rattle.law_invariants.specs.Operations.{RestorationStateGood}
+use Rattle.law_invariants.proofs.Finding.{both_pass, none_or_some, not_some_is, same_equal}
+use Rattle.law_rows.proofs.Keeping.{clock_before}
+use Rattle.law_moves.proofs.Advancing.{no_clone}
+use Rattle.law_moves.proofs.Pending.{unfinished_restoration_is}
+use Rattle.law.specs.Covering.{AdvanceCovered, ActCovered, Covered}
+use Rattle.law.proofs.Law.{legal_holds, stamps_later}
+use Rattle.law.proofs.Fixing.{ViewOwned, plain_owned, made_owned, restored_owned, rows_owned, later_fixed, rows_fixed, restore_fixed, stays_home}
+
+-- what holds of a journal
+pub record JournalFixed (changes : List made.Change) : Type 0 where
+  pub owned : ViewOwned changes
+  pub stays : FixedStays changes
+
+-- the view has a table in the namespace that the list of owners names
+abbrev pub Inside : List Owner → List made.Change → Type 0
+Inside os changes = (id : Id) (x : ℕ) (v : TableView) → table_at changes x id ≡ Some v → owner_of os id ≡ Some v.namespace
+
+-- Commands
+
+abbrev IsPast : List made.Change → ℕ → Type 0
+IsPast changes n = (ns : Id) (t : ℕ) → is_fixed changes ns t ≡ true → t < n
+
+plain_fixed : (n : ℕ) (act : ChangeAct) (changes : List made.Change) → stays_home act ≡ true → ((ns : Id) (t : ℕ) → fixes act ns t ≡ false)
+    → IsPast changes n → JournalFixed changes → JournalFixed (with n act changes)
+plain_fixed n act changes home plain past h =
+    record { owned = plain_owned n act changes home h.owned; stays = later_fixed n act changes plain past h.stays }
+
+-- whether the master is told to move a record
+abbrev is_move : MasterAct → Bool
+is_move (Moves operation) = true
+is_move _ = false
+
+-- what the master is told makes one change of the catalog, or none
+master_fixed : (a : MasterAct) (n : ℕ) (m : Master) (changes : List made.Change) (os : List Owner) → is_move a ≡ false → IsPast changes n
+    → Inside os (with_master a n m changes) → JournalFixed changes → JournalFixed (with_master a n m changes)
+master_fixed (MakesNamespace name) n m changes os still past inside h = plain_fixed n _ changes refl (λ ns t. refl) past h
+master_fixed (DropsNamespace namespace) n m changes os still past inside h = plain_fixed n _ changes refl (λ ns t. refl) past h
+master_fixed (MakesTable namespace name columns slots) n m changes os still past inside h = record {
+  owned = made_owned n (next_table m) namespace name (numbered 1 columns) changes os inside h.owned;
+  stays = later_fixed n _ changes (λ ns t. refl) past h.stays;
+}
+master_fixed (AddsColumn t name kind) n m changes os still past inside h = plain_fixed n _ changes refl (λ ns t. refl) past h
+master_fixed (DropsColumn t column) n m changes os still past inside h = plain_fixed n _ changes refl (λ ns t. refl) past h
+master_fixed (RenamesTable t name) n m changes os still past inside h = plain_fixed n _ changes refl (λ ns t. refl) past h
+master_fixed (DropsTable table) n m changes os still past inside h = plain_fixed n _ changes refl (λ ns t. refl) past h
+master_fixed (Moves operation) n m changes os still past inside h = absurd (true≢false still)
+master_fixed _ n m changes os still past inside h = h
+
+-- no command moves a record
+
+decided_still : {A : Type 0} (found : Result A Refusal) (accept : A → Outcome) → ((a : A) → is_move (accept a).master ≡ false) → is_move (decided found accept).master ≡ false
+decided_still (Err why) accept each = refl
+decided_still (Ok a) accept each = each a
+
+unless_still : (why : Option Refusal) (o : Outcome) → is_move o.master ≡ false → is_move (unless why o).master ≡ false
+unless_still (Some why) o still = refl
+unless_still None o still = still
+
+planned_still : (command : Command) (slots : List ℕ) (n : ℕ) (ps : Parts) → is_move (planned command slots n ps).master ≡ false
+unfolding create_namespace drop_namespace create_table add_column drop_column rename_table drop_table split create_schedule delete_schedule take_snapshot restore clone_namespace list_tablets
+planned_still (CreateNamespace name) slots n ps = decided_still (judge_create_namespace name ps.master) _ (λ a. refl)
+planned_still (DropNamespace name) slots n ps = decided_still (judge_drop_namespace name ps.master) _ (λ a. refl)
+planned_still (CreateTable namespace table tablets columns) slots n ps = decided_still (judge_create_table namespace table tablets ps.master) _ (λ a. refl)
+planned_still (AddColumn namespace table name kind) slots n ps = decided_still (judge_add_column namespace table name ps.master) _ (λ a. refl)
+planned_still (DropColumn namespace table name) slots n ps = decided_still (judge_drop_column namespace table name ps.master) _ (λ a. refl)
+planned_still (RenameTable namespace table name) slots n ps = decided_still (judge_rename_table namespace table name ps.master) _ (λ a. refl)
+planned_still (DropTable namespace table) slots n ps = decided_still (judge_drop_table namespace table ps.master) _ (λ a. refl)
+planned_still (Split namespace table code) slots n ps = decided_still (judge_split namespace table code ps.master) _ (λ a. refl)
+planned_still (CreateSchedule interval retention namespace) slots n ps = decided_still (judge_create_schedule interval retention namespace ps.master) _ (λ a. refl)
+planned_still (DeleteSchedule schedule) slots n ps = decided_still (judge_delete_schedule schedule ps.master) _ (λ a. refl)
+planned_still (TakeSnapshot schedule) slots n ps = decided_still (judge_take_snapshot schedule n ps.master) _ (λ a. refl)
+planned_still (Restore schedule to) slots n ps = decided_still (judge_restore schedule to n ps.master) _ (λ a. refl)
+planned_still (CloneNamespace source target at) slots n ps = decided_still (judge_clone source target (clone_time at n) n ps.master) _ (λ a. refl)
+planned_still ListSchedules slots n ps = refl
+planned_still ListSnapshots slots n ps = refl
+planned_still ListRestorations slots n ps = refl
+planned_still ListClones slots n ps = refl
+planned_still (ListTablets namespace) slots n ps = decided_still (found_namespace ps.master namespace) _ (λ a. refl)
+
+change_still : (command : Command) (slots : List ℕ) (n : ℕ) (ps : Parts) → is_move (change command slots n ps).master ≡ false
+unfolding change
+change_still command slots n ps = unless_still _ (planned command slots n ps) (planned_still command slots n ps)
+
+-- Writes
+
+-- where an act is accepted no refusal comes
+accepted : (checks : List Check) (o : Outcome) → is_ok (judged checks o).reply ≡ true → Passes checks
+accepted [] o e = tt
+accepted (If true why ∷ checks) o e = absurd (true≢false (sym e))
+accepted (If false why ∷ checks) o e = (refl, accepted checks o e)
+accepted (Names None why ∷ checks) o e = (refl, accepted checks o e)
+accepted (Names (Some id) why ∷ checks) o e = absurd (true≢false (sym e))
+accepted (Fault None ∷ checks) o e = (refl, accepted checks o e)
+accepted (Fault (Some why) ∷ checks) o e = absurd (true≢false (sym e))
+
+record IsWritable (t : Tablet) : Type 0 where
+  serving : is_serving t.presence ≡ true
+  unfenced : t.fence ≡ None
+
+writable : (ps : Parts) (n : ℕ) (place : At) (version : ℕ) (batch : List Item) → is_ok (write place version batch n ps).reply ≡ true
+    → IsWritable (ps.tablet place.slot)
+unfolding write
+writable ps n place version batch e =
+    let t = ps.tablet place.slot in
+    let checks : List Check = If (not (serves_all t place.tablet batch)) (has_moved place.slot t) ∷ Names t.fence Fenced ∷ If (not (eqb t.version version)) (StaleSchema t.version) ∷ [] in
+    let passes = accepted checks (record { master = Ticks; tablets = record { slot = place.slot; act = WriteRows batch } ∷ []; reply = ReplyOk [] }) e in
+    let served = (both_pass (serves t place.tablet) _ (not_false (serves_all t place.tablet batch) passes.0)).0 in
+    record { serving = (both_pass (is_serving t.presence) (same t.tablet place.tablet) served).0; unfenced = not_some_is t.fence passes.1.0 }
+
+written_fixed : (ps : Parts) (activity : List Interval) (changes : List made.Change) (n : ℕ) (place : At) (batch : List Item) → Later (place.slot ∷ []) ps n
+    → 1 ≤ place.slot → Inv ps activity changes → IsWritable (ps.tablet place.slot) → JournalFixed changes
+    → JournalFixed (rows_made n (ps.tablet place.slot).table batch changes)
+written_fixed ps activity changes n place batch later from inv w h =
+    let t = ps.tablet place.slot in
+    let slot = inv.slots place.slot in
+    let here : has (place.slot ∷ []) place.slot ≡ true = grind (arith, nat_tests) in
+    record {
+      owned = rows_owned batch n t.table changes h.owned;
+      stays = rows_fixed batch n t.table changes h.owned (λ ns to fixed owned.
+          none_or_some (table_at changes t.cutoff t.table)
+          (λ none. absurd (true≢false (sym (slot.shown w.serving w.unfenced t.cutoff (le_refl t.cutoff)) ∙ ap is_some none)))
+          (λ v there.
+          let home : v.namespace ≡ ns = same_equal v.namespace ns (ap (λ o. is_owned_by o ns) (sym (h.owned.owned t.table t.cutoff v there)) ∙ owned) in
+          let owner : owner_of ps.master.catalog.owners t.table ≡ Some ns = inv.master.tables.inside t.table t.cutoff v there ∙ ap Some home in
+          let past : to ≤ t.clock = slot.later ns to fixed w.serving w.unfenced owner in
+          let less : t.clock < n = clock_before (place.slot ∷ []) ps n place.slot later from here in
+          omega arith)) h.stays;
+    }
+
+-- Moves
+
+restoration_fixed : (state : RestorationState) (r : RestorationRecord) (m : Master) (changes : List made.Change) → RestorationStateGood state m changes r
+    → JournalFixed changes → JournalFixed (with_restoration state r changes)
+restoration_fixed (Switching point serving) r m changes good h = record {
+  owned = restored_owned point r.namespace r.to changes h.owned;
+  stays = restore_fixed point r.namespace r.to changes h.owned good.is_point.later
+      (λ ns t fixed own. good.is_point.fixed t (subst (λ k. is_fixed changes k t ≡ true) (sym (same_equal r.namespace ns own)) fixed)) h.stays;
+}
+restoration_fixed _ r m changes good h = h
+
+either_fixed : (restoration : Option RestorationRecord) (clone : Option CloneRecord) (n : ℕ) (m : Master) (changes : List made.Change)
+    → ((r : RestorationRecord) → restoration ≡ Some r → RestorationStateGood r.state m changes r) → clone ≡ None
+    → JournalFixed changes → JournalFixed (with_either restoration clone n changes)
+either_fixed (Some r) clone n m changes good none h = restoration_fixed r.state r m changes (good r refl) h
+either_fixed None (Some c) n m changes good none h = absurd (let q = none in grind arith)
+either_fixed None None n m changes good none h = h
+
+advance_fixed : (ps : Parts) (activity : List Interval) (changes : List made.Change) (n : ℕ) (operation : Id) → Inv ps activity changes
+    → AdvanceCovered operation.kind → JournalFixed changes
+    → JournalFixed (with_either (unfinished_restoration ps.master.restorations operation) (unfinished_clone ps.master.clones operation) n changes)
+advance_fixed ps activity changes n operation inv covered h =
+    either_fixed (unfinished_restoration ps.master.restorations operation) (unfinished_clone ps.master.clones operation) n ps.master changes
+    (λ r found. (inv.operations.restorations r (unfinished_restoration_is ps.master.restorations operation r found).0).in_state)
+    (no_clone ps.master changes operation inv.operations (λ kind. subst AdvanceCovered kind covered))
+    h
+
+-- Each act
+
+if_written : (b : Bool) (new changes : List made.Change) → JournalFixed changes → (b ≡ true → JournalFixed new) → JournalFixed (if b then new else changes)
+if_written true new changes h written = written refl
+if_written false new changes h written = h
+
+-- an advance tells the master to move its record, or nothing
+advanced_fixed : (p : Option Progress) (operation : Id) (n : ℕ) (m : Master) (changes : List made.Change) → JournalFixed changes
+    → JournalFixed (with_either (unfinished_restoration m.restorations operation) (unfinished_clone m.clones operation) n changes)
+    → JournalFixed (with_master (advancing p operation).master n m changes)
+advanced_fixed None operation n m changes h moved_ = h
+advanced_fixed (Some p) operation n m changes h moved_ = by (waits_for (first_unacked p.listed) p.awaited)
+  where
+    by : (waits : Option Id) → JournalFixed (with_master (moving waits operation p.next).master n m changes)
+    by (Some on) = h
+    by None = moved_
+
+act_fixed : (act : Act) (slots n : ℕ) (ps : Parts) (activity : List Interval) (changes : List made.Change) (os : List Owner)
+    → Later (slots_of act) ps n → ActAsked slots act → ActCovered act → Inv ps activity changes
+    → Inside os (with_changes act (outcome act n ps) n ps changes) → JournalFixed changes → JournalFixed (with_changes act (outcome act n ps) n ps changes)
+unfolding advance
+act_fixed (Change command plan) slots n ps activity changes os later asked covered inv inside h =
+    master_fixed (change command plan n ps).master n ps.master changes os (change_still command plan n ps)
+    (λ ns t fixed. let past : t ≤ ps.master.clock = inv.master.past ns t fixed in let less : ps.master.clock < n = later 0 refl in omega arith) inside h
+act_fixed (Write place version batch) slots n ps activity changes os later asked covered inv inside h =
+    if_written (is_ok (write place version batch n ps).reply) _ changes h
+    (λ ok. written_fixed ps activity changes n place batch later asked.0.0 inv (writable ps n place version batch ok) h)
+act_fixed (Advance operation) slots n ps activity changes os later asked covered inv inside h =
+    advanced_fixed (progress_of operation.kind ps.master operation) operation n ps.master changes h (advance_fixed ps activity changes n operation inv covered h)
+act_fixed _ slots n ps activity changes os later asked covered inv inside h = h
+
+-- what holds of the journal of a legal history
+journal_fixed : (history : List Entry) (slots : ℕ) → Legal slots history → Covered history → JournalFixed (journal_of slots history)
+unfolding journal_of
+journal_fixed [] slots legal covered =
+    record { owned = record { owned = λ id x v e. absurd (let q = e in grind arith) }; stays = record { none_late = tt; same = tt } }
+journal_fixed (e ∷ earlier) slots legal covered =
+    let before = legal_holds earlier slots legal.0 covered.0 in
+    let after = legal_holds (e ∷ earlier) slots legal covered in
+    let step = legal.1 in
+    act_fixed e.event.act slots e.stamp (replay slots earlier) (activity_of slots earlier) (journal_of slots earlier)
+    (replay slots (e ∷ earlier)).master.catalog.owners
+    (stamps_later e (replay slots earlier) step.stamp) step.asked.act covered.1 before.inv after.inv.master.tables.inside
+    (journal_fixed earlier slots legal.0 covered.0)
+
+pub fixed_stays : (history : List Entry) (slots : ℕ) → Legal slots history → Covered history → FixedStays (journal_of slots history)
+fixed_stays history slots legal covered = (journal_fixed history slots legal covered).stays

@@ -12,8 +12,8 @@ ghost use Rattle.row_values.specs.Elements.{AllOf};
 ghost use Rattle.model.specs.History.{Legal, replay, journal_of, activity_of};
 ghost use Rattle.model.specs.Drawn.{DrawnBelow, DrawnWithin, DrawsInTurn, SchemasDrawn, SnapshotsAsTaken};
 ghost use Rattle.model.specs.Replies.{Right};
-ghost use Rattle.model.specs.Strict.{FixedStays};
-ghost use Rattle.model.specs.Stands.{Cover, RecordFacts, Stands};
+ghost use Rattle.model.specs.Strict.{FixedStays, Divides};
+ghost use Rattle.model.specs.Stands.{RecordFacts, Stands};
 ghost use Rattle.law_local.specs.Agreeing.{PlanNames};
 ghost use Rattle.law_invariants.specs.Invariant.{Inv};
 ghost use Rattle.law.specs.Covering.{Covered};
@@ -23,7 +23,7 @@ ghost use Rattle.law.specs.Scripts.{ScriptCovered};
 /// restores fixed stays as it was, and no change of their namespaces came too late for them. What
 /// holds after each entry holds of the parts that the history leaves. At each time at which the view
 /// has a table, the ranges of its tablets that were active then cover the codes, none twice, tablets
-/// that were removed since counted in. Each tablet stands for the journal: what is read of its live
+/// that were removed since counted in; no range is empty or ends beyond the codes. Each tablet stands for the journal: what is read of its live
 /// store from its cutoff on, and of a frozen set up to its time, is the view's row. And the states of
 /// the records of operations say of the parts what they have to.
 pub fn legal_is_right()
@@ -31,7 +31,7 @@ pub fn legal_is_right()
     ensures holds { (slots : ℕ) (history : List Entry) → Legal slots history → Covered history → Inv (replay slots history) (activity_of slots history) (journal_of slots history) }
     ensures stands { (slots : ℕ) (history : List Entry) → Legal slots history → Covered history → Stands (replay slots history) (journal_of slots history) }
     ensures facts { (slots : ℕ) (history : List Entry) → Legal slots history → Covered history → RecordFacts (replay slots history) (journal_of slots history) }
-    ensures cover { (slots : ℕ) (history : List Entry) → Legal slots history → Covered history → Cover (activity_of slots history) (journal_of slots history) }
+    ensures cover { (slots : ℕ) (history : List Entry) → Legal slots history → Covered history → Divides (activity_of slots history) (journal_of slots history) }
     ensures fixed { (slots : ℕ) (history : List Entry) → Legal slots history → Covered history → FixedStays (journal_of slots history) }
 {}
 

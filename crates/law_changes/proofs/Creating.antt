@@ -512,7 +512,7 @@ create_table_keeps ps activity changes n namespace table tablets columns slots l
               obeyed = obeyed_on m n catalog more drawn m.sent changes new i (ps.tablet i) o (λ c serving at d key isin is paired. made_rows n (next_table m) ns table (numbered 1 columns) changes c.to d.source key) inv.operations (inv.works i).obeyed;
             });
         remembered = remembered_made m n changes ns table columns slots activity before free.long inv.operations inv.remembered;
-        cover = made_covers activity changes slots count n m.drawn.tablets (next_table m) ns table (numbered 1 columns) (let e = some.long in let l : 1 ≤ tablets = asked.2.0 in omega arith) free.long
+        cover = made_covers activity changes slots count n m.drawn.tablets (next_table m) ns table (numbered 1 columns) (let e = some.long in let l : 1 ≤ tablets = asked.2.0 in omega arith) (let e = some.long in let l : tablets ≤ 64 = asked.2.1 in omega arith) free.long
             (λ i isin. not_same i.table (next_table m) (apart_by_number i.table (next_table m) (let l : i.table.number ≤ m.drawn.tables = inv.remembered.drawn_table i isin in omega arith)))
             (λ x. ap is_some (never_made m changes x h)) inv.cover;
         master = master_made m n changes ns table columns slots before free (λ i isin. ((inv.slots i.slot).each i isin refl).drawn_table) stands h;

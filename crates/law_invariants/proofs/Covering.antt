@@ -1,5 +1,5 @@
 -- The ranges of tablets go on to cover the codes.
-use Rattle.std.proofs.Common.{ℕ, ◌≡◌, ◌≤◌, ◌<◌, ◌+◌, ◌/◌, ◌*◌, List, ◌++◌, length, true, false, sym, ap, subst, ◌∙◌, arith, leb, le_trans, leb-true}
+use Rattle.std.proofs.Common.{ℕ, ◌≡◌, ◌≤◌, ◌<◌, ◌+◌, ◌/◌, ◌*◌, List, ◌++◌, length, true, false, sym, ap, subst, ◌∙◌, arith, leb, le_trans, leb-true, inl, inr}
 use Rattle.std.specs.Option.{is_some}
 use Rattle.std.proofs.Math.Nat.{div-le_self}
 use Rattle.std.proofs.lemmas.Bool.{true≢false}
@@ -14,8 +14,9 @@ use Rattle.model.specs.Journal.{Change, TableMade, TableDropped, table_at}
 use Rattle.model.specs.History.{with}
 use Rattle.law_store.proofs.Keys.{either_way}
 use Rattle.law_invariants.specs.Invariant.{Covered}
-use Rattle.law_invariants.proofs.Finding.{same_equal}
-use Rattle.law_invariants.proofs.Holding.{one, holders_append, none_hold, ended_less, ended_early, ended_others, shares_early, shares_others, shares_hold}
+use Rattle.model.specs.Strict.{HasRange}
+use Rattle.law_invariants.proofs.Finding.{in_append, in_mapped, same_equal}
+use Rattle.law_invariants.proofs.Holding.{one, holders_append, none_hold, ended_less, ended_early, ended_others, shares_early, shares_others, shares_hold, share_ranges}
 use Rattle.law_invariants.proofs.Journaling.{IsQuiet, made_before, made_others, dropped_before, dropped_others, dropped_here}
 
 -- under a change that makes and drops no table
@@ -23,13 +24,14 @@ pub quiet_covers : (activity : List Interval) (changes new : List Change) → Is
 quiet_covers activity changes new quiet h = record {
   once = h.once;
   whole = λ table code x small is. h.whole table code x small (sym (quiet.tables x table) ∙ is);
+  ranges = h.ranges;
 }
 
 -- where a table is made that had no tablet and was never in the view, and the codes are shared out among its tablets
-pub made_covers : (activity : List Interval) (changes : List Change) (slots : List ℕ) (tablets n : ℕ) (drawn : ℕ) (id : Id) (ns : Id) (name : List ℕ) (columns : List Column) → 0 < tablets → length slots ≡ tablets
+pub made_covers : (activity : List Interval) (changes : List Change) (slots : List ℕ) (tablets n : ℕ) (drawn : ℕ) (id : Id) (ns : Id) (name : List ℕ) (columns : List Column) → 0 < tablets → tablets ≤ 64 → length slots ≡ tablets
     → ((i : Interval) → In i activity → same i.table id ≡ false) → ((x : ℕ) → is_some (table_at changes x id) ≡ false) → Covered activity changes
     → Covered (activity ++ shares slots 0 tablets n drawn id) (with n (TableMade id ns name columns) changes)
-made_covers activity changes slots tablets n drawn id ns name columns pos long apart unmade h =
+made_covers activity changes slots tablets n drawn id ns name columns pos most long apart unmade h =
     let new = with n (TableMade id ns name columns) changes in
     let both : (table : Id) (code x : ℕ) → holders (activity ++ shares slots 0 tablets n drawn id) table code x ≡ holders activity table code x + holders (shares slots 0 tablets n drawn id) table code x =
     λ table code x. holders_append activity (shares slots 0 tablets n drawn id) table code x in
@@ -60,6 +62,10 @@ made_covers activity changes slots tablets n drawn id ns name columns pos long a
           let was : is_some (table_at changes x table) ≡ true = ap is_some (sym (made_before n id ns name columns changes x table k)) ∙ is in
           absurd (true≢false (sym was ∙ ap (λ t. is_some (table_at changes x t)) (sym (same_equal id table e)) ∙ unmade x))))
           (λ e. others table code x e ∙ h.whole table code x small (ap is_some (sym (made_others n id ns name columns changes x table e)) ∙ is));
+      ranges = λ i isin. elim (in_append activity (shares slots 0 tablets n drawn id) i isin) [
+        | inl old ↦ h.ranges i old
+        | inr new_ ↦ share_ranges slots 0 tablets n drawn id pos (omega (arith, most)) (omega (arith, long)) i new_
+      ];
     }
 
 -- where a table is dropped and its tablets end
@@ -74,4 +80,5 @@ dropped_covers activity changes id n h = record {
       (λ l. let k : x < n = grind (arith, nat_tests) in
       ended_early activity id n table code x k ∙ h.whole table code x small (ap is_some (sym (dropped_before n id changes x table k)) ∙ is)))
       (λ e. ended_others activity id n table code x e ∙ h.whole table code x small (ap is_some (sym (dropped_others n id changes x table e)) ∙ is));
+  ranges = λ i isin. in_mapped _ HasRange activity (λ j old. h.ranges j old) i isin;
 }

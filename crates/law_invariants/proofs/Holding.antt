@@ -1,13 +1,14 @@
 -- How many tablets hold a code: of a new table's tablets, of those of a table that ends, and of the others.
-use Rattle.std.proofs.Common.{ℕ, ◌≡◌, ◌≤◌, ◌<◌, ◌+◌, ◌*◌, ◌/◌, List, [], ◌∷◌, ◌++◌, length, Option, Some, None, Bool, true, false, cond, ◌&&◌, inl, inr, refl, sym, ap, ◌∙◌, arith, leb, le_refl, le_trans, lt-ltb}
-use Rattle.std.proofs.Math.Nat.{mul-div_cancel, div-mul-le_self}
+use Rattle.std.proofs.Common.{ℕ, ◌≡◌, ◌≤◌, ◌<◌, ◌+◌, ◌*◌, ◌/◌, List, [], ◌∷◌, ◌++◌, length, Option, Some, None, Bool, true, false, cond, ◌&&◌, inl, inr, refl, sym, ap, ◌∙◌, arith, leb, le_refl, le_trans, lt-ltb, subst}
+use Rattle.std.proofs.Math.Nat.{add-div_right, mul-div_cancel, div-mul-le_self}
 use Rattle.std.proofs.lemmas.Nat.{le-div}
 use Rattle.std.proofs.lemmas.Bool.{cond_both}
 use Rattle.std.proofs.lemmas.Bool.Decides.{nat_tests}
 use Rattle.row_values.specs.Ids.{Id, same}
 use Rattle.row_values.specs.Elements.{In}
 use Rattle.model.specs.Times.{before_end, ended}
-use Rattle.row_values.specs.Ranges.{in_range}
+use Rattle.row_values.specs.Ranges.{in_range, IsRange}
+use Rattle.model.specs.Strict.{HasRange}
 use Rattle.model.specs.Activity.{Interval, active_at, end_table_tablets}
 use Rattle.model.specs.Stands.{holders}
 use Rattle.model.specs.Changed.{begins, shares, next_tablet}
@@ -102,7 +103,7 @@ shares_others (slot ∷ slots) place count n drawn made table code x apart =
     let here : one (holds (begins slot (next_tablet drawn (place + 1)) made (place * 65536 / count) ((place + 1) * 65536 / count) n) table code x) ≡ 0 = ap one (first_fails _ _ apart) in
     omega arith
 
-div_up : (a b k : ℕ) → 0 < k → a ≤ b → a / k ≤ b / k
+pub div_up : (a b k : ℕ) → 0 < k → a ≤ b → a / k ≤ b / k
 div_up a b k pos le = le-div (a / k) b k pos (le_trans (div-mul-le_self a k) le)
 
 -- from a bound on, a code is in the next part or behind it
@@ -125,3 +126,20 @@ shares_hold (slot ∷ slots) place count n drawn made code x pos places small la
     ap (λ b. one (b && ((leb n x && true) && in_range low high code))) (same_self made) ∙ ap (λ b. one ((b && true) && in_range low high code)) begun in
     let sum = parts low high code up in
     omega arith
+
+-- each share has codes, and none beyond the last
+share_range : (place count : ℕ) → 0 < count → count ≤ 65536 → place < count → IsRange (record { low = place * 65536 / count; high = (place + 1) * 65536 / count })
+share_range place count pos most less =
+    let step : (place * 65536 + count) / count ≡ place * 65536 / count + 1 = add-div_right (place * 65536) pos in
+    let up : (place * 65536 + count) / count ≤ (place + 1) * 65536 / count = div_up (place * 65536 + count) ((place + 1) * 65536) count pos (omega arith) in
+    let all : count * 65536 / count ≡ 65536 = ap (λ p. p / count) (let e : count * 65536 ≡ 65536 * count = omega arith in e) ∙ mul-div_cancel 65536 pos in
+    let last : (place + 1) * 65536 / count ≤ count * 65536 / count = div_up ((place + 1) * 65536) (count * 65536) count pos (omega arith) in
+    (omega (arith, step, up), omega (arith, all, last))
+
+pub share_ranges : (slots : List ℕ) (place count n : ℕ) (drawn : ℕ) (made : Id) → 0 < count → count ≤ 65536 → length slots + place ≡ count
+    → (i : Interval) → In i (shares slots place count n drawn made) → HasRange i
+share_ranges [] place count n drawn made pos most places i isin = absurd isin
+share_ranges (slot ∷ slots) place count n drawn made pos most places i (inl e) =
+    subst HasRange e (share_range place count pos most (omega (arith, places)))
+share_ranges (slot ∷ slots) place count n drawn made pos most places i (inr isin) =
+    share_ranges slots (place + 1) count n drawn made pos most (omega (arith, places)) i isin

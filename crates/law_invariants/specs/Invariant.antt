@@ -23,6 +23,7 @@ use Rattle.model.specs.Entries.{clock_at}
 use Rattle.model.specs.Acts.{Act}
 use Rattle.model.specs.Right.{is_fixed, NothingLate}
 use Rattle.model.specs.Replies.{ReplyRight}
+use Rattle.model.specs.Strict.{HasRange}
 use Rattle.model.specs.History.{with_changes}
 use Rattle.model.specs.Parts.{Master, Parts, Check, If, Names, Fault, Outcome}
 use Rattle.law_store.specs.Sorted.{Sorted, EachKey}
@@ -188,10 +189,11 @@ pub record SlotGood (m : Master) (changes : List Change) (slot : ℕ) (t : Table
   pub later : (ns : Id) (to : ℕ) → is_fixed changes ns to ≡ true → is_serving t.presence ≡ true → t.fence ≡ None
       → owner_of m.catalog.owners t.table ≡ Some ns → to ≤ t.clock
 
--- the tablets' ranges cover the codes of each table that the view has, and no code twice
+-- the tablets' ranges cover the codes of each table that the view has, no code twice, and no range ends beyond the codes
 pub record Covered (activity : List Interval) (changes : List Change) : Type 0 where
   pub once : (table : Id) (code x : ℕ) → code < 65536 → holders activity table code x ≤ 1
   pub whole : (table : Id) (code x : ℕ) → code < 65536 → is_some (table_at changes x table) ≡ true → holders activity table code x ≡ 1
+  pub ranges : (i : Interval) → In i activity → HasRange i
 
 -- what holds of the master
 pub record MasterGood (m : Master) (changes : List Change) : Type 0 where

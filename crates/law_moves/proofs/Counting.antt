@@ -13,9 +13,10 @@ use Rattle.model.specs.Activity.{Interval, active_at}
 use Rattle.model.specs.Restored.{begun_at, end_namespace_tablets}
 use Rattle.model.specs.Journal.{Change}
 use Rattle.model.specs.Stands.{holders}
+use Rattle.model.specs.Strict.{HasRange}
 use Rattle.law_store.proofs.Keys.{either_way}
 use Rattle.law_invariants.specs.Invariant.{Covered}
-use Rattle.law_invariants.proofs.Finding.{same_equal, both_pass, passes_both, first_fails, second_fails}
+use Rattle.law_invariants.proofs.Finding.{same_equal, both_pass, passes_both, first_fails, second_fails, in_append, in_mapped, filter_in}
 use Rattle.law_invariants.proofs.Holding.{holders_append}
 use Rattle.law_moves.proofs.Viewing.{Inside, restore, restored_before, table_back, table_other}
 
@@ -148,4 +149,8 @@ switched_covers activity changes os ns point to inside less over h =
           (λ l. since_is table code x mine (leb-true point x l) ∙ h.whole table code to below (ap is_some (sym (table_back os changes ns table point to x inside mine (leb-true point x l))) ∙ there))
           (λ l. early_is table code x (leb-false point x l) ∙ h.whole table code x below (ap is_some (sym (restored_before point ns to changes x table (leb-false point x l))) ∙ there)))
           (λ other. other_is table code x other ∙ h.whole table code x below (ap is_some (sym (table_other os changes ns table point to x inside other)) ∙ there));
+      ranges = λ i isin. elim (in_append old new i isin) [
+        | inl ended_ ↦ in_mapped _ HasRange activity (λ j listed. h.ranges j listed) i ended_
+        | inr begun ↦ in_mapped (begun_at point) HasRange (of_then os ns to activity) (λ j then_. h.ranges j (filter_in activity _ j (filter_in (filter (λ i. owns os ns i.table) activity) _ j then_).0).0) i begun
+      ];
     }

@@ -74,7 +74,7 @@ master_written m n table batch changes h =
     }
 
 cover_written : (activity : List Interval) (n : ℕ) (table : Id) (batch : List Item) (changes : List Change) → Covered activity changes → Covered activity (rows_made n table batch changes)
-cover_written activity n table batch changes h = record { once = h.once; whole = λ t code x below is. h.whole t code x below (ap is_some (sym (tables_stay batch n table changes x t)) ∙ is) }
+cover_written activity n table batch changes h = record { once = h.once; whole = λ t code x below is. h.whole t code x below (ap is_some (sym (tables_stay batch n table changes x t)) ∙ is); ranges = h.ranges }
 
 -- a namespace that has the table in the view at some time is the one that owns it
 owner_is : (ns : Id) (v : Option TableView) (owner : Option Id) → ((w : TableView) → v ≡ Some w → owner ≡ Some w.namespace) → is_in ns v ≡ true → owner ≡ Some ns

@@ -11,9 +11,10 @@ use Rattle.model.specs.Journal.{Change}
 use Rattle.model.specs.Stands.{holders}
 use Rattle.model.specs.Changed.{begins, next_tablet}
 use Rattle.model.specs.Parts.{Master}
+use Rattle.model.specs.Strict.{HasRange}
 use Rattle.law_store.proofs.Keys.{either_way}
 use Rattle.law_invariants.specs.Invariant.{Covered}
-use Rattle.law_invariants.proofs.Finding.{both_pass, passes_both, same_equal, same_self}
+use Rattle.law_invariants.proofs.Finding.{both_pass, passes_both, same_equal, same_self, in_append, in_mapped}
 use Rattle.law_invariants.proofs.Overlap.{holds, holds_now}
 use Rattle.law_invariants.proofs.Holding.{one, holders_append, early}
 use Rattle.law_splits.proofs.Cutting.{cut, cut_end, cut_mine, cut_stays}
@@ -169,9 +170,9 @@ halves false low mid high c le up = refl
 halves true low mid high c le up = grind (arith, nat_tests)
 
 -- where the parent holds a code, its children cover the codes as it did
-pub split_covers : (activity : List Interval) (changes : List Change) (p : Interval) (code a b n : ℕ) (m : Master) → code < 65536 → In p activity → p.to ≡ None → in_range p.low p.high code ≡ true → AllLike activity p n
+pub split_covers : (activity : List Interval) (changes : List Change) (p : Interval) (code a b n : ℕ) (m : Master) → code < 65536 → In p activity → p.to ≡ None → in_range p.low p.high code ≡ true → p.low < code → AllLike activity p n
     → Covered activity changes → Covered (end_tablet p.tablet n activity ++ both_children p code a b n m) changes
-split_covers activity changes p code a b n m small isin opened ranged like h =
+split_covers activity changes p code a b n m small isin opened ranged narrow like h =
     let most = open_most activity p n code ranged like in
     let least = open_least activity p isin opened in
     let once = h.once p.table code n small in
@@ -199,4 +200,10 @@ split_covers activity changes p code a b n m small isin opened ranged like h =
     record {
       once = λ table c x below. subst (λ k. k ≤ 1) (sym (same_ table c x)) (h.once table c x below);
       whole = λ table c x below is. same_ table c x ∙ h.whole table c x below is;
+      ranges = λ i listed. elim (in_append (end_tablet p.tablet n activity) (both_children p code a b n m) i listed) [
+        | inl old ↦ in_mapped _ HasRange activity (λ j there. h.ranges j there) i old
+        | inr (inl e) ↦ subst HasRange e (narrow, omega (arith, small))
+        | inr (inr (inl e)) ↦ subst HasRange e (high, (h.ranges p isin).1)
+        | inr (inr (inr none)) ↦ absurd none
+      ];
     }

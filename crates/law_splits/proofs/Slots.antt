@@ -35,6 +35,7 @@ pub record IsSplit (m : Master) (n : ℕ) (p : Interval) (code a b : ℕ) : Type
   pub listed : In p m.activity
   pub opened : p.to ≡ None
   pub ranged : in_range p.low p.high code ≡ true
+  pub narrow : p.low < code
   pub free : AreFree m 2 (a ∷ b ∷ [])
   pub calm : AwaitNone m p.table
   pub ns : Id

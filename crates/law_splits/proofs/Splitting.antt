@@ -193,7 +193,7 @@ split_inv ps activity changes n command code a b version p made below later s in
     record {
       master = master_split_good m n changes p code a b s inv.master;
       remembered = remembered_split m n changes activity p code a b s inv.operations inv.remembered;
-      cover = split_covers activity changes p code a b n m below (inv.remembered.kept p s.listed) s.opened s.ranged (like_parent ps activity changes p n inv s.before s.listed) inv.cover;
+      cover = split_covers activity changes p code a b n m below (inv.remembered.kept p s.listed) s.opened s.ranged s.narrow (like_parent ps activity changes p n inv s.before s.listed) inv.cover;
       operations = operations_on m n m.catalog more drawn m.sent changes changes w (λ ns. marks_stay m n m.catalog more drawn changes ns (le_of_lt s.before) inv.operations) inv.operations.owners (λ mark isin. isin) (all_listed m changes inv.master) inv.operations;
       journal = journal_on m n m.catalog more drawn m.sent changes changes (same_rows changes) w.fixed (le_refl _) (le_refl _) w.owners inv.journal;
       rows_past = rows_on m n m.catalog more drawn m.sent changes changes ps.tablet after (le_of_lt s.before) (clocks_rise (Change command slots) o n ps (λ slot e. tablet_before (0 ∷ slots) ps n slot later e))
@@ -271,6 +271,7 @@ split_keeps ps activity changes n namespace table code slots later asked plan in
       listed = g.listed;
       opened = g.opened;
       ranged = g.ranged;
+      narrow = (let low : p.low ≤ code = leb-true p.low code (both_pass (leb p.low code) (ltb code p.high) g.ranged).0 in let apart : eqb code p.low ≡ false = ap (λ q. eqb code q.tablet.low) is_family.0 ∙ passed.1.1.0 in grind (arith, nat_tests));
       free = subst (AreFree m 2) is_family.1 two;
       calm = none_await m changes ns p.table inv.master owned unheld;
       ns = ns;

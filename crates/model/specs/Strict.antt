@@ -4,7 +4,7 @@
 use Rattle.std.specs.Prelude.{◌≡◌, ◌≢◌, ◌⊎◌, ℕ, ◌≤◌, ◌<◌, true, Bool, List, [], ◌∷◌, Option}
 use Rattle.row_values.specs.Ids.{Id, same}
 use Rattle.row_values.specs.Elements.{In}
-use Rattle.row_values.specs.Ranges.{all_codes}
+use Rattle.row_values.specs.Ranges.{IsRange}
 use Rattle.model.specs.Catalog.{is_owned_by}
 use Rattle.model.specs.Activity.{Interval}
 use Rattle.model.specs.Tablets.{Standing, BodyKind}
@@ -208,12 +208,11 @@ StrictlyRight slots (e ∷ earlier) = StrictlyRight slots earlier
 
 -- Codes divided
 
--- a range of codes, none of them beyond the last
-pub record IsRange (low high : ℕ) : Type 0 where
-  pub some : low < high
-  pub within : high ≤ all_codes
+-- a tablet's range has codes, and none beyond the last
+abbrev pub HasRange : Interval → Type 0
+HasRange i = IsRange (record { low = i.low; high = i.high })
 
 -- the ranges of a table's active tablets divide the codes: each code is in one, and each range has codes alone
 pub record Divides (activity : List Interval) (changes : List made.Change) : Type 0 where
   pub cover : Cover activity changes
-  pub ranges : (i : Interval) → In i activity → IsRange i.low i.high
+  pub ranges : (i : Interval) → In i activity → HasRange i

@@ -8,7 +8,7 @@ use Rattle.model.specs.Parts.{Parts}
 use Rattle.row_values.specs.Store.{read_of}
 use Rattle.model.specs.Stands.{Stands, LiveStands, Cover}
 use Rattle.model.specs.Activity.{Interval}
-use Rattle.model.specs.Strict.{Divides, IsRange}
+use Rattle.model.specs.Strict.{Divides, HasRange}
 use Rattle.model.specs.Tablets.{FrozenSet, is_empty}
 use Rattle.model_rows.proofs.Numbers.{none_is_not_one}
 use Rattle.model_rows.specs.Computed.{the_book}
@@ -66,12 +66,12 @@ unfolding the_book
 wide_covers = λ table code time below there. grind (arith, nat_tests)
 
 beyond_the_codes : Divides too_wide changes → ⊥
-beyond_the_codes divides = let within : 70000 ≤ 65536 = (divides.ranges (record (since 2) { high = 70000 }) (inl refl)).within in omega arith
+beyond_the_codes divides = let within : 70000 ≤ 65536 = (divides.ranges (record (since 2) { high = 70000 }) (inl refl)).1 in omega arith
 
 written_divides : Divides written.parts.master.activity changes
 unfolding the_book
 written_divides = record { cover = written_covers; ranges = λ i inside. whole i inside }
   where
-    whole : (i : Interval) → In i (since 2 ∷ []) → IsRange i.low i.high
-    whole i (inl e) = subst (λ j. IsRange j.low j.high) e (record { some = ltb-true _ _ refl; within = leb-true _ _ refl })
+    whole : (i : Interval) → In i (since 2 ∷ []) → HasRange i
+    whole i (inl e) = subst HasRange e (ltb-true 0 65536 refl, leb-true 65536 65536 refl)
     whole i (inr inside) = absurd inside

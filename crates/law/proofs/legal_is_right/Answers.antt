@@ -11,6 +11,8 @@ returns c = record {
   holds = λ slots history legal covered. (legal_holds history slots legal covered).inv;
   stands = λ slots history legal covered. all_stand _ _ _ (legal_holds history slots legal covered).inv;
   facts = λ slots history legal covered. all_recorded _ _ _ (legal_holds history slots legal covered).inv;
-  cover = λ slots history legal covered. let cover = (legal_holds history slots legal covered).inv.cover in λ table code x below there. cover.whole table code x below there;
+  cover = λ slots history legal covered.
+      let cover = (legal_holds history slots legal covered).inv.cover in
+      record { cover = λ table code x below there. cover.whole table code x below there; ranges = λ i isin. cover.ranges i isin };
   fixed = λ slots history legal covered. fixed_stays history slots legal covered;
 }

@@ -59,13 +59,13 @@ find_same test old (x ∷ xs) stays = let rest = find_same test old xs (λ a isi
 
 -- Marks
 
-raised_rises : (ks : List KeptFrom) (m : Master) (n : ℕ) (ns : Id) → kept_from ks ns ≤ kept_from (map (raised_mark m n) ks) ns
+pub raised_rises : (ks : List KeptFrom) (m : Master) (n : ℕ) (ns : Id) → kept_from ks ns ≤ kept_from (map (raised_mark m n) ks) ns
 raised_rises [] m n ns = le_refl 0
 raised_rises (k ∷ ks) m n ns = either_way (same k.namespace ns)
     (λ e. rw e (cond_both (has_records m.catalog k.namespace) (max k.from (prune_to m k.namespace n)) k.from (λ x. k.from ≤ x) (λ b. omega arith) (λ b. le_refl k.from)))
     (λ e. rw e (raised_rises ks m n ns))
 
-raised_within : (ks : List KeptFrom) (m : Master) (n : ℕ) (ns : Id) (bound : ℕ) → kept_from ks ns ≤ bound → prune_to m ns n ≤ bound → kept_from (map (raised_mark m n) ks) ns ≤ bound
+pub raised_within : (ks : List KeptFrom) (m : Master) (n : ℕ) (ns : Id) (bound : ℕ) → kept_from ks ns ≤ bound → prune_to m ns n ≤ bound → kept_from (map (raised_mark m n) ks) ns ≤ bound
 raised_within [] m n ns bound old up = old
 raised_within (k ∷ ks) m n ns bound old up = either_way (same k.namespace ns)
     (λ e. let here : k.from ≤ bound = rw e at old in
@@ -74,7 +74,7 @@ raised_within (k ∷ ks) m n ns bound old up = either_way (same k.namespace ns)
     (λ e. rw e (raised_within ks m n ns bound (rw e at old) up))
 
 -- the mark of what has records rises as far as they are taken
-raised_to : (ks : List KeptFrom) (m : Master) (n : ℕ) (ns : Id) → is_marked ks ns ≡ true → has_records m.catalog ns ≡ true → prune_to m ns n ≤ kept_from (map (raised_mark m n) ks) ns
+pub raised_to : (ks : List KeptFrom) (m : Master) (n : ℕ) (ns : Id) → is_marked ks ns ≡ true → has_records m.catalog ns ≡ true → prune_to m ns n ≤ kept_from (map (raised_mark m n) ks) ns
 raised_to [] m n ns marked has_ = absurd (true≢false (sym marked))
 raised_to (k ∷ ks) m n ns marked has_ = either_way (same k.namespace ns)
     (λ e. let is = same_equal k.namespace ns e in
@@ -87,7 +87,7 @@ raised_marked : (ks : List KeptFrom) (m : Master) (n : ℕ) (ns : Id) → is_mar
 raised_marked [] m n ns = refl
 raised_marked (k ∷ ks) m n ns = ap (λ b. same k.namespace ns || b) (raised_marked ks m n ns)
 
-prune_floor : (m : Master) (n : ℕ) (ns : Id) → prune_to m ns n ≤ floor_of m ns n
+pub prune_floor : (m : Master) (n : ℕ) (ns : Id) → prune_to m ns n ≤ floor_of m ns n
 prune_floor m n ns = least (floor_of m ns n) (n - history_retention)
   where
     least : (a b : ℕ) → min a b ≤ a
@@ -129,7 +129,7 @@ rise_kept old (r ∷ rs) h = cond_both (not (old r)) (r ∷ kept_by old rs) (kep
     (λ k. (λ q isin. h.0 q (filter_in rs (λ p. not (old p)) q isin).0, rise_kept old rs h.1))
     (λ k. rise_kept old rs h.1)
 
-not_holding : (x mark from : ℕ) (to : Option ℕ) → mark ≤ x → ended_by mark to ≡ true → holds_at x from to ≡ true → ⊥
+pub not_holding : (x mark from : ℕ) (to : Option ℕ) → mark ≤ x → ended_by mark to ≡ true → holds_at x from to ≡ true → ⊥
 not_holding x mark from None le over holds_ = true≢false (sym over)
 not_holding x mark from (Some e) le over holds_ =
     let b = both_pass (leb from x) (before_end x (Some e)) holds_ in
@@ -169,7 +169,7 @@ tables_pruned c old names ks time n drawn changes le rises within gone h =
 
 -- The act
 
-has_table : (m : Master) (r : TableRecord) → In r m.catalog.tables → has_records m.catalog r.namespace ≡ true
+pub has_table : (m : Master) (r : TableRecord) → In r m.catalog.tables → has_records m.catalog r.namespace ≡ true
 has_table m r isin = either_passes (list_any (λ q. same q.id r.namespace) m.catalog.namespaces) (list_any (λ q. same q.namespace r.namespace) m.catalog.tables)
     (any_in (λ q. same q.namespace r.namespace) m.catalog.tables r isin (same_self r.namespace))
 

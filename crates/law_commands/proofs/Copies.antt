@@ -28,7 +28,7 @@ use Rattle.law_commands.proofs.Doing.{mark_of, mark_pending, orders_done, apart_
 use Rattle.law_commands.proofs.Restores.{serves_then}
 use Rattle.law_commands.proofs.Held.{Does, HoldsOf, marked_after}
 
-copying_is : (state : CloneState) (m : Master) (c : CloneRecord) (l : Listed) (source : ℕ) (snapshot : Id) (to stamp : ℕ) (table : Id) (low high version : ℕ) → CloneStateGood state m c → In l c.listed → l.body ≡ Copy source snapshot to stamp table low high version
+pub copying_is : (state : CloneState) (m : Master) (c : CloneRecord) (l : Listed) (source : ℕ) (snapshot : Id) (to stamp : ℕ) (table : Id) (low high version : ℕ) → CloneStateGood state m c → In l c.listed → l.body ≡ Copy source snapshot to stamp table low high version
     → (serving : Id) × ((at : ℕ) × ((state ≡ Copying serving at) × IsCopied c serving at l))
 copying_is Accepted m c l source snapshot to stamp table low high version h isin e = absurd (none_in c.listed l h isin)
 copying_is (CloneSnapshot own) m c l source snapshot to stamp table low high version h isin e = absurd (none_in c.listed l h.empty isin)
@@ -37,7 +37,7 @@ copying_is (CloneReleasing serving at) m c l source snapshot to stamp table low 
     absurd (let q : Copy source snapshot to stamp table low high version ≡ Release h.since = sym e ∙ h.bodies l isin in grind arith)
 copying_is (CloneComplete serving at) m c l source snapshot to stamp table low high version h isin e = absurd (none_in c.listed l h isin)
 
-no_restoration_copy : (state : RestorationState) (m : Master) (changes : List Change) (r : RestorationRecord) (l : Listed) (source : ℕ) (snapshot : Id) (to stamp : ℕ) (table : Id) (low high version : ℕ) → RestorationStateGood state m changes r → In l r.listed
+pub no_restoration_copy : (state : RestorationState) (m : Master) (changes : List Change) (r : RestorationRecord) (l : Listed) (source : ℕ) (snapshot : Id) (to stamp : ℕ) (table : Id) (low high version : ℕ) → RestorationStateGood state m changes r → In l r.listed
     → l.body ≡ Copy source snapshot to stamp table low high version → ⊥
 no_restoration_copy Fencing m changes r l source snapshot to stamp table low high version h isin e = let q : Fence ≡ Copy source snapshot to stamp table low high version = sym (h.bodies l isin) ∙ e in grind arith
 no_restoration_copy (Snapshotting point own) m changes r l source snapshot to stamp table low high version h isin e = none_in r.listed l h.empty isin

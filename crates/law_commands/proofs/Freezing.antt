@@ -247,7 +247,7 @@ frozen_by m changes slot n t operation tablet cs rows s known id_is unfinished l
 
 -- no other record has a freeze
 
-no_restoration_freeze : (state : RestorationState) (m : Master) (changes : List Change) (r : RestorationRecord) (l : Listed) (snapshot : Id) (at : ℕ) → RestorationStateGood state m changes r → In l r.listed → l.body ≡ Freeze snapshot at → ⊥
+pub no_restoration_freeze : (state : RestorationState) (m : Master) (changes : List Change) (r : RestorationRecord) (l : Listed) (snapshot : Id) (at : ℕ) → RestorationStateGood state m changes r → In l r.listed → l.body ≡ Freeze snapshot at → ⊥
 no_restoration_freeze Fencing m changes r l snapshot at h isin e = let q : Fence ≡ Freeze snapshot at = sym (h.bodies l isin) ∙ e in grind arith
 no_restoration_freeze (Snapshotting point own) m changes r l snapshot at h isin e = none_in r.listed l h.empty isin
 no_restoration_freeze (Switching point serving) m changes r l snapshot at h isin e = none_in r.listed l h.empty isin
@@ -255,7 +255,7 @@ no_restoration_freeze (Restoring point serving) m changes r l snapshot at h isin
 no_restoration_freeze (Releasing point serving) m changes r l snapshot at h isin e = let q : Release point ≡ Freeze snapshot at = sym (h.bodies l isin) ∙ e in grind arith
 no_restoration_freeze (Restored point serving) m changes r l snapshot at h isin e = none_in r.listed l h.empty isin
 
-no_clone_freeze : (state : CloneState) (m : Master) (c : CloneRecord) (l : Listed) (snapshot : Id) (at : ℕ) → CloneStateGood state m c → In l c.listed → l.body ≡ Freeze snapshot at → ⊥
+pub no_clone_freeze : (state : CloneState) (m : Master) (c : CloneRecord) (l : Listed) (snapshot : Id) (at : ℕ) → CloneStateGood state m c → In l c.listed → l.body ≡ Freeze snapshot at → ⊥
 no_clone_freeze Accepted m c l snapshot at h isin e = none_in c.listed l h isin
 no_clone_freeze (CloneSnapshot own) m c l snapshot at h isin e = none_in c.listed l h.empty isin
 no_clone_freeze (Copying serving copied) m c l snapshot at h isin e =

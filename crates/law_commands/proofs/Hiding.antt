@@ -71,7 +71,7 @@ slot_hidden m changes slot t n at inbox done le present marks over h =
       later = λ ns to is serving. absurd (true≢false (sym serving));
     }
 
-hiding_is : (state : RestorationState) (m : Master) (changes : List Change) (r : RestorationRecord) (l : Listed) (at : ℕ) → RestorationStateGood state m changes r → In l r.listed → l.body ≡ Hide at → (serving : Id) × (state ≡ Restoring at serving)
+pub hiding_is : (state : RestorationState) (m : Master) (changes : List Change) (r : RestorationRecord) (l : Listed) (at : ℕ) → RestorationStateGood state m changes r → In l r.listed → l.body ≡ Hide at → (serving : Id) × (state ≡ Restoring at serving)
 hiding_is Fencing m changes r l at h isin e = absurd (let q : Fence ≡ Hide at = sym (h.bodies l isin) ∙ e in grind arith)
 hiding_is (Snapshotting point own) m changes r l at h isin e = absurd (none_in r.listed l h.empty isin)
 hiding_is (Switching point serving) m changes r l at h isin e = absurd (none_in r.listed l h.empty isin)
@@ -79,7 +79,7 @@ hiding_is (Restoring point serving) m changes r l at h isin e = let q : at ≡ p
 hiding_is (Releasing point serving) m changes r l at h isin e = absurd (let q : Release point ≡ Hide at = sym (h.bodies l isin) ∙ e in grind arith)
 hiding_is (Restored point serving) m changes r l at h isin e = absurd (none_in r.listed l h.empty isin)
 
-no_clone_hide : (state : CloneState) (m : Master) (c : CloneRecord) (l : Listed) (ended : ℕ) → CloneStateGood state m c → In l c.listed → l.body ≡ Hide ended → ⊥
+pub no_clone_hide : (state : CloneState) (m : Master) (c : CloneRecord) (l : Listed) (ended : ℕ) → CloneStateGood state m c → In l c.listed → l.body ≡ Hide ended → ⊥
 no_clone_hide Accepted m c l ended h isin e = none_in c.listed l h isin
 no_clone_hide (CloneSnapshot own) m c l ended h isin e = none_in c.listed l h.empty isin
 no_clone_hide (Copying serving at) m c l ended h isin e =

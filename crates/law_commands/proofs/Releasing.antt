@@ -84,7 +84,7 @@ released m changes slot n t operation tablet ns cutoff cs rows w d isin at opene
 
 -- By a restoration
 
-releasing_is : (state : RestorationState) (m : Master) (changes : List Change) (r : RestorationRecord) (l : Listed) (cutoff : ℕ) → RestorationStateGood state m changes r → In l r.listed → l.body ≡ Release cutoff → (serving : Id) × (state ≡ Releasing cutoff serving)
+pub releasing_is : (state : RestorationState) (m : Master) (changes : List Change) (r : RestorationRecord) (l : Listed) (cutoff : ℕ) → RestorationStateGood state m changes r → In l r.listed → l.body ≡ Release cutoff → (serving : Id) × (state ≡ Releasing cutoff serving)
 releasing_is Fencing m changes r l cutoff h isin e = absurd (let q : Fence ≡ Release cutoff = sym (h.bodies l isin) ∙ e in grind arith)
 releasing_is (Snapshotting point own) m changes r l cutoff h isin e = absurd (none_in r.listed l h.empty isin)
 releasing_is (Switching point serving) m changes r l cutoff h isin e = absurd (none_in r.listed l h.empty isin)
@@ -122,7 +122,7 @@ by_restoration m changes slot n t operation tablet cutoff cs rows d k =
 
 -- By a clone
 
-visible_is : (state : CloneState) (m : Master) (c : CloneRecord) (l : Listed) (cutoff : ℕ) → CloneStateGood state m c → In l c.listed → l.body ≡ Release cutoff → (serving : Id) × ((at : ℕ) × (state ≡ CloneReleasing serving at))
+pub visible_is : (state : CloneState) (m : Master) (c : CloneRecord) (l : Listed) (cutoff : ℕ) → CloneStateGood state m c → In l c.listed → l.body ≡ Release cutoff → (serving : Id) × ((at : ℕ) × (state ≡ CloneReleasing serving at))
 visible_is Accepted m c l cutoff h isin e = absurd (none_in c.listed l h isin)
 visible_is (CloneSnapshot own) m c l cutoff h isin e = absurd (none_in c.listed l h.empty isin)
 visible_is (Copying serving at) m c l cutoff h isin e =

@@ -138,7 +138,7 @@ slot_restored m changes slot t n version vs point to operation inbox done le beg
 
 -- The body
 
-restoring_is : (state : RestorationState) (m : Master) (changes : List Change) (r : RestorationRecord) (l : Listed) (snapshot : Id) (to at version : ℕ) → RestorationStateGood state m changes r → In l r.listed → l.body ≡ RestoreFrom snapshot to at version
+pub restoring_is : (state : RestorationState) (m : Master) (changes : List Change) (r : RestorationRecord) (l : Listed) (snapshot : Id) (to at version : ℕ) → RestorationStateGood state m changes r → In l r.listed → l.body ≡ RestoreFrom snapshot to at version
     → (state ≡ Restoring at snapshot) × (to ≡ r.to)
 restoring_is Fencing m changes r l snapshot to at version h isin e = absurd (let q : Fence ≡ RestoreFrom snapshot to at version = sym (h.bodies l isin) ∙ e in grind arith)
 restoring_is (Snapshotting point own) m changes r l snapshot to at version h isin e = absurd (none_in r.listed l h.empty isin)
@@ -148,7 +148,7 @@ restoring_is (Restoring point serving) m changes r l snapshot to at version h is
 restoring_is (Releasing point serving) m changes r l snapshot to at version h isin e = absurd (let q : Release point ≡ RestoreFrom snapshot to at version = sym (h.bodies l isin) ∙ e in grind arith)
 restoring_is (Restored point serving) m changes r l snapshot to at version h isin e = absurd (none_in r.listed l h.empty isin)
 
-no_clone_restore : (state : CloneState) (m : Master) (c : CloneRecord) (l : Listed) (snapshot : Id) (to at version : ℕ) → CloneStateGood state m c → In l c.listed → l.body ≡ RestoreFrom snapshot to at version → ⊥
+pub no_clone_restore : (state : CloneState) (m : Master) (c : CloneRecord) (l : Listed) (snapshot : Id) (to at version : ℕ) → CloneStateGood state m c → In l c.listed → l.body ≡ RestoreFrom snapshot to at version → ⊥
 no_clone_restore Accepted m c l snapshot to at version h isin e = none_in c.listed l h isin
 no_clone_restore (CloneSnapshot own) m c l snapshot to at version h isin e = none_in c.listed l h.empty isin
 no_clone_restore (Copying serving copied) m c l snapshot to at version h isin e =

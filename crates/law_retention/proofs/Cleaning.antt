@@ -1,0 +1,342 @@
+-- A prune, and the removal of a tablet or of a snapshot, take nothing that a time needs.
+use Rattle.std.proofs.Common.{◌||◌, leb-true, ◌<◌, ◌≤◌, ◌≡◌, ◌∷◌, ◌∙◌, ◌&&◌, ℕ, List, [], Bool, true, false, Option, Some, None, cond, not, map, refl, sym, ap, subst, inl, inr, le_refl, le_trans, le_of_lt, arith, eqb, leb}
+use Rattle.std.proofs.lemmas.Bool.{cond_both, true≢false}
+use Rattle.std.proofs.lemmas.Bool.Decides.{nat_tests}
+use Rattle.std.specs.List.{filter}
+use Rattle.row_values.specs.Ids.{Id, Kind, Snapshot, Tablet as TabletKind, same}
+use Rattle.row_values.specs.Elements.{In}
+use Rattle.row_values.specs.Slots.{has, same_slots}
+use Rattle.model.specs.Times.{ended_by, holds_at}
+use Rattle.model.specs.Activity.{Interval, active_at, forget, last_of, route}
+use Rattle.model.specs.Acts.{InWindow, Moved, Prune, Refusal, Refused, Remove, Removed, StalePlan, UnknownSnapshot}
+use Rattle.model.specs.Catalog.{NamespaceRecord, by_id, tables_at}
+use Rattle.model.specs.Cleanup.{floor_of_table, hidden_at, is_hidden_as, lister_of_snapshot, lister_of_tablet, remove, removed_of, removing, removing_snapshot, removing_tablet, snapshot_plan, removable_snapshot, removable_tablet, floor_of, is_old_namespace, is_old_table, prune, prune_to, pruned}
+use Rattle.model.specs.Entries.{IsRemovable, slots_of}
+use Rattle.model.specs.History.{told}
+use Rattle.model.specs.Journal.{Change}
+use Rattle.model.specs.Parts.{Fault, If, Master, Outcome, Parts, Removes, refused}
+use Rattle.model.specs.Records.{Schedule, SnapshotRecord, snapshot_with}
+use Rattle.model.specs.Retained.{IsPresent, Retained, unfinished}
+use Rattle.model.specs.Taking.{TakesNothingNeeded, names_at, untimed}
+use Rattle.law_store.proofs.Keys.{either_way}
+use Rattle.law_invariants.specs.Invariant.{Inv, Later}
+use Rattle.law_invariants.proofs.Finding.{both_pass, in_filter, not_passing, passes_both, either_passes, same_equal, same_self}
+use Rattle.law_invariants.proofs.Frame.{touched}
+use Rattle.law_invariants.proofs.Ticking.{master_before, not_true}
+use Rattle.law_invariants.proofs.Lasting.{last_in}
+use Rattle.model.specs.Tablets.{Clear, Clock, Empty, TabletAct, act_for, standing, DropFrozen, FrozenSet, Tablet, effect, is_empty, set_of}
+use Rattle.row_values.specs.Ranges.{in_range}
+use Rattle.law_cleanup.proofs.Forgetting.{not_false}
+use Rattle.law_cleanup.proofs.Removing.{nothing_keeps}
+use Rattle.law_cleanup.proofs.Discarding.{IsDiscarded, discarding, is_discarded}
+use Rattle.model.specs.Schedules.{serving}
+use Rattle.law_cleanup.proofs.Pruning.{not_holding, prune_floor}
+use Rattle.law_retention.proofs.Outcomes.{by_refusal}
+use Rattle.law_retention.proofs.Sources.{AreLike, CountsIfAny, TabletStays, like_self}
+use Rattle.law_retention.proofs.Staying.{staying_takes_nothing}
+use Rattle.law_retention.proofs.Acting.{answer_takes_nothing, Every, IsHarmless, TakesNothing, every_counts, same_stays, ticked_stays}
+
+-- Lists
+
+-- what passes goes on to be there where only what doesn't pass is left out
+pub filter_left : {A : Type 0} (test kept : A → Bool) (xs : List A) → ((x : A) → In x xs → test x ≡ true → kept x ≡ true) → filter test (filter kept xs) ≡ filter test xs
+filter_left test kept [] all = refl
+filter_left test kept (x ∷ xs) all =
+    let rest = filter_left test kept xs (λ y inside. all y (inr inside)) in
+    either_way (test x)
+    (λ yes_. let stays = all x (inl refl) yes_ in rw stays (rw yes_ (ap (λ ys. x ∷ ys) rest)))
+    (λ no_. cond_both (kept x) (x ∷ filter kept xs) (filter kept xs) (λ ys. filter test ys ≡ cond (test x) (x ∷ filter test xs) (filter test xs)) (λ b. rw no_ rest) (λ b. rw no_ rest))
+
+-- A prune
+
+pub young : (x mark from : ℕ) (to : Option ℕ) → mark ≤ x → holds_at x from to ≡ true → not (ended_by mark to) ≡ true
+young x mark from to le held = either_way (ended_by mark to) (λ over. absurd (not_holding x mark from to le over held)) (λ goes_on. ap not goes_on)
+
+names_pruned : (m : Master) (n to : ℕ) (ns : Id) → floor_of m ns n ≤ to → names_at (pruned n m).catalog.namespaces ns to ≡ names_at m.catalog.namespaces ns to
+names_pruned m n to ns low = ap (λ rs. map {A = NamespaceRecord} (λ r. r.name) rs)
+    (filter_left (λ r. holds_at to r.from r.to && same r.id ns) (λ r. not (is_old_namespace m n r)) m.catalog.namespaces
+    (λ r inside passes.
+    let both = both_pass (holds_at to r.from r.to) (same r.id ns) passes in
+    let mark : prune_to m r.id n ≤ to = subst (λ id. prune_to m id n ≤ to) (sym (same_equal r.id ns both.1)) (le_trans (prune_floor m n ns) low) in
+    young to (prune_to m r.id n) r.from r.to mark both.0))
+
+tables_pruned : (m : Master) (n to : ℕ) (ns : Id) → floor_of m ns n ≤ to → tables_at (pruned n m).catalog.tables ns to ≡ tables_at m.catalog.tables ns to
+tables_pruned m n to ns low = ap by_id
+    (filter_left (λ r. holds_at to r.from r.to && same r.namespace ns) (λ r. not (is_old_table m n r)) m.catalog.tables
+    (λ r inside passes.
+    let both = both_pass (holds_at to r.from r.to) (same r.namespace ns) passes in
+    let mark : prune_to m r.namespace n ≤ to = subst (λ id. prune_to m id n ≤ to) (sym (same_equal r.namespace ns both.1)) (le_trans (prune_floor m n ns) low) in
+    young to (prune_to m r.namespace n) r.from r.to mark both.0))
+
+pub prune_takes_nothing : IsHarmless Prune prune
+unfolding prune
+prune_takes_nothing n ps activity taken changes later inv retained =
+    let m = ps.master in
+    staying_takes_nothing Every Prune ps (told Prune (prune n ps) n ps) activity taken retained (record {
+      later = master_before (slots_of Prune) ps n later refl;
+      owners = refl;
+      known = λ i inside. inv.remembered.kept i inside;
+      times = λ s to listed from. record {
+        names = names_pruned m n to s.namespace from;
+        tables = ap (λ rs. map untimed rs) (tables_pruned m n to s.namespace from);
+        serving_like = like_self _;
+        left_like = like_self _;
+        serving_counts = every_counts _;
+        left_counts = every_counts _;
+        places = λ table code there. refl;
+      };
+      active = λ i inside there. inside;
+      tablets = λ i inside there. cond_both (touched Prune i.slot) (record (ps.tablet i.slot) { clock = n }) (ps.tablet i.slot) (λ u. TabletStays Every (ps.tablet i.slot) u)
+          (λ b. ticked_stays (ps.tablet i.slot) n) (λ b. same_stays (ps.tablet i.slot));
+      cutoffs = λ slot. (inv.slots slot).good.cutoff;
+    })
+
+-- The removal of a tablet
+
+-- a code's route goes by tablets that stay
+route_left : (target : Id) (is : List Interval) (table : Id) (code x : ℕ) → ((i : Interval) → In i is → i.table ≡ table → active_at x i ≡ true → same i.tablet target ≡ false)
+    → route (forget target is) table code x ≡ route is table code x
+route_left target [] table code x stays = refl
+route_left target (i ∷ is) table code x stays =
+    let rest = route_left target is table code x (λ j inside. stays j (inr inside)) in
+    let here = same i.table table && (active_at x i && in_range i.low i.high code) in
+    either_way here
+    (λ yes_.
+    let both = both_pass (same i.table table) (active_at x i && in_range i.low i.high code) yes_ in
+    let kept = stays i (inl refl) (same_equal i.table table both.0) (both_pass (active_at x i) (in_range i.low i.high code) both.1).0 in
+    rw kept (rw yes_ refl))
+    (λ no_. cond_both (not (same i.tablet target)) (i ∷ forget target is) (forget target is) (λ js. route js table code x ≡ cond here (Some i) (route is table code x))
+    (λ b. rw no_ rest) (λ b. rw no_ rest))
+
+still_in : (target : Id) (is : List Interval) (i : Interval) → In i is → same i.tablet target ≡ false → In i (forget target is)
+still_in target is i inside apart = in_filter is (λ j. not (same j.tablet target)) i inside (ap not apart)
+
+-- a tablet that is cleared isn't present
+cleared_gone : (ps after : Parts) (i : Interval) (j : Interval) → is_empty (after.tablet j.slot).presence ≡ true → i.slot ≡ j.slot → IsPresent after i.slot i.tablet → ⊥
+cleared_gone ps after i j empty is there = true≢false (sym empty ∙ subst (λ s. is_empty (after.tablet s).presence ≡ false) is there.held)
+
+forgotten_takes_nothing : (ps : Parts) (after : ℕ → Tablet) (activity : List Interval) (taken : List SnapshotRecord) (changes : List Change) (n : ℕ) (target : Id) (slots : List ℕ) (j : Interval)
+    → ps.master.clock ≤ n → Inv ps activity changes → last_of ps.master.activity target ≡ Some j
+    → is_empty (after j.slot).presence ≡ true → ((slot : ℕ) → is_empty (after slot).presence ≡ false → TabletStays Every (ps.tablet slot) (after slot))
+    → Retained (record { master = record ps.master { clock = n; activity = forget target ps.master.activity }; tablet = after }) activity taken
+    → TakesNothingNeeded (Remove target slots) ps (record { master = record ps.master { clock = n; activity = forget target ps.master.activity }; tablet = after })
+forgotten_takes_nothing ps after activity taken changes n target slots j before inv last empty tablets retained =
+    let m = ps.master in
+    let left : Parts = record { master = record m { clock = n; activity = forget target m.activity }; tablet = after } in
+    let found = last_in m.activity target j last in
+    let g = (inv.slots j.slot).each j found.0 refl in
+    let apart : (i : Interval) → In i m.activity → IsPresent left i.slot i.tablet → same i.tablet target ≡ false = λ i inside there.
+    not_passing (same i.tablet target) (λ e.
+    let is : i.tablet ≡ (ps.tablet j.slot).tablet = same_equal i.tablet target e ∙ sym (same_equal j.tablet target found.1) ∙ sym g.tablet_is in
+    cleared_gone ps left i j empty ((inv.slots j.slot).home g.present i inside is) there) in
+    staying_takes_nothing Every (Remove target slots) ps left activity taken retained (record {
+      later = before;
+      owners = refl;
+      known = λ i inside. inv.remembered.kept i inside;
+      times = λ s to listed from. record {
+        names = refl;
+        tables = refl;
+        serving_like = like_self _;
+        left_like = like_self _;
+        serving_counts = every_counts _;
+        left_counts = every_counts _;
+        places = λ table code there. route_left target m.activity table code to (λ i inside is active. apart i inside (there i inside is active));
+      };
+      active = λ i inside there. still_in target m.activity i inside (apart i inside there);
+      tablets = λ i inside there. tablets i.slot there.held;
+      cutoffs = λ slot. (inv.slots slot).good.cutoff;
+    })
+
+-- The removal of a snapshot
+
+-- each frozen set but those of the removed snapshot
+other_set : (fs : List FrozenSet) (target snapshot : Id) → (snapshot ≡ target → ⊥) → set_of (filter (λ f. not (same f.snapshot target)) fs) snapshot ≡ set_of fs snapshot
+other_set [] target snapshot apart = refl
+other_set (f ∷ fs) target snapshot apart =
+    let rest = other_set fs target snapshot apart in
+    either_way (same f.snapshot snapshot)
+    (λ is. let other : same f.snapshot target ≡ false = not_passing (same f.snapshot target) (λ e. apart (sym (same_equal f.snapshot snapshot is) ∙ same_equal f.snapshot target e)) in
+    rw other (rw is refl))
+    (λ isnt. cond_both (not (same f.snapshot target)) (f ∷ filter (λ g. not (same g.snapshot target)) fs) (filter (λ g. not (same g.snapshot target)) fs)
+    (λ gs. set_of gs snapshot ≡ cond (same f.snapshot snapshot) (Some f) (set_of fs snapshot)) (λ b. rw isnt rest) (λ b. rw isnt rest))
+
+unfrozen_stays : (t : Tablet) (target : Id) (n : ℕ) → TabletStays (λ snapshot. snapshot ≡ target → ⊥) t (effect (DropFrozen target) n t)
+unfrozen_stays t target n = record { sets = λ snapshot counts. other_set t.frozen target snapshot counts; rises = le_refl _; reads = λ key x above past. refl }
+
+-- the snapshot that serves a time is another one
+still_serving : (rs : List SnapshotRecord) (target schedule : Id) (to : ℕ) → ((r : SnapshotRecord) → In r rs → r.schedule ≡ schedule → to ≤ r.at → same r.id target ≡ false)
+    → serving (filter (λ r. not (same r.id target)) rs) schedule to ≡ serving rs schedule to
+still_serving [] target schedule to stays = refl
+still_serving (r ∷ rs) target schedule to stays =
+    let rest = still_serving rs target schedule to (λ q inside. stays q (inr inside)) in
+    let here = (same r.schedule schedule && r.complete) && leb to r.at in
+    either_way here
+    (λ yes_.
+    let both = both_pass (same r.schedule schedule && r.complete) (leb to r.at) yes_ in
+    let kept = stays r (inl refl) (same_equal r.schedule schedule (both_pass (same r.schedule schedule) r.complete both.0).0) (leb-true to r.at both.1) in
+    rw kept (rw yes_ refl))
+    (λ no_. cond_both (not (same r.id target)) (r ∷ filter (λ q. not (same q.id target)) rs) (filter (λ q. not (same q.id target)) rs)
+    (λ qs. serving qs schedule to ≡ cond here (Some r) (serving rs schedule to)) (λ b. rw no_ rest) (λ b. rw no_ rest))
+
+still_unfinished : (rs : List SnapshotRecord) (target schedule : Id) → ((r : SnapshotRecord) → In r rs → r.complete ≡ false → same r.id target ≡ false)
+    → unfinished (filter (λ r. not (same r.id target)) rs) schedule ≡ unfinished rs schedule
+still_unfinished [] target schedule stays = refl
+still_unfinished (r ∷ rs) target schedule stays =
+    let rest = still_unfinished rs target schedule (λ q inside. stays q (inr inside)) in
+    let here = same r.schedule schedule && not r.complete in
+    either_way here
+    (λ yes_.
+    let kept = stays r (inl refl) (not_true r.complete (both_pass (same r.schedule schedule) (not r.complete) yes_).1) in
+    rw kept (rw yes_ refl))
+    (λ no_. cond_both (not (same r.id target)) (r ∷ filter (λ q. not (same q.id target)) rs) (filter (λ q. not (same q.id target)) rs)
+    (λ qs. unfinished qs schedule ≡ cond here (Some r) (unfinished rs schedule)) (λ b. rw no_ rest) (λ b. rw no_ rest))
+
+-- what serves a time, and what is unfinished, isn't the removed snapshot
+serving_apart : (rs : List SnapshotRecord) (target schedule : Id) (to : ℕ) → ((r : SnapshotRecord) → In r rs → r.schedule ≡ schedule → to ≤ r.at → same r.id target ≡ false)
+    → CountsIfAny (λ snapshot. snapshot ≡ target → ⊥) (serving rs schedule to)
+serving_apart [] target schedule to stays = tt
+serving_apart (r ∷ rs) target schedule to stays = cond_both ((same r.schedule schedule && r.complete) && leb to r.at) (Some r) (serving rs schedule to) (CountsIfAny (λ snapshot. snapshot ≡ target → ⊥))
+    (λ yes_ is.
+    let both = both_pass (same r.schedule schedule && r.complete) (leb to r.at) yes_ in
+    let kept = stays r (inl refl) (same_equal r.schedule schedule (both_pass (same r.schedule schedule) r.complete both.0).0) (leb-true to r.at both.1) in
+    true≢false (sym (ap (λ id. same id target) is ∙ same_self target) ∙ kept))
+    (λ no_. serving_apart rs target schedule to (λ q inside. stays q (inr inside)))
+
+unfinished_apart : (rs : List SnapshotRecord) (target schedule : Id) → ((r : SnapshotRecord) → In r rs → r.complete ≡ false → same r.id target ≡ false)
+    → CountsIfAny (λ snapshot. snapshot ≡ target → ⊥) (unfinished rs schedule)
+unfinished_apart [] target schedule stays = tt
+unfinished_apart (r ∷ rs) target schedule stays = cond_both (same r.schedule schedule && not r.complete) (Some r) (unfinished rs schedule) (CountsIfAny (λ snapshot. snapshot ≡ target → ⊥))
+    (λ yes_ is. true≢false (sym (ap (λ id. same id target) is ∙ same_self target) ∙ stays r (inl refl) (not_true r.complete (both_pass (same r.schedule schedule) (not r.complete) yes_).1)))
+    (λ no_. unfinished_apart rs target schedule (λ q inside. stays q (inr inside)))
+
+discarded_takes_nothing : (ps : Parts) (after : ℕ → Tablet) (activity : List Interval) (taken : List SnapshotRecord) (changes : List Change) (n : ℕ) (target : Id) (slots : List ℕ) (r : SnapshotRecord)
+    → Inv ps activity changes → IsDiscarded ps.master n target r
+    → ((slot : ℕ) → TabletStays (λ snapshot. snapshot ≡ target → ⊥) (ps.tablet slot) (after slot))
+    → Retained (record { master = discarding ps.master n target; tablet = after }) activity taken
+    → TakesNothingNeeded (Remove target slots) ps (record { master = discarding ps.master n target; tablet = after })
+discarded_takes_nothing ps after activity taken changes n target slots r inv d tablets retained =
+    let m = ps.master in
+    let left : Parts = record { master = discarding m n target; tablet = after } in
+    let young : (s : Schedule) (to : ℕ) → In s m.schedules → floor_of m s.namespace n ≤ to → (q : SnapshotRecord) → In q m.snapshots → q.schedule ≡ s.id → to ≤ q.at → same q.id target ≡ false = λ s to listed from q inside of late.
+    not_passing (same q.id target) (λ e.
+    let is : q ≡ r = d.alone q inside (same_equal q.id target e) in
+    let ns : s.namespace ≡ q.namespace = (inv.operations.snapshots q inside).of_schedule s listed (sym of) in
+    let low : floor_of m r.namespace n ≤ to = subst (λ k. floor_of m k n ≤ to) (ns ∙ ap (λ x. x.namespace) is) from in
+    let past : r.at < floor_of m r.namespace n = d.below in
+    let there : to ≤ r.at = subst (λ x. to ≤ x.at) is late in
+    omega arith) in
+    let open_ : (q : SnapshotRecord) → In q m.snapshots → q.complete ≡ false → same q.id target ≡ false = λ q inside open_.
+    not_passing (same q.id target) (λ e. true≢false (sym d.complete ∙ sym (ap (λ x. x.complete) (d.alone q inside (same_equal q.id target e))) ∙ open_)) in
+    staying_takes_nothing (λ snapshot. snapshot ≡ target → ⊥) (Remove target slots) ps left activity taken retained (record {
+      later = le_of_lt d.before;
+      owners = refl;
+      known = λ i inside. inv.remembered.kept i inside;
+      times = λ s to listed from. record {
+        names = refl;
+        tables = refl;
+        serving_like = subst (λ o. AreLike o (serving m.snapshots s.id to)) (sym (still_serving m.snapshots target s.id to (young s to listed from))) (like_self _);
+        left_like = subst (λ o. AreLike o (unfinished m.snapshots s.id)) (sym (still_unfinished m.snapshots target s.id open_)) (like_self _);
+        serving_counts = serving_apart m.snapshots target s.id to (young s to listed from);
+        left_counts = unfinished_apart m.snapshots target s.id open_;
+        places = λ table code there. refl;
+      };
+      active = λ i inside there. inside;
+      tablets = λ i inside there. tablets i.slot;
+      cutoffs = λ slot. (inv.slots slot).good.cutoff;
+    })
+
+-- The act
+
+-- what each of the slots is told, or else nothing
+pub either_told : (P : TabletAct → Type 0) (slots : List ℕ) (what : TabletAct) (slot : ℕ) → P what → P Clock → P (act_for (map (λ i. record { slot = i; act = what }) slots) slot)
+either_told P [] what slot told_ quiet = quiet
+either_told P (i ∷ slots) what slot told_ quiet = cond_both (eqb i slot) what (act_for (map (λ j. record { slot = j; act = what }) slots) slot) P (λ e. told_) (λ e. either_told P slots what slot told_ quiet)
+
+refused_removal : (target : Id) (slots : List ℕ) (n : ℕ) (ps : Parts) (activity : List Interval) (taken : List SnapshotRecord) (changes : List Change) → Later (slots_of (Remove target slots)) ps n → Inv ps activity changes
+    → (why : Refusal) → TakesNothing (Remove target slots) n ps activity taken (refused why)
+refused_removal target slots n ps activity taken changes later inv why = answer_takes_nothing (Remove target slots) (Refused why) n ps activity taken changes later inv
+
+pub has_only : (slots : List ℕ) (slot : ℕ) → same_slots slots (slot ∷ []) ≡ true → has slots slot ≡ true
+has_only [] slot same_ = absurd (true≢false (sym same_))
+has_only (i ∷ slots) slot same_ = ap (λ b. b || has slots slot) (both_pass (eqb i slot) (same_slots slots []) same_).0
+
+-- a tablet's removal
+
+removing_tablet_takes_nothing : (found : Option Interval) (target : Id) (slots : List ℕ) (n : ℕ) (ps : Parts) (activity : List Interval) (taken : List SnapshotRecord) (changes : List Change)
+    → last_of ps.master.activity target ≡ found → target.kind ≡ TabletKind → Later (slots_of (Remove target slots)) ps n → Inv ps activity changes
+    → TakesNothing (Remove target slots) n ps activity taken (removing_tablet found target slots n ps)
+removing_tablet_takes_nothing None target slots n ps activity taken changes e kind later inv =
+    by_refusal (TakesNothing (Remove target slots) n ps activity taken) (If (not (same_slots slots [])) (StalePlan []) ∷ []) (refused (Moved 0 Empty))
+    (refused_removal target slots n ps activity taken changes later inv)
+    (λ passes. refused_removal target slots n ps activity taken changes later inv (Moved 0 Empty))
+removing_tablet_takes_nothing (Some i) target slots n ps activity taken changes e kind later inv =
+    let t = ps.tablet i.slot in
+    let o : Outcome = record { master = Removes target; tablets = record { slot = i.slot; act = Clear } ∷ []; reply = Removed } in
+    by_refusal (TakesNothing (Remove target slots) n ps activity taken)
+    (If (not (same_slots slots (i.slot ∷ []))) (StalePlan (i.slot ∷ []))
+    ∷ If (not (is_hidden_as target t)) (Moved i.slot (standing t))
+    ∷ Fault (removable_tablet (hidden_at t.presence) (floor_of_table ps.master i.table n) (lister_of_tablet ps.master target))
+    ∷ [])
+    o
+    (refused_removal target slots n ps activity taken changes later inv)
+    (λ passes.
+    let act = Remove target slots in
+    let after = (told act o n ps).tablet in
+    let at : has slots i.slot ≡ true = has_only slots i.slot (not_false (same_slots slots (i.slot ∷ [])) passes.0) in
+    let g = (inv.slots i.slot).each i (last_in ps.master.activity target i e).0 refl in
+    let from : 1 ≤ i.slot = g.slot_from in
+    let positive : eqb i.slot 0 ≡ false = grind (arith, nat_tests) in
+    let touches : touched act i.slot ≡ true = passes_both (has (0 ∷ slots) i.slot) (not (eqb i.slot 0)) (either_passes (eqb 0 i.slot) (has slots i.slot) at) (ap not positive) in
+    let self : eqb i.slot i.slot ≡ true = grind (arith, nat_tests) in
+    let empty : is_empty (after i.slot).presence ≡ true = rw touches (rw self refl) in
+    let tablets : (slot : ℕ) → is_empty (after slot).presence ≡ false → TabletStays Every (ps.tablet slot) (after slot) = λ slot.
+    cond_both (touched act slot) (effect (act_for o.tablets slot) n (ps.tablet slot)) (ps.tablet slot) (λ u. is_empty u.presence ≡ false → TabletStays Every (ps.tablet slot) u)
+    (λ b. cond_both (eqb i.slot slot) Clear Clock (λ a. is_empty (effect a n (ps.tablet slot)).presence ≡ false → TabletStays Every (ps.tablet slot) (effect a n (ps.tablet slot)))
+    (λ c held. absurd (true≢false held)) (λ c held. ticked_stays (ps.tablet slot) n))
+    (λ b held. same_stays (ps.tablet slot)) in
+    subst (λ k. Retained (record { master = removed_of k target n ps.master; tablet = after }) activity taken → TakesNothingNeeded act ps (record { master = removed_of k target n ps.master; tablet = after })) (sym kind)
+    (forgotten_takes_nothing ps after activity taken changes n target slots i (master_before (slots_of act) ps n later refl) inv e empty tablets))
+
+-- a snapshot's removal
+
+removing_snapshot_takes_nothing : (found : Option SnapshotRecord) (target : Id) (slots : List ℕ) (n : ℕ) (ps : Parts) (activity : List Interval) (taken : List SnapshotRecord) (changes : List Change)
+    → snapshot_with ps.master.snapshots target ≡ found → target.kind ≡ Snapshot → Later (slots_of (Remove target slots)) ps n → Inv ps activity changes
+    → TakesNothing (Remove target slots) n ps activity taken (removing_snapshot found target slots n ps)
+removing_snapshot_takes_nothing None target slots n ps activity taken changes e kind later inv =
+    by_refusal (TakesNothing (Remove target slots) n ps activity taken) (If (not (same_slots slots [])) (StalePlan []) ∷ []) (refused UnknownSnapshot)
+    (refused_removal target slots n ps activity taken changes later inv)
+    (λ passes. refused_removal target slots n ps activity taken changes later inv UnknownSnapshot)
+removing_snapshot_takes_nothing (Some r) target slots n ps activity taken changes e kind later inv =
+    let plan = snapshot_plan ps.master r in
+    let floor = floor_of ps.master r.namespace n in
+    let o : Outcome = record { master = Removes target; tablets = map (λ slot. record { slot = slot; act = DropFrozen target }) plan; reply = Removed } in
+    by_refusal (TakesNothing (Remove target slots) n ps activity taken)
+    (If (not (same_slots slots plan)) (StalePlan plan)
+    ∷ Fault (removable_snapshot r.at (floor_of ps.master r.namespace n) (lister_of_snapshot ps.master r))
+    ∷ [])
+    o
+    (refused_removal target slots n ps activity taken changes later inv)
+    (λ passes.
+    let act = Remove target slots in
+    let after = (told act o n ps).tablet in
+    let unneeded = nothing_keeps (leb floor r.at) (lister_of_snapshot ps.master r) (InWindow r.at floor) passes.1.0 in
+    let late : leb floor r.at ≡ false = unneeded.0 in
+    let below : r.at < floor = grind (arith, nat_tests) in
+    let d = is_discarded ps.master n changes target r (later 0 refl) inv.operations e below unneeded.1 in
+    let tablets : (slot : ℕ) → TabletStays (λ snapshot. snapshot ≡ target → ⊥) (ps.tablet slot) (after slot) = λ slot.
+    cond_both (touched act slot) (effect (act_for o.tablets slot) n (ps.tablet slot)) (ps.tablet slot) (λ u. TabletStays (λ snapshot. snapshot ≡ target → ⊥) (ps.tablet slot) u)
+    (λ b. either_told (λ a. TabletStays (λ snapshot. snapshot ≡ target → ⊥) (ps.tablet slot) (effect a n (ps.tablet slot))) plan (DropFrozen target) slot
+    (unfrozen_stays (ps.tablet slot) target n) (record { sets = λ snapshot counts. refl; rises = le_refl _; reads = λ key x above past. refl }))
+    (λ b. record { sets = λ snapshot counts. refl; rises = le_refl _; reads = λ key x above past. refl }) in
+    subst (λ k. Retained (record { master = removed_of k target n ps.master; tablet = after }) activity taken → TakesNothingNeeded act ps (record { master = removed_of k target n ps.master; tablet = after })) (sym kind)
+    (discarded_takes_nothing ps after activity taken changes n target slots r inv d tablets))
+
+removing_takes_nothing : (kind : Kind) (target : Id) (slots : List ℕ) (n : ℕ) (ps : Parts) (activity : List Interval) (taken : List SnapshotRecord) (changes : List Change) → target.kind ≡ kind → IsRemovable kind
+    → Later (slots_of (Remove target slots)) ps n → Inv ps activity changes → TakesNothing (Remove target slots) n ps activity taken (removing kind target slots n ps)
+removing_takes_nothing TabletKind target slots n ps activity taken changes kind asked later inv = removing_tablet_takes_nothing (last_of ps.master.activity target) target slots n ps activity taken changes refl kind later inv
+removing_takes_nothing Snapshot target slots n ps activity taken changes kind asked later inv = removing_snapshot_takes_nothing (snapshot_with ps.master.snapshots target) target slots n ps activity taken changes refl kind later inv
+removing_takes_nothing _ target slots n ps activity taken changes kind asked later inv = absurd asked
+
+pub remove_takes_nothing : (target : Id) (slots : List ℕ) → IsRemovable target.kind → IsHarmless (Remove target slots) (remove target slots)
+unfolding remove
+remove_takes_nothing target slots asked n ps activity taken changes later inv = removing_takes_nothing target.kind target slots n ps activity taken changes refl asked later inv

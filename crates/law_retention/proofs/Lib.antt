@@ -1,0 +1,14 @@
+pub mod Sources
+pub mod Staying
+pub mod Outcomes
+pub mod Acting
+pub mod Cleaning
+pub mod Marking
+pub mod Reaching
+pub mod Retaining
+pub mod Holding
+pub mod Acts
+pub mod Clearing
+pub mod Lasting
+pub mod Doing
+pub mod Taking

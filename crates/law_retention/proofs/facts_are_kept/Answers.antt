@@ -1,0 +1,9 @@
+-- By the lemma on each act.
+use Rattle.law_retention.proofs.Taking.{act_keeps_facts, start_facts}
+use Rattle.law_retention.proofs.facts_are_kept.Goals as goal
+
+pub returns : goal.returns
+returns c = record {
+  start = λ slots. start_facts slots;
+  kept = λ act slots n ps activity changes asked covered later inv facts. act_keeps_facts act slots asked covered n ps activity changes later inv facts;
+}

@@ -1,0 +1,57 @@
+-- What retention rests on, besides what holds after each entry anyway: how far back each tablet goes, and how the times
+-- of snapshots follow each other.
+use Rattle.std.specs.Prelude.{◌≡◌, ℕ, ◌≤◌, ◌<◌, true, false, Some, ◌+◌, ◌⊎◌, max}
+use Rattle.row_values.specs.Elements.{In}
+use Rattle.model.specs.Activity.{Interval, active_at, last_of}
+use Rattle.model.specs.Parts.{Master, Parts}
+use Rattle.model.specs.Records.{Schedule, SnapshotRecord}
+use Rattle.model.specs.Retained.{IsTabletOf, floor_now}
+use Rattle.model.specs.Schedules.{after_of, complete_to}
+use Rattle.model.specs.Tablets.{FrozenSet, Tablet, is_empty}
+
+-- how far back a tablet goes
+pub record GoesBack (m : Master) (t : Tablet) : Type 0 where
+  -- its live store: past the last complete snapshot by one at most, or to the start of the tablet's last activity
+  pub live : (s : Schedule) (i : Interval) → In s m.schedules → last_of m.activity t.tablet ≡ Some i
+      → IsTabletOf m s.namespace i → t.cutoff ≤ max (complete_to s.complete s + 1) i.from
+  pub now : t.cutoff ≤ m.clock
+  -- a frozen set: to each time after the snapshot before at which the tablet was active
+  pub sets : (f : FrozenSet) (r : SnapshotRecord) (i : Interval) (x : ℕ) → In f t.frozen → In r m.snapshots
+      → r.id ≡ f.snapshot → In i m.activity → i.tablet ≡ t.tablet → active_at x i ≡ true
+      → r.after < x → x ≤ r.at → f.cutoff ≤ x
+
+-- after the last complete snapshot a tablet is active in its last interval alone
+abbrev pub LastSince : Master → Type 0
+LastSince m = (s : Schedule) (i j : Interval) (x : ℕ) → In s m.schedules → In i m.activity → IsTabletOf m s.namespace i
+    → active_at x i ≡ true → last_of m.activity i.tablet ≡ Some j → complete_to s.complete s < x → j.from ≤ x
+
+-- of a tablet's intervals none begins after the last
+abbrev pub LastIsLatest : Master → Type 0
+LastIsLatest m = (i j : Interval) → In i m.activity → last_of m.activity i.tablet ≡ Some j → i.from ≤ j.from
+
+-- the snapshot of a time is complete and kept
+pub record IsKeptAt (m : Master) (s : Schedule) (at : ℕ) : Type 0 where
+  pub snapshot : SnapshotRecord
+  pub kept : In snapshot m.snapshots
+  pub schedule_is : snapshot.schedule ≡ s.id
+  pub complete : snapshot.complete ≡ true
+  pub at_is : snapshot.at ≡ at
+
+-- how the times of a schedule's snapshots follow each other
+pub record TimesFollow (m : Master) (s : Schedule) : Type 0 where
+  pub complete : (r : SnapshotRecord) → In r m.snapshots → r.schedule ≡ s.id → r.complete ≡ true
+      → r.at ≤ complete_to s.complete s
+  -- an unfinished one is the next after the last complete one
+  pub unfinished : (r : SnapshotRecord) → In r m.snapshots → r.schedule ≡ s.id → r.complete ≡ false
+      → r.after ≡ complete_to s.complete s
+  -- where none is unfinished, the last one is complete
+  pub last : ((r : SnapshotRecord) → In r m.snapshots → r.schedule ≡ s.id → r.complete ≡ false → ⊥)
+      → after_of s.last s ≡ complete_to s.complete s
+  -- the last complete one is kept, unless it is below the floor
+  pub kept : (complete_to s.complete s < floor_now m s.namespace) ⊎ IsKeptAt m s (complete_to s.complete s)
+
+pub record Facts (ps : Parts) : Type 0 where
+  pub tablets : (slot : ℕ) → is_empty (ps.tablet slot).presence ≡ false → GoesBack ps.master (ps.tablet slot)
+  pub last_since : LastSince ps.master
+  pub latest : LastIsLatest ps.master
+  pub times : (s : Schedule) → In s ps.master.schedules → TimesFollow ps.master s

@@ -12,7 +12,8 @@ number_item key number = record { key = key; op = Upsert (record { column = 1; v
 
 -- a row with that number in column 1
 abbrev pub number_row : List ℕ → ℤ → KeyedRow
-number_row key number = record { key = key; row = record { present = true; cells = record { column = 1; value = Int number } ∷ [] } }
+number_row key number =
+    record { key = key; row = record { present = true; cells = record { column = 1; value = Int number } ∷ [] } }
 
 abbrev pub no_row : List ℕ → KeyedRow
 no_row key = record { key = key; row = absent_row }

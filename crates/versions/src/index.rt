@@ -136,12 +136,7 @@ impl KeyEntry {
 }
 
 // The row after the version at a place.
-fn row_at_place(
-    alloc: Global,
-    row: &Row,
-    log: &[Version],
-    place: usize,
-) -> Result<Row, NoMemory>
+fn row_at_place(alloc: Global, row: &Row, log: &[Version], place: usize) -> Result<Row, NoMemory>
     ensures { IfOk result (λ next. (rest : List Version) → row_on next rest ≡ row_on row.now (with_found (slice_get log.now place) rest)) }
 {
     match version_at(log, place) {
@@ -151,12 +146,7 @@ fn row_at_place(
 }
 
 // The row after the versions at these places.
-fn row_from(
-    alloc: Global,
-    before: &Row,
-    log: &[Version],
-    past: &[Past],
-) -> Result<Row, NoMemory>
+fn row_from(alloc: Global, before: &Row, log: &[Version], past: &[Past]) -> Result<Row, NoMemory>
     ensures { IfOk result (λ row. row ≡ row_on before.now (chosen log.now past.now)) }
 {
     let Some((first, rest)) = past.split_first() else {

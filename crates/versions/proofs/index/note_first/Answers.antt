@@ -1,4 +1,4 @@
-use Rattle.std.proofs.Common.{nat_cmp, refl, sym, subst, ◌≡◌}
+use Rattle.std.proofs.Common.{nat_cmp, sym, subst}
 use Rattle.std.specs.BTreeMap.{get}
 use Rattle.std.specs.Cmp.Lexicographic.{slice_cmp}
 use Rattle.versions.specs.Indexed.{IsEntry}

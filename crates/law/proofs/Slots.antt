@@ -4,11 +4,11 @@ use Rattle.std.specs.Option.{option_map_or}
 use Rattle.std.proofs.lemmas.Bool.{cond_both}
 use Rattle.row_values.specs.Ids.{Id, Kind, Tablet, Snapshot, Restoration, Clone}
 use Rattle.row_values.specs.Slots.{has}
-use Rattle.model.specs.Records.{Schedule, SnapshotRecord, RestorationRecord, RestorationState, Fencing, CloneRecord, CloneState, Accepted, schedule_with, schedule_of}
+use Rattle.model.specs.Records.{Schedule, SnapshotRecord, RestorationRecord, RestorationState, Fencing, CloneRecord, CloneState, Accepted, schedule_of, Snapshotting, Switching, Restoring, Releasing, Restored}
 use Rattle.model.specs.Acts.{Act}
 use Rattle.model.specs.Parts.{Master, Parts, MasterAct, Ticks, MakesNamespace, DropsNamespace, MakesTable, AddsColumn, DropsColumn, RenamesTable, DropsTable, SplitsTablet, MakesSchedule, DeletesSchedule, TakesSnapshot, BeginsRestoration, BeginsClone, Sends, Acks, Unsends, Moves, Removes, Prunes, Restarts, Outcome}
 use Rattle.model.specs.Coordination.{unfinished_snapshot, unfinished_restoration, unfinished_clone, acked_by}
-use Rattle.model.specs.Moves.{with_own_snapshot, serving_clone, completed, restoration_moved, begins_clone, clone_moved, moved_of}
+use Rattle.model.specs.Moves.{with_clones_snapshot, serving_clone, completed, restoration_moved, begins_clone, clone_moved, moved_of}
 use Rattle.model.specs.Cleanup.{removed_of}
 use Rattle.model.specs.Entries.{Entry, slots_of}
 use Rattle.model.specs.History.{master_effect, told, outcome, replay}
@@ -23,16 +23,20 @@ removed_slots _ target n m = refl
 
 -- Moves
 
-own_slots : (s : Option Schedule) (n : ℕ) (m : Master) → (with_own_snapshot s n m).slots ≡ m.slots
-own_slots None n m = refl
-own_slots (Some s) n m = refl
+own_slots : (s : Option Schedule) (r : CloneRecord) (n : ℕ) (m : Master) → (with_clones_snapshot s r n m).slots ≡ m.slots
+own_slots None r n m = refl
+own_slots (Some s) r n m = refl
 
 restoration_slots : (state : RestorationState) (r : RestorationRecord) (n : ℕ) (m : Master) → (restoration_moved state r n m).slots ≡ m.slots
-restoration_slots Fencing r n m = own_slots (schedule_with m.schedules r.schedule) n m
-restoration_slots _ r n m = refl
+restoration_slots Fencing r n m = refl
+restoration_slots (Snapshotting point own) r n m = refl
+restoration_slots (Switching point serving) r n m = refl
+restoration_slots (Restoring point serving) r n m = refl
+restoration_slots (Releasing point serving) r n m = refl
+restoration_slots (Restored point serving) r n m = refl
 
 begun_slots : (found : Option SnapshotRecord) (r : CloneRecord) (n : ℕ) (m : Master) → (begins_clone found r n m).slots ≡ m.slots
-begun_slots None r n m = own_slots (schedule_of m.schedules r.source) n m
+begun_slots None r n m = own_slots (schedule_of m.schedules r.source) r n m
 begun_slots (Some s) r n m = refl
 
 clone_slots : (state : CloneState) (r : CloneRecord) (n : ℕ) (m : Master) → (clone_moved state r n m).slots ≡ m.slots

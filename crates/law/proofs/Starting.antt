@@ -41,7 +41,7 @@ start_holds slots = record {
   operations = record {
     apart = record {
       schedule_ids = λ x y isin. absurd isin;
-      one_schedule = λ x y isin. absurd isin;
+      one_scheduled = λ x y isin. absurd isin;
       snapshots_rise = tt;
       one_snapshot = λ q r isin. absurd isin;
       restoration_ids = λ x y isin. absurd isin;
@@ -56,6 +56,7 @@ start_holds slots = record {
     kept = λ ns. le_refl 0;
     owners = λ table ns e. absurd (let q = e in grind arith);
     schedules = λ s isin. absurd isin;
+    scheduled = λ k isin. absurd isin;
     snapshots = λ r isin. absurd isin;
     restorations = λ r isin. absurd isin;
     clones = λ c isin. absurd isin;

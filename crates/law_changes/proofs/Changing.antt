@@ -4,13 +4,13 @@ use Rattle.row_values.specs.Slots.{same_slots}
 use Rattle.model.specs.Journal.{Change as Made}
 use Rattle.model.specs.Records.{Schedule, schedule_with}
 use Rattle.model.specs.Entries.{CommandAsked, slots_of}
-use Rattle.model.specs.Acts.{Reply, Command, CreateNamespace, DropNamespace, CreateTable, AddColumn, DropColumn, RenameTable, DropTable, Restore, CloneNamespace, ListSchedules, ListSnapshots, ListRestorations, ListClones, ListTablets, Change, Refused, StalePlan, Schedules, Snapshots, Restorations, Clones, Tablets, Act, Refusal}
+use Rattle.model.specs.Acts.{Command, CreateNamespace, DropNamespace, CreateTable, AddColumn, DropColumn, RenameTable, DropTable, Restore, CloneNamespace, ListSchedules, ListSnapshots, ListRestorations, ListClones, ListTablets, Change, Refused, StalePlan, Schedules, Snapshots, Restorations, Clones, Tablets, Act, Refusal}
 use Rattle.model.specs.Parts.{Master, Parts, Outcome, If, judged, refused}
 use Rattle.model.specs.Looks.{found_namespace, plan_of}
 use Rattle.model.specs.Lines.{schedule_lines, snapshot_lines, restoration_lines, clone_lines, tablet_lines}
-use Rattle.model.specs.Changes.{change, planned, list_tablets}
+use Rattle.model.specs.Changes.{CloneSource, change, planned, list_tablets}
 use Rattle.model.specs.History.{outcome}
-use Rattle.model.specs.Replies.{ReplyRight, WindowRightOf, WindowRight, CloneWindowRight, schedule_named}
+use Rattle.model.specs.Replies.{ReplyRight, RestoreRight, CloneRight, source_named}
 use Rattle.law_changes.specs.Commands.{IsOfCatalog}
 use Rattle.law_invariants.specs.Invariant.{Inv, Later}
 use Rattle.law_invariants.proofs.Ticking.{by_judgement, refused_keeps, nothing_told, KeepsAll}
@@ -20,15 +20,18 @@ use Rattle.law_changes.proofs.Dropping.{drop_table_keeps}
 use Rattle.law_changes.proofs.Creating.{create_table_keeps}
 use Rattle.model.specs.Activity.{Interval}
 
-stale_window : (s : Option Schedule) (Judged : Reply → Schedule → ℕ → ℕ → Type 0) (kept : List ℕ) (m : Master) (n to : ℕ) → ((t : Schedule) → Judged (Refused (StalePlan kept)) t n to)
-    → WindowRightOf Judged s (Refused (StalePlan kept)) m n to
-stale_window None Judged kept m n to fine = tt
-stale_window (Some s) Judged kept m n to fine = λ free. fine s
+stale_restore : (s : Option Schedule) (kept : List ℕ) (m : Master) (n to : ℕ) → RestoreRight s (Refused (StalePlan kept)) m n to
+stale_restore None kept m n to = tt
+stale_restore (Some s) kept m n to = λ free. tt
+
+stale_clone : (found : Option CloneSource) (kept : List ℕ) (m : Master) (n to : ℕ) → CloneRight found (Refused (StalePlan kept)) m n to
+stale_clone None kept m n to = tt
+stale_clone (Some s) kept m n to = λ free. tt
 
 -- a stale plan says nothing of a window
 stale_right : (command : Command) (slots kept : List ℕ) (n : ℕ) (ps : Parts) (changes : List Made) → ReplyRight (Change command slots) (Refused (StalePlan kept)) n ps changes
-stale_right (Restore schedule to) slots kept n ps changes = stale_window (schedule_with ps.master.schedules schedule) WindowRight kept ps.master n to (λ s. tt)
-stale_right (CloneNamespace source target to) slots kept n ps changes = stale_window (schedule_named ps.master source) CloneWindowRight kept ps.master n _ (λ s. tt)
+stale_right (Restore schedule to) slots kept n ps changes = stale_restore (schedule_with ps.master.schedules schedule) kept ps.master n to
+stale_right (CloneNamespace source target to) slots kept n ps changes = stale_clone (source_named ps.master source n) kept ps.master n _
 stale_right _ slots kept n ps changes = tt
 
 by_cases : (b : Bool) (why : Refusal) (act : Act) (n : ℕ) (ps : Parts) (activity : List Interval) (changes : List Made) (o : Outcome) → KeepsAll act n ps activity changes (refused why) → (b ≡ true → KeepsAll act n ps activity changes o)

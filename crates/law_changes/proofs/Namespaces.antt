@@ -3,7 +3,7 @@ use Rattle.std.proofs.Common.{ℕ, ◌≡◌, ◌≤◌, ◌<◌, ◌+◌, List,
 use Rattle.std.specs.Prelude.{is_some, Ok}
 use Rattle.model.specs.Journal.{Change as Made, NamespaceMade, NamespaceDropped}
 use Rattle.model.specs.Catalog.{NamespaceRecord, namespace_named, kept_from}
-use Rattle.model.specs.Records.{schedule_of, Schedule as ScheduleRecord, CloneRecord, is_visible}
+use Rattle.model.specs.Records.{CloneRecord, is_visible}
 use Rattle.model.specs.Acts.{CreateNamespace, DropNamespace, Change}
 use Rattle.model.specs.Parts.{Master, Parts, Drawn, MakesNamespace, DropsNamespace}
 use Rattle.model.specs.Operations.{time_of_user}
@@ -23,10 +23,11 @@ use Rattle.std.proofs.lemmas.Bool.{true≢false}
 use Rattle.std.specs.Option.{option_or}
 use Rattle.std.specs.Str.{bytes_eq}
 use Rattle.model.specs.Times.{is_open, ended}
-use Rattle.model.specs.Schedules.{floor}
+use Rattle.model.specs.Schedules.{floor, least_low}
 use Rattle.model.specs.Cleanup.{floor_of}
 use Rattle.law_store.proofs.Keys.{either_way, key_self}
 use Rattle.law_invariants.specs.Operations.{OperationsGood}
+use Rattle.law_invariants.proofs.Remembering.{no_lows}
 use Rattle.law_invariants.proofs.Finding.{passes_both, same_equal, in_added, in_mapped}
 use Rattle.law_invariants.proofs.Records.{kept_by, kept_beside}
 use Rattle.law_invariants.proofs.Operating.{WasNamed, NewName}
@@ -53,12 +54,6 @@ pub not_either : {A : Type 0} (a b : Option A) → is_some (option_or a b) ≡ f
 not_either None b e = e
 not_either (Some x) b e = absurd (true≢false e)
 
-no_schedule : (ss : List ScheduleRecord) (ns : Id) → ((s : ScheduleRecord) → In s ss → s.namespace ≡ ns → ⊥) → schedule_of ss ns ≡ None
-no_schedule [] ns apart = refl
-no_schedule (s ∷ ss) ns apart = either_way (same s.namespace ns)
-    (λ b. absurd (apart s (inl refl) (same_equal s.namespace ns b)))
-    (λ b. ap (λ q. cond q (Some s) (schedule_of ss ns)) b ∙ no_schedule ss ns (λ k isin. apart k (inr isin)))
-
 namespace_made_keeps : (m : Master) (n : ℕ) (name : List ℕ) (changes : List Made) → m.clock ≤ n → is_some (named m name) ≡ false → OperationsGood m changes
     → KeepsCatalog m n (namespace_made name n m).catalog (namespace_made name n m).drawn
 namespace_made_keeps m n name changes le free ops = record {
@@ -68,17 +63,17 @@ namespace_made_keeps m n name changes le free ops = record {
   kept = λ ns. either_way (same (next_namespace m) ns)
       (λ e.
       let is : next_namespace m ≡ ns = same_equal (next_namespace m) ns e in
-      let none : schedule_of m.schedules ns ≡ None = no_schedule m.schedules ns (λ s isin same_.
+      let none : (at : ℕ) → least_low m.schedules ns at ≡ None = λ at. no_lows m.schedules ns at (λ s isin same_.
       let l = (ops.schedules s isin).drawn_namespace in let q : s.namespace.number ≡ m.drawn.namespaces + 1 = ap (λ i. i.number) (same_ ∙ sym is) in omega arith) in
       let k = namespace_made name n m in
-      let floor_is : floor_of k ns n ≡ n = ap (λ s. floor s (time_of_user k ns) n) none in
-      let old : kept_from m.catalog.kept_from ns ≤ n = le_trans (ops.kept ns) (floor_within m ns n le none) in
+      let floor_is : floor_of k ns n ≡ n = ap (λ s. floor s (time_of_user k ns) n) (none n) in
+      let old : kept_from m.catalog.kept_from ns ≤ n = le_trans (ops.kept ns) (floor_within m ns n le (none m.clock)) in
       subst (λ y. kept_from k.catalog.kept_from ns ≤ y) (sym floor_is) (kept_by m.catalog.kept_from (next_namespace m) n n ns old (le_refl n)))
       (λ e. subst (λ y. y ≤ floor_of (namespace_made name n m) ns n) (sym (kept_beside m.catalog.kept_from (next_namespace m) n ns e))
       (marks_stay m n (namespace_made name n m).catalog m.activity (namespace_made name n m).drawn changes ns le ops));
 }
   where
-    floor_within : (m : Master) (ns : Id) (n : ℕ) → m.clock ≤ n → schedule_of m.schedules ns ≡ None → floor_of m ns m.clock ≤ n
+    floor_within : (m : Master) (ns : Id) (n : ℕ) → m.clock ≤ n → least_low m.schedules ns m.clock ≡ None → floor_of m ns m.clock ≤ n
     floor_within m ns n le none = subst (λ y. y ≤ n) (sym (ap (λ s. floor s (time_of_user m ns) m.clock) none)) le
 
 namespace_dropped_keeps : (m : Master) (n : ℕ) (id : Id) (changes : List Made) → m.clock ≤ n → OperationsGood m changes → KeepsCatalog m n (namespace_dropped id n m).catalog m.drawn
@@ -126,6 +121,7 @@ create_namespace_keeps ps activity changes n name slots later inv =
             restorations = refl;
             clones = refl;
             schedules = refl;
+            scheduled = refl;
             owners = refl;
             drawn = refl;
             drawn_tables = refl;
@@ -160,6 +156,7 @@ drop_namespace_keeps ps activity changes n name slots later inv =
             restorations = refl;
             clones = refl;
             schedules = refl;
+            scheduled = refl;
             owners = refl;
             drawn = refl;
             drawn_tables = refl;

@@ -42,6 +42,7 @@ pub record Follows (m k : Master) (changes new : List Made) : Type 0 where
   pub restorations : k.restorations ≡ m.restorations
   pub clones : k.clones ≡ m.clones
   pub schedules : k.schedules ≡ m.schedules
+  pub scheduled : k.scheduled ≡ m.scheduled
   pub owners : k.catalog.owners ≡ m.catalog.owners
   pub drawn : k.drawn.tablets ≡ m.drawn.tablets
   pub drawn_tables : k.drawn.tables ≡ m.drawn.tables
@@ -119,7 +120,7 @@ master_follows m k changes new f stands h = record {
   tables = stands.tables;
   marks = stands.marks;
   past = λ ns to is. le_trans (h.past ns to (sym (f.quiet.fixed ns to) ∙ is)) f.clock;
-  complete = λ s isin. le_trans (h.complete s (subst (In s) f.schedules isin)) f.clock;
+  complete = λ s isin. le_trans (h.complete s (subst (In s) f.scheduled isin)) f.clock;
   listed = λ r l isin lists. (let q = h.listed r l (subst (In r) f.restorations isin) lists in let e = f.drawn in omega arith);
   listed_of = λ r l isin lists i active is. ap (λ os. owner_of os i.table) f.owners ∙ h.listed_of r l (subst (In r) f.restorations isin) lists i (subst (In i) f.activity active) is;
 }

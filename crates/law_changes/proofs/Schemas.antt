@@ -37,6 +37,7 @@ follows_changed m t name schema n changes new before quiet same_ = record {
   restorations = refl;
   clones = refl;
   schedules = refl;
+  scheduled = refl;
   owners = refl;
   drawn = refl;
   drawn_tables = refl;

@@ -7,12 +7,12 @@ use Rattle.std.proofs.lemmas.Bool.{cond_both, true≢false}
 use Rattle.row_values.specs.Ids.{Id, same}
 use Rattle.row_values.specs.Elements.{In}
 use Rattle.model.specs.Journal.{Change}
-use Rattle.model.specs.Records.{Schedule, SnapshotRecord, RestorationRecord, RestorationState, Fencing, Snapshotting, Switching, Restoring, Releasing, Restored, CloneRecord, CloneState, Accepted, CloneSnapshot, Copying, CloneReleasing, CloneComplete, is_restored, is_cloned, named_by_restoration, named_by_clone, snapshot_with}
+use Rattle.model.specs.Records.{Schedule, SnapshotRecord, RestorationRecord, RestorationState, Fencing, Snapshotting, Switching, Restoring, Releasing, Restored, CloneRecord, CloneState, Accepted, CloneSnapshot, Copying, CloneReleasing, CloneComplete, is_restored, is_cloned, named_by_restoration, named_by_clone, snapshot_with, ScheduledNamespace}
 use Rattle.model.specs.Schedules.{after_of}
 use Rattle.model.specs.Cleanup.{is_this, naming_restoration, naming_clone, lister_of_snapshot, floor_of}
 use Rattle.model.specs.Parts.{Master}
 use Rattle.law_store.proofs.Keys.{either_way}
-use Rattle.law_invariants.specs.Operations.{SnapshotsRise, ScheduleGood, SnapshotGood, IsServing, IsPoint, IsCalm, RestorationStateGood, CloneStateGood, CloneGood, OperationsGood}
+use Rattle.law_invariants.specs.Operations.{SnapshotsRise, ScheduleGood, SnapshotGood, IsServing, IsPoint, IsCalm, RestorationStateGood, CloneStateGood, CloneGood, OperationsGood, ScheduledGood}
 use Rattle.law_invariants.proofs.Finding.{in_filter, filter_in, passes_both, same_equal, same_self, not_same}
 use Rattle.law_invariants.proofs.Ticking.{not_true}
 use Rattle.law_invariants.proofs.Remembering.{floor_rises}
@@ -118,31 +118,32 @@ rise_without (r ∷ rs) target h = cond_both (not (same r.id target)) (r ∷ wit
     (λ e. (λ q isin. h.0 q (was_record target rs q isin).0, rise_without rs target h.1))
     (λ e. rise_without rs target h.1)
 
-schedule_kept : (m : Master) (n : ℕ) (changes : List Change) (target : Id) (r : SnapshotRecord) (s : Schedule) → IsDiscarded m n target r → m.clock ≤ n → In s m.schedules → SnapshotGood m r → ScheduleGood m s → ScheduleGood (discarding m n target) s
-schedule_kept m n changes target r s d le isin good h = record {
-  drawn = h.drawn;
+schedule_kept : (m : Master) (n : ℕ) (target : Id) (s : Schedule) → m.clock ≤ n → ScheduleGood m s → ScheduleGood (discarding m n target) s
+schedule_kept m n target s le h = record { drawn = h.drawn; drawn_namespace = h.drawn_namespace; begun = le_trans h.begun le; scheduled = h.scheduled }
+
+scheduled_kept : (m : Master) (n : ℕ) (target : Id) (r : SnapshotRecord) (k : ScheduledNamespace) → IsDiscarded m n target r → m.clock ≤ n → ScheduledGood m k → ScheduledGood (discarding m n target) k
+scheduled_kept m n target r k d le h = record {
   drawn_namespace = h.drawn_namespace;
   from_one = h.from_one;
-  begun = le_trans h.begun le;
   last = le_trans h.last le;
   reached = elim h.reached [
-    | inl l ↦ inl (lt_of_lt_of_le l (floor_up m n target s.namespace le))
+    | inl l ↦ inl (lt_of_lt_of_le l (floor_up m n target k.namespace le))
     | inr w ↦ (elim (kept_or m n target r w.0 d w.1.0) [
       | inl kept ↦ inr (w.0, (kept, w.1.1))
       | inr is ↦ inl (
-          let of : s.id ≡ r.schedule = sym w.1.1.0 ∙ ap (λ k. k.schedule) is in
-          let at : r.at ≡ after_of s.last s = sym (ap (λ k. k.at) is) ∙ w.1.1.1 in
-          let l : r.at < floor_of m s.namespace n = subst (λ ns. r.at < floor_of m ns n) (sym (good.of_schedule s isin of)) d.below in
-          subst (λ x. x < floor_of m s.namespace n) at l)
+          let of : r.namespace ≡ k.namespace = sym (ap (λ q. q.namespace) is) ∙ w.1.1.0 in
+          let at : r.at ≡ after_of k = sym (ap (λ q. q.at) is) ∙ w.1.1.1 in
+          let l : r.at < floor_of m k.namespace n = subst (λ ns. r.at < floor_of m ns n) of d.below in
+          subst (λ x. x < floor_of m k.namespace n) at l)
     ])
   ];
+  has = h.has;
 }
 
 snapshot_kept : (m : Master) (n : ℕ) (target : Id) (r q : SnapshotRecord) → IsDiscarded m n target r → m.clock ≤ n → SnapshotGood m q → SnapshotGood (discarding m n target) q
 snapshot_kept m n target r q d le h = record {
   kind_is = h.kind_is;
   drawn = h.drawn;
-  drawn_schedule = h.drawn_schedule;
   drawn_namespace = h.drawn_namespace;
   rises = h.rises;
   past = le_trans h.past le;
@@ -157,13 +158,11 @@ snapshot_kept m n target r q d le h = record {
       | inl kept ↦ inr (w.0, (kept, w.1.1))
       | inr is ↦ inl (
           let at : r.at ≡ q.after = sym (ap (λ k. k.at) is) ∙ w.1.1.1.0 in
-          let ns : r.namespace ≡ q.namespace = sym (ap (λ k. k.namespace) is) ∙ h.same_namespace w.0 w.1.0 w.1.1.0 in
+          let ns : r.namespace ≡ q.namespace = sym (ap (λ k. k.namespace) is) ∙ w.1.1.0 in
           let l : r.at < floor_of m q.namespace n = subst (λ k. r.at < floor_of m k n) ns d.below in
           subst (λ x. x < floor_of m q.namespace n) at l)
     ])
   ];
-  of_schedule = h.of_schedule;
-  same_namespace = λ p isin. h.same_namespace p (was_record target m.snapshots p isin).0;
   scheduled = h.scheduled;
 }
 
@@ -200,7 +199,7 @@ state_kept (Snapshotting point own) m n target changes r le free h = record {
   kept = kept_record target m.snapshots h.snapshot h.kept (λ e. free refl own refl (sym h.id_is ∙ e));
   id_is = h.id_is;
   at_is = h.at_is;
-  schedule_is = h.schedule_is;
+  namespace_is = h.namespace_is;
   alone = λ q isin. h.alone q (was_record target m.snapshots q isin).0;
 }
 state_kept (Switching point serving) m n target changes r le free h = record {
@@ -252,7 +251,6 @@ clone_state_kept (CloneSnapshot own) m n target c le free h = record {
   kept = kept_record target m.snapshots h.snapshot h.kept (λ e. free refl own refl (sym h.id_is ∙ e));
   id_is = h.id_is;
   namespace_is = h.namespace_is;
-  of_schedule = h.of_schedule;
   reaches = h.reaches;
 }
 clone_state_kept (Copying serving at) m n target c le free h = record {
@@ -326,7 +324,7 @@ operations_discard m n target changes r le d h = record {
   owners = h.owners;
   apart = (let a = h.apart in record {
     schedule_ids = a.schedule_ids;
-    one_schedule = a.one_schedule;
+    one_scheduled = a.one_scheduled;
     snapshots_rise = rise_without m.snapshots target a.snapshots_rise;
     one_snapshot = λ p q inp inq. a.one_snapshot p q (was_record target m.snapshots p inp).0 (was_record target m.snapshots q inq).0;
     restoration_ids = a.restoration_ids;
@@ -338,7 +336,8 @@ operations_discard m n target changes r le d h = record {
     one_made = a.one_made;
     one_name = a.one_name;
   });
-  schedules = λ s isin. schedule_kept m n changes target r s d le isin (h.snapshots r d.listed) (h.schedules s isin);
+  schedules = λ s isin. schedule_kept m n target s le (h.schedules s isin);
+  scheduled = λ k isin. scheduled_kept m n target r k d le (h.scheduled k isin);
   snapshots = λ q isin. snapshot_kept m n target r q d le (h.snapshots q (was_record target m.snapshots q isin).0);
   restorations = λ o isin. (let g = h.restorations o isin in record {
     kind_is = g.kind_is;

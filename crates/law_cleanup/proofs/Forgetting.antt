@@ -7,11 +7,11 @@ use Rattle.row_values.specs.Ids.{Id, same}
 use Rattle.row_values.specs.Elements.{In}
 use Rattle.model.specs.Activity.{Interval, forget}
 use Rattle.model.specs.Journal.{Change}
-use Rattle.model.specs.Records.{Listed, Schedule, SnapshotRecord, RestorationRecord, RestorationState, Fencing, Snapshotting, Switching, Restoring, Releasing, Restored, TabletPair, CloneRecord, CloneState, Accepted, CloneSnapshot, Copying, CloneReleasing, CloneComplete, is_restored, is_cloned, lists_tablet}
+use Rattle.model.specs.Records.{Listed, Schedule, SnapshotRecord, RestorationRecord, RestorationState, Fencing, Snapshotting, Switching, Restoring, Releasing, Restored, TabletPair, CloneRecord, CloneState, Accepted, CloneSnapshot, Copying, CloneReleasing, CloneComplete, is_restored, is_cloned, lists_tablet, ScheduledNamespace}
 use Rattle.model.specs.Cleanup.{listing_snapshot, listing_restoration, listing_clone, takes_from, lister_of_tablet, floor_of}
 use Rattle.model.specs.Parts.{Master}
 use Rattle.law_store.proofs.Keys.{either_way}
-use Rattle.law_invariants.specs.Operations.{IsKnown, IsOpenOf, ScheduleGood, SnapshotGood, BeforePoint, IsBack, IsActive, RestorationStateGood, RestorationGood, CloneStateGood, CloneGood, OperationsGood}
+use Rattle.law_invariants.specs.Operations.{IsKnown, IsOpenOf, ScheduleGood, SnapshotGood, BeforePoint, IsBack, IsActive, RestorationStateGood, RestorationGood, CloneStateGood, CloneGood, OperationsGood, ScheduledGood}
 use Rattle.law_invariants.proofs.Finding.{in_filter, filter_in, passes_both, either_passes, same_self, not_same}
 use Rattle.law_invariants.proofs.Ticking.{not_true}
 use Rattle.law_invariants.proofs.Remembering.{floor_rises}
@@ -152,20 +152,21 @@ pub floor_up : (m : Master) (n : ℕ) (tablet ns : Id) → m.clock ≤ n → flo
 floor_up m n tablet ns le = floor_rises m (forgetting m n tablet) ns (record { clock = le; schedules = refl; restorations = refl; clones = refl })
 
 schedule_still : (m : Master) (n : ℕ) (tablet : Id) (s : Schedule) → m.clock ≤ n → ScheduleGood m s → ScheduleGood (forgetting m n tablet) s
-schedule_still m n tablet s le h = record {
-  drawn = h.drawn;
+schedule_still m n tablet s le h = record { drawn = h.drawn; drawn_namespace = h.drawn_namespace; begun = le_trans h.begun le; scheduled = h.scheduled }
+
+scheduled_still : (m : Master) (n : ℕ) (tablet : Id) (k : ScheduledNamespace) → m.clock ≤ n → ScheduledGood m k → ScheduledGood (forgetting m n tablet) k
+scheduled_still m n tablet k le h = record {
   drawn_namespace = h.drawn_namespace;
   from_one = h.from_one;
-  begun = le_trans h.begun le;
   last = le_trans h.last le;
-  reached = elim h.reached [ inl l ↦ inl (lt_of_lt_of_le l (floor_up m n tablet s.namespace le)) | inr q ↦ inr q ];
+  reached = elim h.reached [ inl l ↦ inl (lt_of_lt_of_le l (floor_up m n tablet k.namespace le)) | inr w ↦ inr w ];
+  has = h.has;
 }
 
 snapshot_still : (m : Master) (n : ℕ) (tablet : Id) (r : SnapshotRecord) → m.clock ≤ n → In r m.snapshots → Unlisted m tablet → SnapshotGood m r → SnapshotGood (forgetting m n tablet) r
 snapshot_still m n tablet r le isin free h = record {
   kind_is = h.kind_is;
   drawn = h.drawn;
-  drawn_schedule = h.drawn_schedule;
   drawn_namespace = h.drawn_namespace;
   rises = h.rises;
   past = le_trans h.past le;
@@ -175,8 +176,6 @@ snapshot_still m n tablet r le isin free h = record {
   known = λ unfinished l lists. known_still m n tablet l (free.snapshot r l isin unfinished lists) (h.known unfinished l lists);
   lists = λ i there owner active. h.lists i (was_in tablet m.activity i there).0 owner active;
   reached = elim h.reached [ inl l ↦ inl (lt_of_lt_of_le l (floor_up m n tablet r.namespace le)) | inr q ↦ inr q ];
-  of_schedule = h.of_schedule;
-  same_namespace = h.same_namespace;
   scheduled = h.scheduled;
 }
 
@@ -197,7 +196,7 @@ state_still (Snapshotting point own) m n tablet changes r le free h = record {
   kept = h.kept;
   id_is = h.id_is;
   at_is = h.at_is;
-  schedule_is = h.schedule_is;
+  namespace_is = h.namespace_is;
   alone = h.alone;
 }
 state_still (Switching point serving) m n tablet changes r le free h = record {
@@ -249,7 +248,6 @@ clone_state_still (CloneSnapshot own) m n tablet c le free h = record {
   kept = h.kept;
   id_is = h.id_is;
   namespace_is = h.namespace_is;
-  of_schedule = h.of_schedule;
   reaches = h.reaches;
 }
 clone_state_still (Copying serving at) m n tablet c le free h = record {
@@ -323,6 +321,7 @@ operations_forget m n tablet changes le free h = record {
   owners = h.owners;
   apart = h.apart;
   schedules = λ s isin. schedule_still m n tablet s le (h.schedules s isin);
+  scheduled = λ k isin. scheduled_still m n tablet k le (h.scheduled k isin);
   snapshots = λ r isin. snapshot_still m n tablet r le isin free (h.snapshots r isin);
   restorations = λ r isin. restoration_still m n tablet changes r le isin free (h.restorations r isin);
   clones = λ c isin. clone_still m n tablet changes c le isin free (h.clones c isin);

@@ -196,6 +196,7 @@ prune_follows m n changes le = record {
   restorations = refl;
   clones = refl;
   schedules = refl;
+  scheduled = refl;
   owners = refl;
   drawn = refl;
   drawn_tables = refl;

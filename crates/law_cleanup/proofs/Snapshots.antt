@@ -39,6 +39,7 @@ follows m n target changes le = record {
   restorations = refl;
   clones = refl;
   schedules = refl;
+  scheduled = refl;
   owners = refl;
   drawn = refl;
   drawn_tables = refl;

@@ -11,8 +11,8 @@ use Rattle.model.specs.Activity.{Interval, active_at}
 use Rattle.model.specs.Restored.{record_at}
 use Rattle.model.specs.Journal.{Change, table_at}
 use Rattle.model.specs.Tablets.{is_empty}
-use Rattle.model.specs.Records.{Schedule, RestorationRecord, IdPair, TabletPair, CloneRecord, is_cloned, schedule_of}
-use Rattle.model.specs.Schedules.{floor, low}
+use Rattle.model.specs.Records.{RestorationRecord, IdPair, TabletPair, CloneRecord, is_cloned}
+use Rattle.model.specs.Schedules.{floor, least_low}
 use Rattle.model.specs.Stands.{holders}
 use Rattle.model.specs.Lists.{tablets_active_at, intervals_in}
 use Rattle.model.specs.Looks.{free_slots, is_reserved}
@@ -29,10 +29,10 @@ use Rattle.law_invariants.proofs.Finding.{none_or_some, both_pass, passes_both, 
 use Rattle.law_invariants.proofs.Operating.{target_reserved}
 use Rattle.law_invariants.proofs.Overlap.{one_holder, holder_there}
 use Rattle.law_invariants.proofs.Records.{record_at_is, owners_first}
-use Rattle.law_invariants.proofs.Remembering.{floor_rises}
+use Rattle.law_invariants.proofs.Remembering.{no_lows, low_found, floor_rises}
 use Rattle.law_changes.proofs.Free.{rise_in}
 use Rattle.law_changes.proofs.Namespaces.{unreserved_name, not_either}
-use Rattle.law_moves.proofs.Using.{NotUsed, no_time, schedule_of_is, schedule_free}
+use Rattle.law_moves.proofs.Using.{NotUsed, no_time}
 use Rattle.law_clones.proofs.Beside.{FloorsRise}
 use Rattle.law_clones.proofs.Users.{it_uses}
 use Rattle.law_clones.proofs.Serving.{not_restored}
@@ -42,12 +42,12 @@ use Rattle.law_clones.proofs.Pairing.{tables_then_apart, by_id_only, by_id_has, 
 use Rattle.law_clones.proofs.Taking.{takers_are, ordered_holders, filtered_holders}
 
 -- what a clone to a time is accepted for
-pub record MayClone (m : Master) (ns : Id) (s : Schedule) (target : List ℕ) (to n : ℕ) : Type 0 where
+pub record MayClone (m : Master) (ns : Id) (least : ℕ) (target : List ℕ) (to n : ℕ) : Type 0 where
   pub drawn : ns.number ≤ m.drawn.namespaces
-  pub scheduled : schedule_of m.schedules ns ≡ Some s
+  pub scheduled : least_low m.schedules ns n ≡ Some least
   pub free : NotUsed m ns
   pub unnamed : is_some (named m target) ≡ false
-  pub from : low s n ≤ to
+  pub from : least ≤ to
   pub before : to < n
   pub enough : length (sources m ns to) ≤ length (free_slots m)
 
@@ -56,16 +56,16 @@ abbrev pub CountedIn : Master → List Interval → Type 0
 CountedIn m activity = (table : Id) (code x : ℕ) → holders m.activity table code x ≤ holders activity table code x
 
 -- the time is not below the floor, so the catalog is kept from it on
-floor_from : (ps : Parts) (activity : List Interval) (changes : List Change) (ns : Id) (s : Schedule) (target : List ℕ) (to n : ℕ) → ps.master.clock ≤ n → MayClone ps.master ns s target to n → floor_of ps.master ns ps.master.clock ≤ to
+floor_from : (ps : Parts) (activity : List Interval) (changes : List Change) (ns : Id) (s : ℕ) (target : List ℕ) (to n : ℕ) → ps.master.clock ≤ n → MayClone ps.master ns s target to n → floor_of ps.master ns ps.master.clock ≤ to
 floor_from ps activity changes ns s target to n le may =
     let m = ps.master in
-    let up : floor_of m ns m.clock ≤ floor (schedule_of m.schedules ns) (time_of_user m ns) n =
+    let up : floor_of m ns m.clock ≤ floor (least_low m.schedules ns n) (time_of_user m ns) n =
     floor_rises m (record m { clock = n }) ns (record { clock = le; schedules = refl; restorations = refl; clones = refl }) in
-    let is : floor (schedule_of m.schedules ns) (time_of_user m ns) n ≡ low s n = ap (λ k. floor k (time_of_user m ns) n) may.scheduled ∙ ap (λ t. floor (Some s) t n) (no_time m ns may.free) in
+    let is : floor (least_low m.schedules ns n) (time_of_user m ns) n ≡ s = ap (λ k. floor k (time_of_user m ns) n) may.scheduled ∙ ap (λ t. floor (Some s) t n) (no_time m ns may.free) in
     le_trans (subst (λ y. floor_of m ns m.clock ≤ y) is up) may.from
 
 -- the table of a source tablet has a record at the time
-source_table : (ps : Parts) (activity : List Interval) (changes : List Change) (ns : Id) (s : Schedule) (target : List ℕ) (to n : ℕ) (i : Interval) → ps.master.clock ≤ n → MayClone ps.master ns s target to n → Inv ps activity changes
+source_table : (ps : Parts) (activity : List Interval) (changes : List Change) (ns : Id) (s : ℕ) (target : List ℕ) (to n : ℕ) (i : Interval) → ps.master.clock ≤ n → MayClone ps.master ns s target to n → Inv ps activity changes
     → IsActiveOf ps.master ns to i → (t : TableRecord) × (In t (tables_at ps.master.catalog.tables ns to) × (t.id ≡ i.table))
 source_table ps activity changes ns s target to n i le may inv h =
     let m = ps.master in
@@ -138,7 +138,7 @@ pub record IsTaken (m : Master) (ns : Id) (to : ℕ) (p : TabletPair) : Type 0 w
   pub above : m.drawn.tables < p.table.number
   pub by : p.table.number ≤ m.drawn.tables + length (tables_of m ns to)
 
-is_taken : (ps : Parts) (activity : List Interval) (changes : List Change) (ns : Id) (s : Schedule) (target : List ℕ) (to n : ℕ) (p : TabletPair) → ps.master.clock ≤ n → MayClone ps.master ns s target to n → Inv ps activity changes
+is_taken : (ps : Parts) (activity : List Interval) (changes : List Change) (ns : Id) (s : ℕ) (target : List ℕ) (to n : ℕ) (p : TabletPair) → ps.master.clock ≤ n → MayClone ps.master ns s target to n → Inv ps activity changes
     → In p (tablets_of ps.master ns to) → IsTaken ps.master ns to p
 is_taken ps activity changes ns s target to n p le may inv isin =
     let m = ps.master in
@@ -164,7 +164,7 @@ is_taken ps activity changes ns s target to n p le may inv isin =
 active_over : (to : Option ℕ) (floor from x : ℕ) → ended_by floor to ≡ true → floor ≤ x → holds_at x from to ≡ true → ⊥
 active_over to floor from x ended le active = ends_after to floor x ended (both_pass (leb from x) (before_end x to) active).1 le
 
-covers_it : (ps : Parts) (activity : List Interval) (changes : List Change) (ns : Id) (s : Schedule) (target : List ℕ) (to n : ℕ) (d : IdPair) (code : ℕ) → ps.master.clock ≤ n → MayClone ps.master ns s target to n → CountedIn ps.master activity
+covers_it : (ps : Parts) (activity : List Interval) (changes : List Change) (ns : Id) (s : ℕ) (target : List ℕ) (to n : ℕ) (d : IdPair) (code : ℕ) → ps.master.clock ≤ n → MayClone ps.master ns s target to n → CountedIn ps.master activity
     → Inv ps activity changes → In d (tables_of ps.master ns to) → code < 65536 → takers (tablets_of ps.master ns to) d.target code ≡ 1
 covers_it ps activity changes ns s target to n d code le may counted inv isin small =
     let m = ps.master in
@@ -216,7 +216,7 @@ covers_it ps activity changes ns s target to n d code le may counted inv isin sm
 
 -- The new record is good
 
-new_good : (ps : Parts) (activity : List Interval) (changes : List Change) (ns : Id) (s : Schedule) (source target : List ℕ) (to n : ℕ) → ps.master.clock ≤ n → MayClone ps.master ns s target to n → CountedIn ps.master activity → Inv ps activity changes
+new_good : (ps : Parts) (activity : List Interval) (changes : List Change) (ns : Id) (s : ℕ) (source target : List ℕ) (to n : ℕ) → ps.master.clock ≤ n → MayClone ps.master ns s target to n → CountedIn ps.master activity → Inv ps activity changes
     → CloneGood (adding (reserving ps.master n (owners_for ps.master ns to) (drawn_for ps.master ns to)) (new_clone ns source target to ps.master)) changes (new_clone ns source target to ps.master)
 new_good ps activity changes ns s source target to n le may counted inv =
     let m = ps.master in
@@ -233,7 +233,7 @@ new_good ps activity changes ns s source target to n le may counted inv =
     let r = table_pair ts m.drawn.tables d paired in
     let there = filter_in m.catalog.tables (λ r. holds_at to r.from r.to && same r.namespace ns) r.table (by_id_only _ r.table r.listed) in
     (r.table, (there.0, (r.source_is, same_equal r.table.namespace ns (both_pass (holds_at to r.table.from r.table.to) (same r.table.namespace ns) there.1).1)))) in
-    let scheduled = schedule_of_is m.schedules ns s may.scheduled in
+    let scheduled = low_found m.schedules ns n s may.scheduled in
     record {
       kind_is = refl;
       drawn = le_refl _;
@@ -258,7 +258,7 @@ new_good ps activity changes ns s source target to n le may counted inv =
           owners_first m.catalog.owners (owners_for m ns to) d.source ns (ap (owner_of m.catalog.owners) t.1.1.0 ∙ tables.owned t.0 t.1.0 ∙ ap Some t.1.1.1));
       drawn_sources = λ d paired. (let t = of_source d paired in let l = tables.drawn_before t.0 t.1.0 in let e : d.source.number ≡ t.0.id.number = ap (λ i. i.number) t.1.1.0 in omega arith);
       covers = λ d code paired small. covers_it ps activity changes ns s target to n d code le may counted inv paired small;
-      scheduled = λ unfinished. (s, scheduled);
+      scheduled = λ unfinished. scheduled;
       sources = λ unfinished p paired. (let k = taken p paired in record {
         interval = k.of.interval;
         kept = k.active.kept;
@@ -306,43 +306,43 @@ clone_last (x ∷ cs) c ns e = either_way ((same x.target_id ns || same x.source
     (λ b. absurd (let k : Some x ≡ None = rw b at e in grind arith))
     (λ b. rw b (clone_last cs c ns (rw b at e)))
 
-least_more : (s : Schedule) (to n : ℕ) → low s n ≤ to → floor (Some s) None n ≤ floor (Some s) (Some to) n
+least_more : (s to n : ℕ) → s ≤ to → floor (Some s) None n ≤ floor (Some s) (Some to) n
 least_more s to n le = omega arith
 
 abbrev time_by : Master → Option CloneRecord → Id → Option ℕ
 time_by m c ns = option_or (option_map (λ r. r.to) (restoration_of m.restorations ns)) (option_map (λ r. r.to) c)
 
-new_floors : (ps : Parts) (activity : List Interval) (changes : List Change) (ns : Id) (s : Schedule) (source target : List ℕ) (to n : ℕ) → MayClone ps.master ns s target to n → Inv ps activity changes
+new_floors : (ps : Parts) (activity : List Interval) (changes : List Change) (ns : Id) (s : ℕ) (source target : List ℕ) (to n : ℕ) → MayClone ps.master ns s target to n → Inv ps activity changes
     → FloorsRise (reserving ps.master n (owners_for ps.master ns to) (drawn_for ps.master ns to)) (adding (reserving ps.master n (owners_for ps.master ns to) (drawn_for ps.master ns to)) (new_clone ns source target to ps.master))
 new_floors ps activity changes ns s source target to n may inv = λ id.
     let m = ps.master in
     let c = new_clone ns source target to m in
     let test = (same c.target_id id || same c.source id) && true in
-    let schedule = schedule_of m.schedules id in
+    let least = least_low m.schedules id n in
     none_or_some (clone_with m.clones id)
     (λ none.
     let later = clone_last m.clones c id none in
-    subst (λ d. floor schedule (time_by m (clone_with m.clones id) id) n ≤ floor schedule (time_by m d id) n) (sym later)
-    (subst (λ d. floor schedule (time_by m d id) n ≤ floor schedule (time_by m (cond test (Some c) None) id) n) (sym none)
+    subst (λ d. floor least (time_by m (clone_with m.clones id) id) n ≤ floor least (time_by m d id) n) (sym later)
+    (subst (λ d. floor least (time_by m d id) n ≤ floor least (time_by m (cond test (Some c) None) id) n) (sym none)
     (either_way test
-    (λ b. subst (λ t. floor schedule (time_by m None id) n ≤ floor schedule (time_by m (cond t (Some c) None) id) n) (sym b)
+    (λ b. subst (λ t. floor least (time_by m None id) n ≤ floor least (time_by m (cond t (Some c) None) id) n) (sym b)
     (elim (it_uses c id (both_pass (same c.target_id id || same c.source id) true b).0) [
       | inl is ↦ (
-          let found : schedule ≡ Some s = ap (schedule_of m.schedules) (sym is) ∙ may.scheduled in
+          let found : least ≡ Some s = ap (λ i. least_low m.schedules i n) (sym is) ∙ may.scheduled in
           let none_restores = not_restored m.restorations id (λ r there open_ of. may.free.restoration r there open_ (of ∙ sym is)) in
           subst (λ k. floor k (time_by m None id) n ≤ floor k (time_by m (Some c) id) n) (sym found)
           (subst (λ r. floor (Some s) (option_or (option_map {T = RestorationRecord} (λ q. q.to) r) None) n ≤ floor (Some s) (option_or (option_map {T = RestorationRecord} (λ q. q.to) r) (Some to)) n) (sym none_restores) (least_more s to n may.from)))
       | inr is ↦ (
-          let gone : schedule ≡ None = schedule_free m.schedules id (λ k there of.
+          let gone : least ≡ None = no_lows m.schedules id n (λ k there of.
           let l = (inv.operations.schedules k there).drawn_namespace in let q : k.namespace.number ≡ m.drawn.namespaces + 1 = ap (λ i. i.number) (of ∙ sym is) in omega arith) in
           subst (λ k. floor k (time_by m None id) n ≤ floor k (time_by m (Some c) id) n) (sym gone) (le_refl _))
     ]))
-    (λ b. subst (λ t. floor schedule (time_by m None id) n ≤ floor schedule (time_by m (cond t (Some c) None) id) n) (sym b) (le_refl _)))))
-    (λ d some. subst (λ q. floor schedule (time_by m (clone_with m.clones id) id) n ≤ floor schedule (time_by m q id) n) (some ∙ sym (clone_kept m.clones c id d some)) (le_refl _))
+    (λ b. subst (λ t. floor least (time_by m None id) n ≤ floor least (time_by m (cond t (Some c) None) id) n) (sym b) (le_refl _)))))
+    (λ d some. subst (λ q. floor least (time_by m (clone_with m.clones id) id) n ≤ floor least (time_by m q id) n) (some ∙ sym (clone_kept m.clones c id d some)) (le_refl _))
 
 -- The acceptance
 
-new_adds : (ps : Parts) (activity : List Interval) (changes : List Change) (ns : Id) (s : Schedule) (source target : List ℕ) (to n : ℕ) → ps.master.clock ≤ n → MayClone ps.master ns s target to n → CountedIn ps.master activity → Inv ps activity changes
+new_adds : (ps : Parts) (activity : List Interval) (changes : List Change) (ns : Id) (s : ℕ) (source target : List ℕ) (to n : ℕ) → ps.master.clock ≤ n → MayClone ps.master ns s target to n → CountedIn ps.master activity → Inv ps activity changes
     → Adds (record { master = reserving ps.master n (owners_for ps.master ns to) (drawn_for ps.master ns to); tablet = ps.tablet }) activity changes (new_clone ns source target to ps.master)
 new_adds ps activity changes ns s source target to n le may counted inv =
     let m = ps.master in
@@ -387,7 +387,7 @@ new_adds ps activity changes ns s source target to n le may counted inv =
       };
     }
 
-pub begun_keeps : (ps : Parts) (activity : List Interval) (changes : List Change) (ns : Id) (s : Schedule) (source target : List ℕ) (to n : ℕ) → ps.master.clock ≤ n → MayClone ps.master ns s target to n → CountedIn ps.master activity → Inv ps activity changes
+pub begun_keeps : (ps : Parts) (activity : List Interval) (changes : List Change) (ns : Id) (s : ℕ) (source target : List ℕ) (to n : ℕ) → ps.master.clock ≤ n → MayClone ps.master ns s target to n → CountedIn ps.master activity → Inv ps activity changes
     → Inv (record { master = clone_begun ns source target to n ps.master; tablet = ps.tablet }) activity changes
 begun_keeps ps activity changes ns s source target to n le may counted inv =
     let m = ps.master in

@@ -16,7 +16,7 @@ use Rattle.law_invariants.specs.Orders.{IsFence, IsAfter, OrdersGood, CloneSlot,
 use Rattle.law_invariants.specs.Invariant.{Inv}
 use Rattle.law_invariants.proofs.Finding.{in_added, in_first}
 use Rattle.law_moves.proofs.Using.{alone_added}
-use Rattle.law_clones.proofs.Beside.{with_clones, FloorsRise, schedule_beside, snapshot_beside, restoration_beside, clone_beside, journal_beside, rows_beside, forgotten_beside, master_beside, slot_beside, fence_beside, restoration_slot_beside, clone_slot_beside, home_beside}
+use Rattle.law_clones.proofs.Beside.{with_clones, FloorsRise, schedule_beside, scheduled_beside, snapshot_beside, restoration_beside, clone_beside, journal_beside, rows_beside, forgotten_beside, master_beside, slot_beside, fence_beside, restoration_slot_beside, clone_slot_beside, home_beside}
 
 abbrev pub adding : Master → CloneRecord → Master
 adding m c = with_clones m (m.clones ++ c ∷ []) m.sent
@@ -46,13 +46,13 @@ added_cases {A} {P} xs c both first second last x y in_x in_y =
     (in_added (λ y. P c y) xs c second last) x in_x y in_y
 
 added_apart : (ps : Parts) (activity : List Interval) (changes : List Change) (c : CloneRecord) → Adds ps activity changes c → OperationsGood ps.master changes
-    → OperationsApart ps.master.schedules ps.master.snapshots ps.master.restorations (ps.master.clones ++ c ∷ [])
+    → OperationsApart ps.master.schedules ps.master.scheduled ps.master.snapshots ps.master.restorations (ps.master.clones ++ c ∷ [])
 added_apart ps activity changes c w ops =
     let cs = ps.master.clones in
     let a = ops.apart in
     record {
       schedule_ids = a.schedule_ids;
-      one_schedule = a.one_schedule;
+      one_scheduled = a.one_scheduled;
       snapshots_rise = a.snapshots_rise;
       one_snapshot = a.one_snapshot;
       restoration_ids = a.restoration_ids;
@@ -176,6 +176,7 @@ adding_keeps ps activity changes c w inv =
         owners = ops.owners;
         apart = added_apart ps activity changes c w ops;
         schedules = λ k isin. schedule_beside m cs s k w.floors (ops.schedules k isin);
+        scheduled = λ k isin. scheduled_beside m cs s k w.floors (ops.scheduled k isin);
         snapshots = λ q isin. snapshot_beside m cs s q w.floors (ops.snapshots q isin);
         restorations = λ r isin. restoration_beside m cs s changes r (ops.restorations r isin);
         clones = in_added (CloneGood (adding m c) changes) m.clones c (λ d old. clone_beside m cs s changes d (ops.clones d old)) w.good;

@@ -9,12 +9,12 @@ use Rattle.model.specs.Activity.{Interval, active_at}
 use Rattle.model.specs.Catalog.{owner_of}
 use Rattle.model.specs.Journal.{Change}
 use Rattle.model.specs.Tablets.{Tablet, Mark}
-use Rattle.model.specs.Records.{Listed, Schedule, SnapshotRecord, RestorationRecord, RestorationState, Fencing, Snapshotting, Switching, Restoring, Releasing, Restored, TabletPair, CloneRecord, CloneState, Accepted, CloneSnapshot, Copying, CloneReleasing, CloneComplete, Sent}
+use Rattle.model.specs.Records.{Listed, Schedule, SnapshotRecord, RestorationRecord, RestorationState, Fencing, Snapshotting, Switching, Restoring, Releasing, Restored, TabletPair, CloneRecord, CloneState, Accepted, CloneSnapshot, Copying, CloneReleasing, CloneComplete, Sent, ScheduledNamespace}
 use Rattle.model.specs.Schedules.{after_of}
 use Rattle.model.specs.Cleanup.{floor_of}
 use Rattle.model.specs.Parts.{Master}
 use Rattle.law_invariants.specs.Remembered.{IsForgotten}
-use Rattle.law_invariants.specs.Operations.{IsKnown, IsOpenOf, IsReached, ScheduleGood, SnapshotGood, IsServing, IsPoint, BeforePoint, IsBack, IsActive, RestorationStateGood, RestorationGood, IsSource, IsReserved, CloneStateGood, CloneGood, JournalGood}
+use Rattle.law_invariants.specs.Operations.{IsKnown, IsOpenOf, IsReached, ScheduleGood, SnapshotGood, IsServing, IsPoint, BeforePoint, IsBack, IsActive, RestorationStateGood, RestorationGood, IsSource, IsReserved, CloneStateGood, CloneGood, JournalGood, ScheduledGood}
 use Rattle.law_invariants.specs.Orders.{FencePlace, ByRestoration, RestorationSlot, CloneSlot, IsHome, RowsPast}
 use Rattle.law_invariants.specs.Invariant.{IsGood, SlotGood, MasterGood}
 
@@ -58,25 +58,26 @@ back_beside m cs s l to point h = record {
 
 -- Schedules and snapshots
 
-reach_beside : (m : Master) (cs : List CloneRecord) (s : List Sent) (schedule ns : Id) (after : ℕ) → FloorsRise m (with_clones m cs s) → IsReached m schedule ns after → IsReached (with_clones m cs s) schedule ns after
-reach_beside m cs s schedule ns after floors (inl l) = inl (lt_of_lt_of_le l (floors ns))
-reach_beside m cs s schedule ns after floors (inr q) = inr q
+reach_beside : (m : Master) (cs : List CloneRecord) (s : List Sent) (ns : Id) (after : ℕ) → FloorsRise m (with_clones m cs s) → IsReached m ns after → IsReached (with_clones m cs s) ns after
+reach_beside m cs s ns after floors (inl l) = inl (lt_of_lt_of_le l (floors ns))
+reach_beside m cs s ns after floors (inr q) = inr q
 
 pub schedule_beside : (m : Master) (cs : List CloneRecord) (s : List Sent) (k : Schedule) → FloorsRise m (with_clones m cs s) → ScheduleGood m k → ScheduleGood (with_clones m cs s) k
-schedule_beside m cs s k floors h = record {
-  drawn = h.drawn;
+schedule_beside m cs s k floors h = record { drawn = h.drawn; drawn_namespace = h.drawn_namespace; begun = h.begun; scheduled = h.scheduled }
+
+pub scheduled_beside : (m : Master) (cs : List CloneRecord) (s : List Sent) (k : ScheduledNamespace) → FloorsRise m (with_clones m cs s) → ScheduledGood m k → ScheduledGood (with_clones m cs s) k
+scheduled_beside m cs s k floors h = record {
   drawn_namespace = h.drawn_namespace;
   from_one = h.from_one;
-  begun = h.begun;
   last = h.last;
-  reached = reach_beside m cs s k.id k.namespace (after_of k.last k) floors h.reached;
+  reached = reach_beside m cs s k.namespace (after_of k) floors h.reached;
+  has = h.has;
 }
 
 pub snapshot_beside : (m : Master) (cs : List CloneRecord) (s : List Sent) (q : SnapshotRecord) → FloorsRise m (with_clones m cs s) → SnapshotGood m q → SnapshotGood (with_clones m cs s) q
 snapshot_beside m cs s q floors h = record {
   kind_is = h.kind_is;
   drawn = h.drawn;
-  drawn_schedule = h.drawn_schedule;
   drawn_namespace = h.drawn_namespace;
   rises = h.rises;
   past = h.past;
@@ -86,8 +87,6 @@ snapshot_beside m cs s q floors h = record {
   known = λ unfinished l isin. known_beside m cs s l (h.known unfinished l isin);
   lists = h.lists;
   reached = elim h.reached [ inl l ↦ inl (lt_of_lt_of_le l (floors q.namespace)) | inr p ↦ inr p ];
-  of_schedule = h.of_schedule;
-  same_namespace = h.same_namespace;
   scheduled = h.scheduled;
 }
 
@@ -123,7 +122,7 @@ state_beside (Snapshotting point own) m cs s changes r h = record {
   kept = h.kept;
   id_is = h.id_is;
   at_is = h.at_is;
-  schedule_is = h.schedule_is;
+  namespace_is = h.namespace_is;
   alone = h.alone;
 }
 state_beside (Switching point serving) m cs s changes r h = record {
@@ -195,7 +194,6 @@ clone_state_beside (CloneSnapshot own) m cs s c h = record {
   kept = h.kept;
   id_is = h.id_is;
   namespace_is = h.namespace_is;
-  of_schedule = h.of_schedule;
   reaches = h.reaches;
 }
 clone_state_beside (Copying serving at) m cs s c h = record {

@@ -1,6 +1,6 @@
 -- A clone has its target's tablets copy the rows of the snapshot that serves its time; where none does, it makes one first.
 use Rattle.std.proofs.Common.{ℕ, ◌≡◌, ◌≤◌, ◌<◌, ◌+◌, List, [], ◌∷◌, Option, Some, None, Bool, true, false, cond, ◌&&◌, ◌||◌, inl, inr, refl, sym, ap, subst, ◌∙◌, arith, leb, le_refl, le_trans, le_of_lt}
-use Rattle.std.specs.Option.{unwrap_or, option_and_then, is_some}
+use Rattle.std.specs.Option.{unwrap_or, is_some}
 use Rattle.std.proofs.lemmas.Bool.{true≢false}
 use Rattle.std.proofs.lemmas.Bool.Decides.{nat_tests}
 use Rattle.row_values.specs.Ids.{Id, same}
@@ -10,11 +10,11 @@ use Rattle.model.specs.Activity.{Interval}
 use Rattle.model.specs.Catalog.{owner_of}
 use Rattle.model.specs.Journal.{Change as Made}
 use Rattle.model.specs.Tablets.{Tablet, Copy, Release, CopyKind, FreezeKind, is_serving, is_done}
-use Rattle.model.specs.Records.{Listed, Schedule, SnapshotRecord, TabletPair, CloneRecord, CloneState, Accepted, CloneSnapshot, Copying, is_visible, schedule_of, unfinished_of}
+use Rattle.model.specs.Records.{Listed, Schedule, SnapshotRecord, TabletPair, CloneRecord, CloneState, Accepted, CloneSnapshot, Copying, is_visible, unfinished_of}
 use Rattle.model.specs.Parts.{Master, Parts}
 use Rattle.model.specs.Lists.{next_snapshot, new_snapshot, with_snapshot}
 use Rattle.model.specs.Schedules.{serving}
-use Rattle.model.specs.Moves.{clone_enters, with_own_snapshot, copies, begins_clone, id_of_snapshot, serving_clone, serving_of, awaited_by_clone, incomplete, is_complete}
+use Rattle.model.specs.Moves.{clone_enters, with_clones_snapshot, copies, begins_clone, id_of_snapshot, serving_clone, awaited_by_clone, incomplete, is_complete}
 use Rattle.law_store.proofs.Keys.{either_way}
 use Rattle.law_invariants.specs.Operations.{IsCopied, CloneStateGood}
 use Rattle.law_invariants.specs.Orders.{ClonePlace, CloneSlot, ReservedSlot, stage_of_clone}
@@ -22,11 +22,11 @@ use Rattle.law_invariants.specs.Invariant.{Inv}
 use Rattle.law_invariants.proofs.Finding.{none_or_some, both_pass, same_equal, in_mapped, map_in, in_second}
 use Rattle.law_moves.proofs.Slots.{done_mark, records_keep}
 use Rattle.law_moves.proofs.Recording.{recorded}
-use Rattle.law_moves.proofs.Using.{mapped_is}
 use Rattle.law_moves.proofs.Snapshots.{MayTake, taken, taken_onto}
 use Rattle.law_moves.proofs.Completing.{one_snapshot}
 use Rattle.law_clones.proofs.Entering.{Step, Enters, entering_keeps, from_one}
-use Rattle.law_clones.proofs.Serving.{serving_none, clone_scheduled, clone_served}
+use Rattle.law_clones.proofs.Serving.{clone_scheduled, clone_served}
+use Rattle.law_moves.proofs.Serving.{serving_some}
 use Rattle.law_clones.proofs.Advancing.{MayMove, MovedKeeps, ticked_keeps}
 
 -- a state before the copies
@@ -130,19 +130,20 @@ copying_keeps ps activity changes n r s before early may served inv =
 -- its own snapshot
 
 own_keeps : (ps : Parts) (activity : List Interval) (changes : List Made) (n : ℕ) (r : CloneRecord) (s : Schedule) → ps.master.clock < n → r.state ≡ Accepted → MayMove ps.master r → In s ps.master.schedules → s.namespace ≡ r.source
-    → unfinished_of ps.master.snapshots s.id ≡ None → Inv ps activity changes
-    → Inv (record { master = clone_enters r (CloneSnapshot (next_snapshot ps.master)) [] n (with_snapshot s n ps.master); tablet = ps.tablet }) activity changes
+    → unfinished_of ps.master.snapshots r.source ≡ None → Inv ps activity changes
+    → Inv (record { master = clone_enters r (CloneSnapshot (next_snapshot ps.master)) [] n (with_snapshot r.source s.id n ps.master); tablet = ps.tablet }) activity changes
 own_keeps ps activity changes n r s before e may there of calm inv =
     let m = ps.master in
     let ops = inv.operations in
     let c = ops.clones r may.kept in
-    let take : MayTake m s = record {
-      there = there;
+    let k = (ops.schedules s there).scheduled in
+    let take : MayTake m r.source s.id = record {
+      scheduled = (k.0, (k.1.0, k.1.1.0 ∙ of));
       calm = calm;
-      early = λ k point isin unfinished at is. ops.apart.one_operation k r isin may.kept unfinished may.unfinished (inl (sym of ∙ is));
+      early = λ k point isin unfinished at is. ops.apart.one_operation k r isin may.kept unfinished may.unfinished (inl is);
     } in
-    let own = taken s n m in
-    let h = records_keep ps activity changes own (taken_onto ps activity changes n s before take inv) inv in
+    let own = taken r.source s.id n m in
+    let h = records_keep ps activity changes own (taken_onto ps activity changes n r.source s.id before take inv) inv in
     let q : Parts = record { master = recorded m own; tablet = ps.tablet } in
     let v : Step = record { clone = r; state = CloneSnapshot (next_snapshot m); listed = [] } in
     let w : Enters q changes v = record {
@@ -157,13 +158,10 @@ own_keeps ps activity changes n r s before e may there of calm inv =
       drawn_listed = λ l isin. absurd isin;
       in_state = record {
         empty = refl;
-        snapshot = new_snapshot m s n;
-        kept = in_second m.snapshots (new_snapshot m s n ∷ []) _ (inl refl);
+        snapshot = new_snapshot m r.source s.id n;
+        kept = in_second m.snapshots (new_snapshot m r.source s.id n ∷ []) _ (inl refl);
         id_is = refl;
-        namespace_is = of;
-        of_schedule = λ t isin is. (
-            let p = mapped_is {A = Schedule} (λ t. record t { last = cond (same t.id s.id) (Some n) t.last }) m.schedules t isin in
-            ap (λ k. k.id) (sym p.1.1) ∙ ap (λ k. k.id) (ops.apart.one_schedule p.0 s p.1.0 there (ap (λ k. k.namespace) p.1.1 ∙ is ∙ sym of)));
+        namespace_is = refl;
         reaches = (let l = c.past in omega arith);
       };
       slots = λ slot. (let g = early_slot r.state m changes r slot (ps.tablet slot) (ap is_early e) ((inv.works slot).obeyed.clones r may.kept) in record { empty = g.empty });
@@ -179,12 +177,10 @@ beginning (Some s) ps activity changes n r served before e may inv = copying_kee
 beginning None ps activity changes n r none before e may inv =
     let m = ps.master in
     let k = clone_scheduled m changes r inv.operations may.kept may.unfinished in
-    let waits : awaited_by_clone r.state m r ≡ unfinished_of m.snapshots k.0.id =
-    ap (λ state. awaited_by_clone state m r) e
-    ∙ ap (λ o. cond (is_some o) None (option_and_then {T = Schedule} (λ s. unfinished_of m.snapshots s.id) (schedule_of m.schedules r.source))) none
-    ∙ ap (option_and_then {T = Schedule} (λ s. unfinished_of m.snapshots s.id)) k.1.0 in
-    subst (λ o. Inv (record { master = clone_enters r (CloneSnapshot (next_snapshot m)) [] n (with_own_snapshot o n m); tablet = ps.tablet })
-    (clone_enters r (CloneSnapshot (next_snapshot m)) [] n (with_own_snapshot o n (record m { activity = activity }))).activity changes) (sym k.1.0)
+    let waits : awaited_by_clone r.state m r ≡ unfinished_of m.snapshots r.source =
+    ap (λ state. awaited_by_clone state m r) e ∙ ap (λ o. cond (is_some o) None (unfinished_of m.snapshots r.source)) none in
+    subst (λ o. Inv (record { master = clone_enters r (CloneSnapshot (next_snapshot m)) [] n (with_clones_snapshot o r n m); tablet = ps.tablet })
+    (clone_enters r (CloneSnapshot (next_snapshot m)) [] n (with_clones_snapshot o r n (record m { activity = activity }))).activity changes) (sym k.1.0)
     (own_keeps ps activity changes n r k.0 before e may k.1.1.0 k.1.1.1 (sym waits ∙ may.unawaited) inv)
 
 pub accepted_moves : (ps : Parts) (activity : List Interval) (changes : List Made) (n : ℕ) (r : CloneRecord) → ps.master.clock < n → r.state ≡ Accepted → MayMove ps.master r → Inv ps activity changes → MovedKeeps Accepted ps activity changes n r
@@ -206,10 +202,8 @@ own_serves ps activity changes r own e may inv none =
     let q = complete_is m.snapshots own over in
     let g = subst (λ state. CloneStateGood state m r) e (ops.clones r may.kept).in_state in
     let one : q.0 ≡ g.snapshot = one_snapshot m.snapshots q.0 g.snapshot ops.apart.snapshots_rise q.1.0 g.kept (q.1.1.0 ∙ sym g.id_is) in
-    let k = clone_scheduled m changes r ops may.kept may.unfinished in
-    let gone : serving m.snapshots k.0.id r.to ≡ None = sym (ap (λ s. serving_of s m.snapshots r.to) k.1.0) ∙ none in
-    serving_none m.snapshots k.0.id r.to g.snapshot gone g.kept
-    (record { schedule_is = sym (g.of_schedule k.0 k.1.1.0 k.1.1.1); complete = ap (λ x. x.complete) (sym one) ∙ q.1.1.1; reaches = g.reaches })
+    let found = serving_some m.snapshots r.source r.to g.snapshot g.kept (record { namespace_is = g.namespace_is; complete = ap (λ x. x.complete) (sym one) ∙ q.1.1.1; reaches = g.reaches }) in
+    let no : Some found.0 ≡ None = sym found.1 ∙ none in grind arith
 
 pub snapshot_moves : (ps : Parts) (activity : List Interval) (changes : List Made) (n : ℕ) (r : CloneRecord) (own : Id) → ps.master.clock < n → r.state ≡ CloneSnapshot own → MayMove ps.master r → Inv ps activity changes
     → MovedKeeps (CloneSnapshot own) ps activity changes n r

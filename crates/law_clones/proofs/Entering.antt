@@ -19,7 +19,7 @@ use Rattle.law_invariants.proofs.Finding.{same_equal, same_self, in_mapped, map_
 use Rattle.law_invariants.proofs.Ticking.{not_true}
 use Rattle.law_moves.proofs.Using.{mapped_is, alone_mapped}
 use Rattle.law_moves.proofs.Pending.{unfinished_clone_is, unacked_is}
-use Rattle.law_clones.proofs.Beside.{with_clones, FloorsRise, schedule_beside, snapshot_beside, restoration_beside, source_beside, reserved_beside, clone_beside, journal_beside, rows_beside, forgotten_beside, master_beside, slot_beside, fence_beside, restoration_slot_beside, clone_slot_beside, home_beside}
+use Rattle.law_clones.proofs.Beside.{with_clones, FloorsRise, schedule_beside, scheduled_beside, snapshot_beside, restoration_beside, source_beside, reserved_beside, clone_beside, journal_beside, rows_beside, forgotten_beside, master_beside, slot_beside, fence_beside, restoration_slot_beside, clone_slot_beside, home_beside}
 use Rattle.law_clones.proofs.Users.{users_floors}
 
 -- which record enters which state, with the tablets that it lists there
@@ -92,7 +92,7 @@ seen_was ps changes v x ids w isin = either_way (same x.id v.clone.id)
     (λ b. ap (λ k. is_visible k.state) (entering_same v x b))
 
 entered_apart : (ps : Parts) (changes : List Change) (v : Step) → Enters ps changes v → OperationsGood ps.master changes
-    → OperationsApart ps.master.schedules ps.master.snapshots ps.master.restorations (entered v ps.master.clones)
+    → OperationsApart ps.master.schedules ps.master.scheduled ps.master.snapshots ps.master.restorations (entered v ps.master.clones)
 entered_apart ps changes v w ops =
     let cs = ps.master.clones in
     let a = ops.apart in
@@ -101,7 +101,7 @@ entered_apart ps changes v w ops =
     let unseen : (y x : CloneRecord) → In y cs → entering v y ≡ x → is_visible x.state ≡ false → is_visible y.state ≡ false = λ y x isin e dark. sym (seen_was ps changes v y a.clone_ids w isin) ∙ ap (λ k. is_visible k.state) e ∙ dark in
     record {
       schedule_ids = a.schedule_ids;
-      one_schedule = a.one_schedule;
+      one_scheduled = a.one_scheduled;
       snapshots_rise = a.snapshots_rise;
       one_snapshot = a.one_snapshot;
       restoration_ids = a.restoration_ids;
@@ -361,6 +361,7 @@ entering_keeps ps activity changes v w inv =
         owners = ops.owners;
         apart = entered_apart ps changes v w ops;
         schedules = λ k isin. schedule_beside m cs s k floors (ops.schedules k isin);
+        scheduled = λ k isin. scheduled_beside m cs s k floors (ops.scheduled k isin);
         snapshots = λ q isin. snapshot_beside m cs s q floors (ops.snapshots q isin);
         restorations = λ r isin. restoration_beside m cs s changes r (ops.restorations r isin);
         clones = λ c isin. by_entering (λ c. CloneGood (stepped m v) changes c) v m.clones ops.apart.clone_ids w.kept (entered_good ps changes v w (ops.clones v.clone w.kept))

@@ -4,8 +4,8 @@ use Rattle.std.specs.Option.{option_or, option_map}
 use Rattle.std.proofs.lemmas.Bool.{true≢false}
 use Rattle.row_values.specs.Ids.{Id, same}
 use Rattle.row_values.specs.Elements.{In}
-use Rattle.model.specs.Records.{Schedule, CloneRecord, Sent, is_cloned, schedule_of}
-use Rattle.model.specs.Schedules.{floor}
+use Rattle.model.specs.Records.{CloneRecord, Sent, is_cloned}
+use Rattle.model.specs.Schedules.{floor, least_low}
 use Rattle.model.specs.Operations.{restoration_of, clone_with}
 use Rattle.model.specs.Parts.{Master}
 use Rattle.law_store.proofs.Keys.{either_way}
@@ -54,7 +54,7 @@ WereUsers cs ds = (d : CloneRecord) (ns : Id) → In d ds → Uses d ns → is_c
 abbrev OneUser : List CloneRecord → Type 0
 OneUser cs = (c d : CloneRecord) (ns : Id) → In c cs → In d cs → is_cloned c.state ≡ false → is_cloned d.state ≡ false → Uses c ns → Uses d ns → c ≡ d
 
-floor_without : (s : Option Schedule) (a b : Option ℕ) (n : ℕ) → floor s (option_or a b) n ≤ floor s (option_or a None) n
+floor_without : (s : Option ℕ) (a b : Option ℕ) (n : ℕ) → floor s (option_or a b) n ≤ floor s (option_or a None) n
 floor_without None a b n = le_refl _
 floor_without (Some s) (Some x) b n = le_refl _
 floor_without (Some s) None None n = le_refl _
@@ -65,11 +65,11 @@ time_in m cs ns = option_or (option_map (λ r. r.to) (restoration_of m.restorati
 
 pub users_floors : (m : Master) (ds : List CloneRecord) (s : List Sent) → OneUser m.clones → WereUsers m.clones ds → FloorsRise m (with_clones m ds s)
 users_floors m ds s one were = λ ns.
-    let schedule = schedule_of m.schedules ns in
+    let least = least_low m.schedules ns m.clock in
     let first = option_map (λ r. r.to) (restoration_of m.restorations ns) in
     none_or_some (clone_with ds ns)
-    (λ none. subst (λ d. floor schedule (time_in m m.clones ns) m.clock ≤ floor schedule (option_or first (option_map {T = CloneRecord} (λ r. r.to) d)) m.clock) (sym none)
-    (floor_without schedule first (option_map (λ r. r.to) (clone_with m.clones ns)) m.clock))
+    (λ none. subst (λ d. floor least (time_in m m.clones ns) m.clock ≤ floor least (option_or first (option_map {T = CloneRecord} (λ r. r.to) d)) m.clock) (sym none)
+    (floor_without least first (option_map (λ r. r.to) (clone_with m.clones ns)) m.clock))
     (λ d some.
     let k = user_is ds ns d some in
     let w = were d ns k.0 k.1.0 k.1.1 in
@@ -80,4 +80,4 @@ users_floors m ds s one were = λ ns.
     let is : c ≡ w.0 = one c w.0 ns h.0 w.1.0 h.1.1 w.1.1.1.0 h.1.0 w.1.1.0 in
     let same_ : time_in m m.clones ns ≡ time_in m ds ns =
     ap (λ q. option_or first (option_map {T = CloneRecord} (λ r. r.to) q)) found ∙ ap (λ x. option_or first (Some x)) (ap (λ q. q.to) is ∙ w.1.1.1.1) ∙ sym (ap (λ q. option_or first (option_map {T = CloneRecord} (λ r. r.to) q)) some) in
-    subst (λ t. floor schedule (time_in m m.clones ns) m.clock ≤ floor schedule t m.clock) same_ (le_refl _)))
+    subst (λ t. floor least (time_in m m.clones ns) m.clock ≤ floor least t m.clock) same_ (le_refl _)))

@@ -7,15 +7,15 @@ use Rattle.model.specs.Catalog.{kept_from}
 use Rattle.model.specs.Activity.{Interval}
 use Rattle.model.specs.Journal.{Change}
 use Rattle.model.specs.Tablets.{Body, RestoreFrom, Hide}
-use Rattle.model.specs.Records.{Listed, Sent, Schedule, SnapshotRecord, RestorationRecord, RestorationState, Fencing, Snapshotting, Switching, Restoring, Releasing, Restored, CloneRecord, CloneState, Accepted, CloneSnapshot, Copying, CloneReleasing, CloneComplete, acked_at, is_restored, is_cloned, is_visible, schedule_of}
+use Rattle.model.specs.Records.{Listed, Sent, Schedule, SnapshotRecord, RestorationRecord, RestorationState, Fencing, Snapshotting, Switching, Restoring, Releasing, Restored, CloneRecord, CloneState, Accepted, CloneSnapshot, Copying, CloneReleasing, CloneComplete, acked_at, is_restored, is_cloned, is_visible, ScheduledNamespace}
 use Rattle.model.specs.Coordination.{acked_snapshot, acked_restoration, acked_clone}
 use Rattle.model.specs.Stands.{is_restore}
 use Rattle.model.specs.Operations.{restoration_of, clone_with}
-use Rattle.model.specs.Schedules.{floor}
+use Rattle.model.specs.Schedules.{floor, least_low}
 use Rattle.model.specs.Cleanup.{floor_of}
 use Rattle.model.specs.Parts.{Master}
 use Rattle.law_store.proofs.Keys.{either_way}
-use Rattle.law_invariants.specs.Operations.{SnapshotsRise, OperationsApart, Uses, IsKnown, IsListed, IsOpenOf, IsReached, ScheduleGood, SnapshotGood, IsServing, IsPoint, BeforePoint, IsAfterSwitch, IsActive, RestorationStateGood, RestorationGood, CloneStateGood, CloneGood, IsSent, OperationsGood}
+use Rattle.law_invariants.specs.Operations.{SnapshotsRise, OperationsApart, Uses, IsKnown, IsListed, IsOpenOf, IsReached, ScheduleGood, SnapshotGood, IsServing, IsPoint, BeforePoint, IsAfterSwitch, IsActive, RestorationStateGood, RestorationGood, CloneStateGood, CloneGood, IsSent, OperationsGood, ScheduledGood}
 use Rattle.law_invariants.proofs.Finding.{in_mapped, map_in, either_is}
 
 -- Lists
@@ -111,17 +111,17 @@ rise_acked : (rs : List SnapshotRecord) (id : Id) (slot : ℕ) → SnapshotsRise
 rise_acked [] id slot h = tt
 rise_acked (r ∷ rs) id slot h = (in_mapped (ack_snapshot id slot) (λ q. (r.id.number < q.id.number) × (r.at < q.at)) rs h.0, rise_acked rs id slot h.1)
 
-apart_acked : (m : Master) (id : Id) (slot : ℕ) → OperationsApart m.schedules m.snapshots m.restorations m.clones
-    → OperationsApart m.schedules (acked_all id slot m).snapshots (acked_all id slot m).restorations (acked_all id slot m).clones
+apart_acked : (m : Master) (id : Id) (slot : ℕ) → OperationsApart m.schedules m.scheduled m.snapshots m.restorations m.clones
+    → OperationsApart m.schedules m.scheduled (acked_all id slot m).snapshots (acked_all id slot m).restorations (acked_all id slot m).clones
 apart_acked m id slot h =
     let fs = ack_snapshot id slot in
     let fr = ack_restoration id slot in
     let fc = ack_clone id slot in
     record {
       schedule_ids = h.schedule_ids;
-      one_schedule = h.one_schedule;
+      one_scheduled = h.one_scheduled;
       snapshots_rise = rise_acked m.snapshots id slot h.snapshots_rise;
-      one_snapshot = pairs fs (λ q r. q.complete ≡ false → r.complete ≡ false → q.schedule ≡ r.schedule → q ≡ r) m.snapshots (λ q r inq inr_ a b c. ap fs (h.one_snapshot q r inq inr_ a b c));
+      one_snapshot = pairs fs (λ q r. q.complete ≡ false → r.complete ≡ false → q.namespace ≡ r.namespace → q ≡ r) m.snapshots (λ q r inq inr_ a b c. ap fs (h.one_snapshot q r inq inr_ a b c));
       restoration_ids = pairs fr (λ q r. q.id ≡ r.id → q ≡ r) m.restorations (λ q r inq inr_ a. ap fr (h.restoration_ids q r inq inr_ a));
       one_restoration = pairs fr (λ q r. is_restored q.state ≡ false → is_restored r.state ≡ false → q.namespace ≡ r.namespace → q ≡ r) m.restorations (λ q r inq inr_ a b c. ap fr (h.one_restoration q r inq inr_ a b c));
       clone_ids = pairs fc (λ q r. q.id ≡ r.id → q ≡ r) m.clones (λ q r inq inr_ a. ap fc (h.clone_ids q r inq inr_ a));
@@ -147,8 +147,8 @@ clone_time (c ∷ cs) id slot ns = either_way ((same c.target_id ns || same c.so
 
 pub floor_acked : (m : Master) (id : Id) (slot : ℕ) (ns : Id) (n : ℕ) → floor_of (acked_all id slot m) ns n ≡ floor_of m ns n
 floor_acked m id slot ns n =
-    ap (λ t. floor (schedule_of m.schedules ns) (option_or t (option_map (λ r. r.to) (clone_with (map (ack_clone id slot) m.clones) ns))) n) (restoration_time m.restorations id slot ns)
-    ∙ ap (λ t. floor (schedule_of m.schedules ns) (option_or (option_map (λ r. r.to) (restoration_of m.restorations ns)) t) n) (clone_time m.clones id slot ns)
+    ap (λ t. floor (least_low m.schedules ns n) (option_or t (option_map (λ r. r.to) (clone_with (map (ack_clone id slot) m.clones) ns))) n) (restoration_time m.restorations id slot ns)
+    ∙ ap (λ t. floor (least_low m.schedules ns n) (option_or (option_map (λ r. r.to) (restoration_of m.restorations ns)) t) n) (clone_time m.clones id slot ns)
 
 -- Intervals and lists
 
@@ -169,19 +169,21 @@ active_acked m id slot l k from tablet at h = record { interval = h.interval; ke
 
 -- Schedules and snapshots
 
-reached_acked : (m : Master) (id : Id) (slot : ℕ) (schedule ns : Id) (after : ℕ) → IsReached m schedule ns after → IsReached (acked_all id slot m) schedule ns after
-reached_acked m id slot schedule ns after (inl h) = inl (subst (λ y. after < y) (sym (floor_acked m id slot ns m.clock)) h)
-reached_acked m id slot schedule ns after (inr h) = inr (ack_snapshot id slot h.0, (snapshot_stays m id slot h.0 h.1.0, h.1.1))
+reached_acked : (m : Master) (id : Id) (slot : ℕ) (ns : Id) (after : ℕ) → IsReached m ns after → IsReached (acked_all id slot m) ns after
+reached_acked m id slot ns after (inl h) = inl (subst (λ y. after < y) (sym (floor_acked m id slot ns m.clock)) h)
+reached_acked m id slot ns after (inr h) = inr (ack_snapshot id slot h.0, (snapshot_stays m id slot h.0 h.1.0, h.1.1))
 
 schedule_acked : (m : Master) (id : Id) (slot : ℕ) (s : Schedule) → ScheduleGood m s → ScheduleGood (acked_all id slot m) s
 schedule_acked m id slot s h =
-    record { drawn = h.drawn; drawn_namespace = h.drawn_namespace; from_one = h.from_one; begun = h.begun; last = h.last; reached = reached_acked m id slot s.id s.namespace _ h.reached }
+    record { drawn = h.drawn; drawn_namespace = h.drawn_namespace; begun = h.begun; scheduled = h.scheduled }
+
+scheduled_acked : (m : Master) (id : Id) (slot : ℕ) (k : ScheduledNamespace) → ScheduledGood m k → ScheduledGood (acked_all id slot m) k
+scheduled_acked m id slot k h = record { drawn_namespace = h.drawn_namespace; from_one = h.from_one; last = h.last; reached = reached_acked m id slot k.namespace _ h.reached; has = h.has }
 
 snapshot_acked : (m : Master) (id : Id) (slot : ℕ) (r : SnapshotRecord) → SnapshotGood m r → SnapshotGood (acked_all id slot m) (ack_snapshot id slot r)
 snapshot_acked m id slot r h = let b = same r.id id in record {
   kind_is = h.kind_is;
   drawn = h.drawn;
-  drawn_schedule = h.drawn_schedule;
   drawn_namespace = h.drawn_namespace;
   rises = h.rises;
   past = h.past;
@@ -194,8 +196,6 @@ snapshot_acked m id slot r h = let b = same r.id id in record {
     | inl low ↦ inl (subst (λ y. r.after < y) (sym (floor_acked m id slot r.namespace m.clock)) low)
     | inr q ↦ inr (ack_snapshot id slot q.0, (snapshot_stays m id slot q.0 q.1.0, q.1.1))
   ];
-  of_schedule = h.of_schedule;
-  same_namespace = each_snapshot m id slot (λ q. q.schedule ≡ r.schedule → q.namespace ≡ r.namespace) (λ q inq. h.same_namespace q inq);
   scheduled = h.scheduled;
 }
 
@@ -243,8 +243,8 @@ state_acked (Snapshotting point own) m id slot changes r h = record {
   kept = snapshot_stays m id slot h.snapshot h.kept;
   id_is = h.id_is;
   at_is = h.at_is;
-  schedule_is = h.schedule_is;
-  alone = each_snapshot m id slot (λ q. q.complete ≡ false → q.schedule ≡ r.schedule → q.id ≡ own) (λ q inq. h.alone q inq);
+  namespace_is = h.namespace_is;
+  alone = each_snapshot m id slot (λ q. q.complete ≡ false → q.namespace ≡ r.namespace → q.id ≡ own) (λ q inq. h.alone q inq);
 }
 state_acked (Switching point serving) m id slot changes r h = record {
   is_point = point_acked m id slot changes r point h.is_point;
@@ -252,13 +252,13 @@ state_acked (Switching point serving) m id slot changes r h = record {
   begun = h.begun;
   before = before_acked m id slot r.namespace point h.before;
   serves = serving_acked m id slot serving r.namespace r.to h.serves;
-  calm = each_snapshot m id slot (λ q. q.complete ≡ false → q.schedule ≡ r.schedule → ⊥) (λ q inq. h.calm q inq);
+  calm = each_snapshot m id slot (λ q. q.complete ≡ false → q.namespace ≡ r.namespace → ⊥) (λ q inq. h.calm q inq);
 }
 state_acked (Restoring point serving) m id slot changes r h = let b = same r.id id in record {
   is_point = point_acked m id slot changes r point h.is_point;
   begun = h.begun;
   serves = serving_acked m id slot serving r.namespace r.to h.serves;
-  calm = each_snapshot m id slot (λ q. q.complete ≡ false → q.schedule ≡ r.schedule → ⊥) (λ q inq. h.calm q inq);
+  calm = each_snapshot m id slot (λ q. q.complete ≡ false → q.namespace ≡ r.namespace → ⊥) (λ q inq. h.calm q inq);
   switched = h.switched;
   bodies = λ l isin. (let w = was b r.listed slot l isin in subst (IsAfterSwitch (ack_restoration id slot r) point serving) (sym w.body_is) (after_same r (ack_restoration id slot r) point serving w.line.body refl (h.bodies w.line w.listed)));
   back = λ l isin restores. (
@@ -315,7 +315,6 @@ clone_state_acked (CloneSnapshot own) m id slot c h = record {
   kept = snapshot_stays m id slot h.snapshot h.kept;
   id_is = h.id_is;
   namespace_is = h.namespace_is;
-  of_schedule = h.of_schedule;
   reaches = h.reaches;
 }
 clone_state_acked (Copying serving at) m id slot c h = let b = same c.id id in record {
@@ -401,6 +400,7 @@ operations_acked m id slot changes h = record {
   owners = h.owners;
   apart = apart_acked m id slot h.apart;
   schedules = λ s isin. schedule_acked m id slot s (h.schedules s isin);
+  scheduled = λ k isin. scheduled_acked m id slot k (h.scheduled k isin);
   snapshots = each_snapshot m id slot (SnapshotGood (acked_all id slot m)) (λ r isin. snapshot_acked m id slot r (h.snapshots r isin));
   restorations = all_restorations m id slot (RestorationGood (acked_all id slot m) changes) (λ r isin. restoration_acked m id slot changes r (h.restorations r isin));
   clones = all_clones m id slot (CloneGood (acked_all id slot m) changes) (λ c isin. clone_acked m id slot changes c (h.clones c isin));

@@ -9,7 +9,7 @@ use Rattle.model.specs.Times.{is_open, ended_by, before_end}
 use Rattle.model.specs.Catalog.{Catalog, NamespaceRecord, TableRecord, owner_of, kept_from}
 use Rattle.model.specs.Activity.{Interval, active_at, active_within}
 use Rattle.model.specs.Journal.{Change}
-use Rattle.model.specs.Records.{Listed, Schedule, SnapshotRecord, RestorationRecord, RestorationState, Fencing, Snapshotting, Switching, Restoring, Releasing, Restored, TabletPair, CloneRecord, CloneState, Accepted, CloneSnapshot, Copying, CloneReleasing, CloneComplete, Sent, is_restored, is_cloned, is_visible}
+use Rattle.model.specs.Records.{Listed, Schedule, SnapshotRecord, RestorationRecord, RestorationState, Fencing, Snapshotting, Switching, Restoring, Releasing, Restored, TabletPair, CloneRecord, CloneState, Accepted, CloneSnapshot, Copying, CloneReleasing, CloneComplete, Sent, is_restored, is_cloned, is_visible, ScheduledNamespace}
 use Rattle.model.specs.Stands.{before_restore}
 use Rattle.model.specs.Operations.{holder, restoration_of, clone_to}
 use Rattle.model.specs.Looks.{has_target, is_reserved}
@@ -18,7 +18,7 @@ use Rattle.model.specs.Drawn.{drawn_of}
 use Rattle.model.specs.Right.{is_fixed}
 use Rattle.model.specs.Parts.{Master, Drawn}
 use Rattle.law_store.proofs.Keys.{either_way}
-use Rattle.law_invariants.specs.Operations.{IsSent, IsKnown, IsListed, IsOpenOf, ScheduleGood, SnapshotGood, IsServing, is_switched, IsPoint, BeforePoint, IsBack, IsActive, RestorationStateGood, RestorationGood, IsSource, IsReserved, CloneStateGood, CloneGood, OperationsGood}
+use Rattle.law_invariants.specs.Operations.{IsSent, IsKnown, IsListed, IsOpenOf, ScheduleGood, SnapshotGood, IsServing, is_switched, IsPoint, BeforePoint, IsBack, IsActive, RestorationStateGood, RestorationGood, IsSource, IsReserved, CloneStateGood, CloneGood, OperationsGood, ScheduledGood}
 use Rattle.law_invariants.proofs.Finding.{both_pass, passes_both, same_self, either_passes}
 use Rattle.law_invariants.proofs.Remembering.{floor_rises}
 
@@ -196,10 +196,17 @@ schedule_on : (m : Master) (n : ℕ) (c : Catalog) (a : List Interval) (d : Draw
 schedule_on m n c a d s changes new k o h = record {
   drawn = le_trans h.drawn (o.drawn ScheduleKind);
   drawn_namespace = le_trans h.drawn_namespace (o.drawn Namespace);
-  from_one = h.from_one;
   begun = le_trans h.begun o.clock;
+  scheduled = h.scheduled;
+}
+
+scheduled_on : (m : Master) (n : ℕ) (c : Catalog) (a : List Interval) (d : Drawn) (s : List Sent) (changes new : List Change) (k : ScheduledNamespace) → Onward m n c a d changes new → ScheduledGood m k → ScheduledGood (going m n c a d s) k
+scheduled_on m n c a d s changes new k o h = record {
+  drawn_namespace = le_trans h.drawn_namespace (o.drawn Namespace);
+  from_one = h.from_one;
   last = le_trans h.last o.clock;
   reached = elim h.reached [ inl l ↦ inl (lt_of_lt_of_le l (floor_rises m (going m n c a d s) k.namespace (record { clock = o.clock; schedules = refl; restorations = refl; clones = refl }))) | inr q ↦ inr q ];
+  has = h.has;
 }
 
 within_was : (m : Master) (n x y : ℕ) (i j : Interval) → GoesOn m n i j → active_within x y j ≡ true → active_within x y i ≡ true
@@ -218,7 +225,6 @@ snapshot_on : (m : Master) (n : ℕ) (c : Catalog) (a : List Interval) (d : Draw
 snapshot_on m n c a d s changes new r o h = record {
   kind_is = h.kind_is;
   drawn = le_trans h.drawn (o.drawn Snapshot);
-  drawn_schedule = le_trans h.drawn_schedule (o.drawn ScheduleKind);
   drawn_namespace = le_trans h.drawn_namespace (o.drawn Namespace);
   rises = h.rises;
   past = le_trans h.past o.clock;
@@ -240,8 +246,6 @@ snapshot_on m n c a d s changes new r o h = record {
     | inr made ↦ absurd (let l1 = made.later in let l2 = within_from r.after r.at j active in let l3 = h.past in omega arith)
   ];
   reached = elim h.reached [ inl l ↦ inl (lt_of_lt_of_le l (floor_rises m (going m n c a d s) r.namespace (record { clock = o.clock; schedules = refl; restorations = refl; clones = refl }))) | inr q ↦ inr q ];
-  of_schedule = h.of_schedule;
-  same_namespace = h.same_namespace;
   scheduled = h.scheduled;
 }
 
@@ -310,7 +314,7 @@ state_on (Snapshotting point own) m n c a d s changes new r o held of h = record
   kept = h.kept;
   id_is = h.id_is;
   at_is = h.at_is;
-  schedule_is = h.schedule_is;
+  namespace_is = h.namespace_is;
   alone = h.alone;
 }
 state_on (Switching point serving) m n c a d s changes new r o held of h = record {
@@ -409,7 +413,6 @@ clone_state_on (CloneSnapshot own) m n c a d s changes new k o held drawn h = re
   kept = h.kept;
   id_is = h.id_is;
   namespace_is = h.namespace_is;
-  of_schedule = h.of_schedule;
   reaches = h.reaches;
 }
 clone_state_on (Copying serving at) m n c a d s changes new k o held drawn h = record {
@@ -495,6 +498,7 @@ operations_sent m n c a d s changes new o kept owners marks of h = record {
   kept = kept;
   apart = h.apart;
   schedules = λ k isin. schedule_on m n c a d s changes new k o (h.schedules k isin);
+  scheduled = λ k isin. scheduled_on m n c a d s changes new k o (h.scheduled k isin);
   snapshots = λ r isin. snapshot_on m n c a d s changes new r o (h.snapshots r isin);
   restorations = λ r isin. restoration_on m n c a d s changes new r o isin (of r isin) (h.restorations r isin);
   clones = λ k isin. clone_on m n c a d s changes new k o isin (h.clones k isin);

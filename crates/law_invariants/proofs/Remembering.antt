@@ -1,16 +1,16 @@
 -- What is remembered of all tablets' activity goes on: floors don't fall, and so no forgotten interval is needed again.
-use Rattle.std.proofs.Common.{ℕ, ◌≡◌, ◌≤◌, ◌<◌, List, Option, Some, None, Bool, true, false, cond, ◌&&◌, inl, inr, refl, sym, ap, subst, ◌∙◌, arith, not, leb, leb-true, ltb-true, le_trans, le_refl}
+use Rattle.std.proofs.Common.{[], ◌∷◌, ℕ, ◌≡◌, ◌≤◌, ◌<◌, List, Option, Some, None, Bool, true, false, cond, ◌&&◌, inl, inr, refl, sym, ap, subst, ◌∙◌, arith, not, leb, leb-true, ltb-true, le_trans, le_refl, ◌∷◌, ◌++◌, filter, ◌⊎◌}
 use Rattle.std.proofs.lemmas.Bool.{cond_both, true≢false}
 use Rattle.std.proofs.lemmas.Bool.Decides.{nat_tests}
 use Rattle.std.specs.Option.{option_map, option_or, option_map_or}
-use Rattle.row_values.specs.Ids.{Id}
+use Rattle.row_values.specs.Ids.{Id, same}
 use Rattle.row_values.specs.Elements.{In}
 use Rattle.row_values.specs.Slots.{has}
 use Rattle.model.specs.Times.{ended_by, before_end}
 use Rattle.model.specs.Catalog.{owner_of}
 use Rattle.model.specs.Activity.{Interval, active_at}
-use Rattle.model.specs.Records.{Schedule, RestorationRecord, CloneRecord, schedule_of}
-use Rattle.model.specs.Schedules.{low, least_with, floor}
+use Rattle.model.specs.Records.{Schedule, RestorationRecord, CloneRecord}
+use Rattle.model.specs.Schedules.{low, least_with, floor, least_low}
 use Rattle.model.specs.Operations.{restoration_of, clone_with}
 use Rattle.model.specs.Cleanup.{floor_of, floor_of_table}
 use Rattle.model.specs.Acts.{Act, Reply}
@@ -18,7 +18,8 @@ use Rattle.model.specs.Tablets.{Told}
 use Rattle.model.specs.Entries.{slots_of}
 use Rattle.model.specs.Parts.{Master, Parts, Ticks}
 use Rattle.law_invariants.specs.Remembered.{activity_after, IsForgotten, Remembered}
-use Rattle.law_invariants.proofs.Finding.{both_pass}
+use Rattle.law_store.proofs.Keys.{either_way}
+use Rattle.law_invariants.proofs.Finding.{both_pass, same_equal, same_self}
 
 -- Floors
 
@@ -29,18 +30,144 @@ least_later : (to : Option ℕ) (a b : ℕ) → a ≤ b → least_with to a ≤ 
 least_later None a b le = le
 least_later (Some to) a b le = omega arith
 
-floor_later : (s : Option Schedule) (to : Option ℕ) (m n : ℕ) → m ≤ n → floor s to m ≤ floor s to n
-floor_later None to m n le = le
-floor_later (Some s) to m n le = least_later to (low s m) (low s n) (low_later s m n le)
+-- the low ends of a namespace's windows: there is none, or the least rises
+abbrev pub LowRises : Option ℕ → Option ℕ → Type 0
+LowRises None None = Unit {0}
+LowRises None (Some b) = ⊥
+LowRises (Some a) None = ⊥
+LowRises (Some a) (Some b) = a ≤ b
+
+pub low_same : (o : Option ℕ) → LowRises o o
+low_same None = tt
+low_same (Some a) = le_refl a
+
+least_both : (x y : Option ℕ) (a b : ℕ) → a ≤ b → LowRises x y → least_with x a ≤ least_with y b
+least_both None None a b le h = le
+least_both None (Some y) a b le h = absurd h
+least_both (Some x) None a b le h = absurd h
+least_both (Some x) (Some y) a b le h = omega arith
+
+lows_later : (ss : List Schedule) (ns : Id) (m n : ℕ) → m ≤ n → LowRises (least_low ss ns m) (least_low ss ns n)
+lows_later [] ns m n le = tt
+lows_later (s ∷ ss) ns m n le = cond_both (same s.namespace ns) _ _ (λ o. LowRises o (cond (same s.namespace ns) (Some (least_with (least_low ss ns n) (low s n))) (least_low ss ns n)))
+    (λ e. subst (λ b. LowRises (Some (least_with (least_low ss ns m) (low s m))) (cond b (Some (least_with (least_low ss ns n) (low s n))) (least_low ss ns n))) (sym e)
+    (least_both (least_low ss ns m) (least_low ss ns n) (low s m) (low s n) (low_later s m n le) (lows_later ss ns m n le)))
+    (λ e. subst (λ b. LowRises (least_low ss ns m) (cond b (Some (least_with (least_low ss ns n) (low s n))) (least_low ss ns n))) (sym e) (lows_later ss ns m n le))
+
+pub floor_up : (a b : Option ℕ) (to : Option ℕ) (m n : ℕ) → m ≤ n → LowRises a b → floor a to m ≤ floor b to n
+floor_up None None to m n le h = le
+floor_up None (Some b) to m n le h = absurd h
+floor_up (Some a) None to m n le h = absurd h
+floor_up (Some a) (Some b) to m n le h = least_later to a b h
+
+-- a namespace without a schedule has no low end
+pub no_lows : (ss : List Schedule) (ns : Id) (n : ℕ) → ((s : Schedule) → In s ss → s.namespace ≡ ns → ⊥) → least_low ss ns n ≡ None
+no_lows [] ns n apart = refl
+no_lows (s ∷ ss) ns n apart = either_way (same s.namespace ns)
+    (λ b. absurd (apart s (inl refl) (same_equal s.namespace ns b)))
+    (λ b. ap (λ q. cond q (Some (least_with (least_low ss ns n) (low s n))) (least_low ss ns n)) b ∙ no_lows ss ns n (λ k isin. apart k (inr isin)))
+
+-- one with a schedule has one at or below that of the schedule
+abbrev pub HasLow : List Schedule → Id → ℕ → ℕ → Type 0
+HasLow ss ns n most = (l : ℕ) × ((least_low ss ns n ≡ Some l) × (l ≤ most))
+
+with_less : (o : Option ℕ) (n l most : ℕ) → o ≡ Some l → l ≤ most → least_with o n ≤ most
+with_less o n l most e le = subst (λ q. least_with q n ≤ most) (sym e) (omega arith)
+
+with_own : (o : Option ℕ) (n : ℕ) → least_with o n ≤ n
+with_own None n = le_refl n
+with_own (Some l) n = omega arith
+
+pub has_low : (ss : List Schedule) (ns : Id) (n : ℕ) (s : Schedule) → In s ss → s.namespace ≡ ns → HasLow ss ns n (low s n)
+has_low [] ns n s isin is = absurd isin
+has_low (t ∷ ss) ns n s isin is = either_way (same t.namespace ns)
+    (λ b. (least_with (least_low ss ns n) (low t n), (ap (λ q. cond q (Some (least_with (least_low ss ns n) (low t n))) (least_low ss ns n)) b, elim isin [
+      | inl e ↦ subst (λ k. least_with (least_low ss ns n) (low t n) ≤ low k n) e (with_own (least_low ss ns n) (low t n))
+      | inr rest ↦ (let h = has_low ss ns n s rest is in with_less (least_low ss ns n) (low t n) h.0 (low s n) h.1.0 h.1.1)
+    ])))
+    (λ b. elim isin [
+      | inl e ↦ absurd (true≢false (sym (ap (λ k. same k.namespace ns) e ∙ ap (λ i. same i ns) is ∙ same_self ns) ∙ b))
+      | inr rest ↦ (let h = has_low ss ns n s rest is in (h.0, (ap (λ q. cond q (Some (least_with (least_low ss ns n) (low t n))) (least_low ss ns n)) b ∙ h.1.0, h.1.1)))
+    ])
+
+-- where a namespace has a least low end, it has a schedule
+pub low_found : (ss : List Schedule) (ns : Id) (n l : ℕ) → least_low ss ns n ≡ Some l → (s : Schedule) × (In s ss × (s.namespace ≡ ns))
+low_found [] ns n l e = absurd (let q = e in grind arith)
+low_found (t ∷ ss) ns n l e = either_way (same t.namespace ns)
+    (λ b. (t, (inl refl, same_equal t.namespace ns b)))
+    (λ b. let rest : least_low ss ns n ≡ Some l = sym (ap (λ c. cond c (Some (least_with (least_low ss ns n) (low t n))) (least_low ss ns n)) b) ∙ e in
+    let h = low_found ss ns n l rest in (h.0, (inr h.1.0, h.1.1)))
+
+-- what a namespace's least low end becomes by a stamp where schedules come and go
+abbrev pub LowTurns : ℕ → Option ℕ → Option ℕ → Type 0
+LowTurns n None None = Unit {0}
+LowTurns n None (Some b) = n ≤ b
+LowTurns n (Some a) None = a ≤ n
+LowTurns n (Some a) (Some b) = a ≤ b
+
+with_turned : (n a : ℕ) (x y : Option ℕ) → a ≤ n → LowTurns n x y → least_with x a ≤ least_with y a
+with_turned n a None None le h = le_refl a
+with_turned n a None (Some b) le h = omega (arith, le, h)
+with_turned n a (Some x) None le h = omega (arith, le, h)
+with_turned n a (Some x) (Some y) le h = omega (arith, le, h)
+
+-- where one is added whose window begins at the stamp
+pub lows_added : (ss : List Schedule) (s : Schedule) (ns : Id) (n : ℕ) → n ≤ low s n → ((t : Schedule) → In t ss → low t n ≤ n) → LowTurns n (least_low ss ns n) (least_low (ss ++ s ∷ []) ns n)
+lows_added [] s ns n new old = cond_both (same s.namespace ns) (Some (low s n)) None (LowTurns n None) (λ e. new) (λ e. tt)
+lows_added (t ∷ ss) s ns n new old = let rest = lows_added ss s ns n new (λ k isin. old k (inr isin)) in either_way (same t.namespace ns)
+    (λ b. subst (λ c. LowTurns n (cond c (Some (least_with (least_low ss ns n) (low t n))) (least_low ss ns n)) (cond c (Some (least_with (least_low (ss ++ s ∷ []) ns n) (low t n))) (least_low (ss ++ s ∷ []) ns n))) (sym b)
+    (with_turned n (low t n) (least_low ss ns n) (least_low (ss ++ s ∷ []) ns n) (old t (inl refl)) rest))
+    (λ b. subst (λ c. LowTurns n (cond c (Some (least_with (least_low ss ns n) (low t n))) (least_low ss ns n)) (cond c (Some (least_with (least_low (ss ++ s ∷ []) ns n) (low t n))) (least_low (ss ++ s ∷ []) ns n))) (sym b) rest)
+
+turned_less : (n a : ℕ) (x y : Option ℕ) → a ≤ n → LowTurns n x y → LowTurns n (Some (least_with x a)) y
+turned_less n a None None le h = le
+turned_less n a None (Some b) le h = omega (arith, le, h)
+turned_less n a (Some x) None le h = omega (arith, le, h)
+turned_less n a (Some x) (Some y) le h = omega (arith, le, h)
+
+-- where some are taken away
+pub lows_left : (test : Schedule → Bool) (ss : List Schedule) (ns : Id) (n : ℕ) → ((t : Schedule) → In t ss → low t n ≤ n) → LowTurns n (least_low ss ns n) (least_low (filter test ss) ns n)
+lows_left test [] ns n old = tt
+lows_left test (t ∷ ss) ns n old =
+    let rest = lows_left test ss ns n (λ k isin. old k (inr isin)) in
+    let P : Bool → Bool → Type 0 = λ c k. LowTurns n (cond c (Some (least_with (least_low ss ns n) (low t n))) (least_low ss ns n)) (least_low (cond k (t ∷ filter test ss) (filter test ss)) ns n) in
+    let whole : (c : Bool) → same t.namespace ns ≡ c → P c (test t) = λ c e. either_way (test t)
+    (λ kept. subst (P c) (sym kept) (subst (λ d. LowTurns n (cond c (Some (least_with (least_low ss ns n) (low t n))) (least_low ss ns n)) (cond d (Some (least_with (least_low (filter test ss) ns n) (low t n))) (least_low (filter test ss) ns n))) (sym e)
+    (both_kept c rest)))
+    (λ gone. subst (P c) (sym gone) (less c rest)) in
+    whole (same t.namespace ns) refl
+  where
+    both_kept : (c : Bool) → LowTurns n (least_low ss ns n) (least_low (filter test ss) ns n)
+        → LowTurns n (cond c (Some (least_with (least_low ss ns n) (low t n))) (least_low ss ns n)) (cond c (Some (least_with (least_low (filter test ss) ns n) (low t n))) (least_low (filter test ss) ns n))
+    both_kept true h = with_turned n (low t n) (least_low ss ns n) (least_low (filter test ss) ns n) (old t (inl refl)) h
+    both_kept false h = h
+
+    less : (c : Bool) → LowTurns n (least_low ss ns n) (least_low (filter test ss) ns n) → LowTurns n (cond c (Some (least_with (least_low ss ns n) (low t n))) (least_low ss ns n)) (least_low (filter test ss) ns n)
+    less true h = turned_less n (low t n) (least_low ss ns n) (least_low (filter test ss) ns n) (old t (inl refl)) h
+    less false h = h
+
+least_most : (to : Option ℕ) (a : ℕ) → least_with to a ≤ a
+least_most None a = le_refl a
+least_most (Some t) a = omega arith
+
+-- the floor doesn't fall, unless an operation goes to a time of a namespace that had no schedule
+pub floor_turns : (n : ℕ) (a b : Option ℕ) (to : Option ℕ) → LowTurns n a b → (a ≡ None → (b ≡ None) ⊎ (to ≡ None)) → floor a to n ≤ floor b to n
+floor_turns n None None to h free = le_refl n
+floor_turns n None (Some b) to h free = elim (free refl) [ inl none ↦ absurd (let q = none in grind arith) | inr e ↦ subst (λ t. n ≤ least_with t b) (sym e) h ]
+floor_turns n (Some a) None to h free = le_trans (least_most to a) h
+floor_turns n (Some a) (Some b) to h free = least_later to a b h
+
+floor_later : (ss : List Schedule) (ns : Id) (to : Option ℕ) (m n : ℕ) → m ≤ n → floor (least_low ss ns m) to m ≤ floor (least_low ss ns n) to n
+floor_later ss ns to m n le = floor_up (least_low ss ns m) (least_low ss ns n) to m n le (lows_later ss ns m n le)
 
 -- the floor of a table by the namespace in which it was made, and by what the master keeps of operations
 abbrev floor_by : Option Id → List Schedule → List RestorationRecord → List CloneRecord → ℕ → ℕ
-floor_by owner schedules restorations clones n = option_map_or (λ ns. floor (schedule_of schedules ns) (option_or (option_map (λ r. r.to) (restoration_of restorations ns)) (option_map (λ r. r.to) (clone_with clones ns))) n) owner n
+floor_by owner schedules restorations clones n = option_map_or (λ ns. floor (least_low schedules ns n) (option_or (option_map (λ r. r.to) (restoration_of restorations ns)) (option_map (λ r. r.to) (clone_with clones ns))) n) owner n
 
 by_later : (owner : Option Id) (schedules : List Schedule) (restorations : List RestorationRecord) (clones : List CloneRecord) (m n : ℕ) → m ≤ n → floor_by owner schedules restorations clones m ≤ floor_by owner schedules restorations clones n
 by_later None schedules restorations clones m n le = le
 by_later (Some ns) schedules restorations clones m n le =
-    floor_later (schedule_of schedules ns) (option_or (option_map (λ r. r.to) (restoration_of restorations ns)) (option_map (λ r. r.to) (clone_with clones ns))) m n le
+    floor_later schedules ns (option_or (option_map (λ r. r.to) (restoration_of restorations ns)) (option_map (λ r. r.to) (clone_with clones ns))) m n le
 
 -- the floor of a table doesn't fall from one master to the next
 pub record FloorsHold (m k : Master) : Type 0 where

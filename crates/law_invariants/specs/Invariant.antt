@@ -17,7 +17,7 @@ use Rattle.model.specs.Restored.{record_at}
 use Rattle.model.specs.Journal.{Change, TableView, namespace_at, table_at, row_at}
 use Rattle.model.specs.Tablets.{Tablet, HiddenPart, FrozenSet, is_empty, is_serving}
 use Rattle.model.specs.Stands.{awaited_in, awaited_of, holders, before_restore}
-use Rattle.model.specs.Records.{Schedule, Listed, RestorationRecord}
+use Rattle.model.specs.Records.{Listed, RestorationRecord, ScheduledNamespace}
 use Rattle.model.specs.Schedules.{complete_to}
 use Rattle.model.specs.Entries.{clock_at}
 use Rattle.model.specs.Acts.{Act}
@@ -202,8 +202,8 @@ pub record MasterGood (m : Master) (changes : List Change) : Type 0 where
   pub marks : MarksStand m.catalog
   -- a time to which a namespace was taken back, or cloned, is over for the master
   pub past : (ns : Id) (to : ℕ) → is_fixed changes ns to ≡ true → to ≤ m.clock
-  -- the last complete snapshot of a schedule is over
-  pub complete : (s : Schedule) → In s m.schedules → complete_to s.complete s + 1 ≤ m.clock
+  -- the last complete snapshot of a namespace is over
+  pub complete : (k : ScheduledNamespace) → In k m.scheduled → complete_to k + 1 ≤ m.clock
   -- a restoration lists no tablet that is yet to be made
   pub listed : (r : RestorationRecord) (l : Listed) → In r m.restorations → In l r.listed → l.tablet.number ≤ m.drawn.tablets
   -- and tablets of its namespace alone

@@ -10,7 +10,7 @@ use Rattle.model.specs.Catalog.{NamespaceRecord, TableRecord, Owner, owner_of, o
 use Rattle.model.specs.Activity.{Interval, active_at, active_within}
 use Rattle.model.specs.Journal.{Change, RowChanged}
 use Rattle.model.specs.Tablets.{Body, Fence, Freeze, RestoreFrom, Hide, Copy, Release}
-use Rattle.model.specs.Records.{Listed, Sent, Schedule, SnapshotRecord, RestorationRecord, RestorationState, Fencing, Snapshotting, Switching, Restoring, Releasing, Restored, TabletPair, IdPair, CloneRecord, CloneState, Accepted, CloneSnapshot, Copying, CloneReleasing, CloneComplete, is_restored, is_cloned, is_visible, point_of}
+use Rattle.model.specs.Records.{Listed, Sent, Schedule, SnapshotRecord, RestorationRecord, RestorationState, Fencing, Snapshotting, Switching, Restoring, Releasing, Restored, TabletPair, IdPair, CloneRecord, CloneState, Accepted, CloneSnapshot, Copying, CloneReleasing, CloneComplete, is_restored, is_cloned, is_visible, point_of, ScheduledNamespace}
 use Rattle.model.specs.Schedules.{after_of, complete_to}
 use Rattle.model.specs.Stands.{is_restore, is_restore_of, before_restore}
 use Rattle.model.specs.Cleanup.{floor_of}
@@ -32,12 +32,12 @@ abbrev pub SnapshotsRise : List SnapshotRecord → Type 0
 SnapshotsRise [] = Unit {0}
 SnapshotsRise (r ∷ rs) = ((q : SnapshotRecord) → In q rs → (r.id.number < q.id.number) × (r.at < q.at)) × SnapshotsRise rs
 
--- a namespace has one schedule, and one unfinished operation that uses it; a schedule has one unfinished snapshot
-pub record OperationsApart (schedules : List Schedule) (snapshots : List SnapshotRecord) (restorations : List RestorationRecord) (clones : List CloneRecord) : Type 0 where
+-- a namespace is scheduled once, and has one unfinished operation that uses it, and one unfinished snapshot
+pub record OperationsApart (schedules : List Schedule) (scheduled : List ScheduledNamespace) (snapshots : List SnapshotRecord) (restorations : List RestorationRecord) (clones : List CloneRecord) : Type 0 where
   pub schedule_ids : Alone (λ s. s.id) schedules
-  pub one_schedule : Alone (λ s. s.namespace) schedules
+  pub one_scheduled : Alone (λ k. k.namespace) scheduled
   pub snapshots_rise : SnapshotsRise snapshots
-  pub one_snapshot : (q r : SnapshotRecord) → In q snapshots → In r snapshots → q.complete ≡ false → r.complete ≡ false → q.schedule ≡ r.schedule → q ≡ r
+  pub one_snapshot : (q r : SnapshotRecord) → In q snapshots → In r snapshots → q.complete ≡ false → r.complete ≡ false → q.namespace ≡ r.namespace → q ≡ r
   pub restoration_ids : Alone (λ r. r.id) restorations
   pub one_restoration : (q r : RestorationRecord) → In q restorations → In r restorations → is_restored q.state ≡ false → is_restored r.state ≡ false
       → q.namespace ≡ r.namespace → q ≡ r
@@ -79,23 +79,29 @@ pub record IsOpenOf (m : Master) (ns : Id) (i : Interval) : Type 0 where
 -- Schedules and snapshots
 
 -- the time of the snapshot before the next one is below what retention needs, or that snapshot is kept
-abbrev pub IsReached : Master → Id → Id → ℕ → Type 0
-IsReached m schedule ns after =
-    (after < floor_of m ns m.clock) ⊎ ((q : SnapshotRecord) × (In q m.snapshots × ((q.schedule ≡ schedule) × (q.at ≡ after))))
+abbrev pub IsReached : Master → Id → ℕ → Type 0
+IsReached m ns after =
+    (after < floor_of m ns m.clock) ⊎ ((q : SnapshotRecord) × (In q m.snapshots × ((q.namespace ≡ ns) × (q.at ≡ after))))
 
 pub record ScheduleGood (m : Master) (s : Schedule) : Type 0 where
   pub drawn : s.id.number ≤ m.drawn.schedules
   pub drawn_namespace : s.namespace.number ≤ m.drawn.namespaces
-  pub from_one : 1 ≤ s.kept_low
   pub begun : s.kept_low ≤ m.clock
-  pub last : after_of s.last s ≤ m.clock
-  pub reached : IsReached m s.id s.namespace (after_of s.last s)
+  -- its namespace is scheduled, since before its window begins
+  pub scheduled : (k : ScheduledNamespace) × (In k m.scheduled × ((k.namespace ≡ s.namespace) × (k.since ≤ s.kept_low)))
+
+pub record ScheduledGood (m : Master) (k : ScheduledNamespace) : Type 0 where
+  pub drawn_namespace : k.namespace.number ≤ m.drawn.namespaces
+  pub from_one : 1 ≤ k.since
+  pub last : after_of k ≤ m.clock
+  pub reached : IsReached m k.namespace (after_of k)
+  -- it has a schedule
+  pub has : (s : Schedule) × (In s m.schedules × (s.namespace ≡ k.namespace))
 
 -- a snapshot lists the tablets of its namespace that were active since the snapshot before it, of which no time is needed that it lacks
 pub record SnapshotGood (m : Master) (r : SnapshotRecord) : Type 0 where
   pub kind_is : r.id.kind ≡ SnapshotKind
   pub drawn : r.id.number ≤ m.drawn.snapshots
-  pub drawn_schedule : r.schedule.number ≤ m.drawn.schedules
   pub drawn_namespace : r.namespace.number ≤ m.drawn.namespaces
   pub rises : r.after < r.at
   pub past : r.at ≤ m.clock
@@ -105,11 +111,9 @@ pub record SnapshotGood (m : Master) (r : SnapshotRecord) : Type 0 where
       → (owner_of m.catalog.owners i.table ≡ Some r.namespace) × (i.slot ≡ l.slot)
   pub known : r.complete ≡ false → (l : Listed) → In l r.listed → IsKnown m l
   pub lists : (i : Interval) → In i m.activity → owner_of m.catalog.owners i.table ≡ Some r.namespace → active_within r.after r.at i ≡ true → IsListed r.listed i
-  pub reached : (r.after < floor_of m r.namespace m.clock) ⊎ ((q : SnapshotRecord) × (In q m.snapshots × ((q.schedule ≡ r.schedule) × ((q.at ≡ r.after) × (q.complete ≡ true)))))
-  pub of_schedule : (s : Schedule) → In s m.schedules → s.id ≡ r.schedule → s.namespace ≡ r.namespace
-  pub same_namespace : (q : SnapshotRecord) → In q m.snapshots → q.schedule ≡ r.schedule → q.namespace ≡ r.namespace
-  -- the schedule of an unfinished one is kept, and it is its last
-  pub scheduled : r.complete ≡ false → (s : Schedule) × (In s m.schedules × ((s.id ≡ r.schedule) × (s.last ≡ Some r.at)))
+  pub reached : (r.after < floor_of m r.namespace m.clock) ⊎ ((q : SnapshotRecord) × (In q m.snapshots × ((q.namespace ≡ r.namespace) × ((q.at ≡ r.after) × (q.complete ≡ true)))))
+  -- the namespace of an unfinished one is scheduled, and it is its last
+  pub scheduled : r.complete ≡ false → (k : ScheduledNamespace) × (In k m.scheduled × ((k.namespace ≡ r.namespace) × (k.last ≡ Some r.at)))
 
 -- Restorations
 
@@ -141,11 +145,11 @@ pub record IsPoint (m : Master) (changes : List Change) (r : RestorationRecord) 
   pub later : r.to < point
   pub fixed : (to : ℕ) → is_fixed changes r.namespace to ≡ true → to < point
   pub snapshots : (q : SnapshotRecord) → In q m.snapshots → q.namespace ≡ r.namespace → q.at < point
-  pub complete : (s : Schedule) → In s m.schedules → s.id ≡ r.schedule → complete_to s.complete s + 1 ≤ point
+  pub complete : (k : ScheduledNamespace) → In k m.scheduled → k.namespace ≡ r.namespace → complete_to k + 1 ≤ point
 
--- no snapshot of the restoration's schedule is unfinished
+-- no snapshot of the restoration's namespace is unfinished
 abbrev pub IsCalm : Master → RestorationRecord → Type 0
-IsCalm m r = (q : SnapshotRecord) → In q m.snapshots → q.complete ≡ false → q.schedule ≡ r.schedule → ⊥
+IsCalm m r = (q : SnapshotRecord) → In q m.snapshots → q.complete ≡ false → q.namespace ≡ r.namespace → ⊥
 
 -- it fences the active tablets of its namespace, of which none comes or goes
 pub record FencingGood (m : Master) (r : RestorationRecord) : Type 0 where
@@ -170,8 +174,8 @@ pub record SnapshottingGood (m : Master) (changes : List Change) (r : Restoratio
   pub kept : In snapshot m.snapshots
   pub id_is : snapshot.id ≡ own
   pub at_is : snapshot.at + 1 ≡ point
-  pub schedule_is : snapshot.schedule ≡ r.schedule
-  pub alone : (q : SnapshotRecord) → In q m.snapshots → q.complete ≡ false → q.schedule ≡ r.schedule → q.id ≡ own
+  pub namespace_is : snapshot.namespace ≡ r.namespace
+  pub alone : (q : SnapshotRecord) → In q m.snapshots → q.complete ≡ false → q.namespace ≡ r.namespace → q.id ≡ own
 
 pub record SwitchingGood (m : Master) (changes : List Change) (r : RestorationRecord) (point : ℕ) (serving : Id) : Type 0 where
   pub is_point : IsPoint m changes r point
@@ -320,7 +324,6 @@ pub record CloningGood (m : Master) (c : CloneRecord) (own : Id) : Type 0 where
   pub kept : In snapshot m.snapshots
   pub id_is : snapshot.id ≡ own
   pub namespace_is : snapshot.namespace ≡ c.source
-  pub of_schedule : (s : Schedule) → In s m.schedules → s.namespace ≡ c.source → s.id ≡ snapshot.schedule
   pub reaches : c.to ≤ snapshot.at
 
 abbrev pub CloneStateGood : CloneState → Master → CloneRecord → Type 0
@@ -387,8 +390,9 @@ IsSent snapshots restorations clones mark =
 pub record OperationsGood (m : Master) (changes : List Change) : Type 0 where
   pub kept : (ns : Id) → kept_from m.catalog.kept_from ns ≤ floor_of m ns m.clock
   pub owners : (table ns : Id) → owner_of m.catalog.owners table ≡ Some ns → ns.number ≤ m.drawn.namespaces
-  pub apart : OperationsApart m.schedules m.snapshots m.restorations m.clones
+  pub apart : OperationsApart m.schedules m.scheduled m.snapshots m.restorations m.clones
   pub schedules : (s : Schedule) → In s m.schedules → ScheduleGood m s
+  pub scheduled : (k : ScheduledNamespace) → In k m.scheduled → ScheduledGood m k
   pub snapshots : (r : SnapshotRecord) → In r m.snapshots → SnapshotGood m r
   pub restorations : (r : RestorationRecord) → In r m.restorations → RestorationGood m changes r
   pub clones : (c : CloneRecord) → In c m.clones → CloneGood m changes c

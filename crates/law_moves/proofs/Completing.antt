@@ -1,33 +1,32 @@
 -- A snapshot becomes complete.
-use Rattle.std.proofs.Common.{ℕ, ◌≡◌, ◌≤◌, ◌<◌, ◌+◌, ◌-◌, List, [], ◌∷◌, map, Option, Some, None, Bool, true, false, cond, ◌&&◌, ◌⊎◌, inl, inr, refl, sym, ap, subst, ◌∙◌, arith, not, le_trans, le_refl, le_of_lt, lt_of_lt_of_le}
+use Rattle.std.proofs.Common.{ℕ, ◌≡◌, ◌≤◌, ◌<◌, ◌+◌, List, [], ◌∷◌, map, Some, None, Bool, true, false, cond, ◌&&◌, inl, inr, refl, sym, ap, subst, ◌∙◌, arith, not, le_trans, le_refl, le_of_lt, lt_of_lt_of_le}
 use Rattle.std.specs.Option.{option_map_or}
 use Rattle.std.proofs.lemmas.Bool.{true≢false}
 use Rattle.row_values.specs.Ids.{Snapshot, Restoration, Clone, Id, same}
 use Rattle.row_values.specs.Elements.{In}
 use Rattle.model.specs.Activity.{Interval}
 use Rattle.model.specs.Journal.{Change as Made}
-use Rattle.model.specs.Records.{Listed, Schedule, SnapshotRecord, schedule_of, unsent}
-use Rattle.model.specs.Schedules.{floor, complete_to, after_of}
+use Rattle.model.specs.Records.{Listed, SnapshotRecord, unsent, ScheduledNamespace}
+use Rattle.model.specs.Schedules.{complete_to, or_before}
 use Rattle.model.specs.Coordination.{unfinished_snapshot, unfinished_restoration, unfinished_clone}
 use Rattle.model.specs.Acts.{Advance}
-use Rattle.model.specs.Operations.{time_of_user}
 use Rattle.model.specs.Cleanup.{floor_of}
 use Rattle.model.specs.Parts.{Master, Parts}
 use Rattle.model.specs.Moves.{progress_of, snapshot_progress, anew, completed, moved_of, advance, snapshot_advanced}
 use Rattle.model.specs.History.{with_either}
 use Rattle.law_store.proofs.Keys.{either_way}
-use Rattle.law_invariants.specs.Operations.{IsReached, SnapshotsRise, ScheduleGood}
+use Rattle.law_invariants.specs.Operations.{SnapshotsRise, ScheduledGood}
 use Rattle.law_invariants.specs.Invariant.{Inv, Later}
 use Rattle.law_invariants.proofs.Finding.{same_equal, same_self, filter_in, in_mapped, map_in}
 use Rattle.law_invariants.proofs.Remembering.{floor_rises}
 use Rattle.law_invariants.proofs.Ticking.{KeepsAll, not_true}
-use Rattle.law_moves.proofs.Recording.{Records, recorded, WasSchedule, NewSchedule, SnapshotOn, SnapshotCame, Onto}
-use Rattle.law_moves.proofs.Staying.{schedule_on}
+use Rattle.law_moves.proofs.Recording.{Records, recorded, SnapshotOn, SnapshotCame, Onto}
+use Rattle.law_moves.proofs.Staying.{schedule_on, scheduled_on}
 use Rattle.law_moves.proofs.Slots.{records_keep}
 use Rattle.law_moves.proofs.Acting.{alone_keeps}
 use Rattle.law_moves.proofs.Advancing.{moves, advance_by, mapped_some, no_restoration, no_clone}
 use Rattle.law_moves.proofs.Pending.{point_is, pending_drawn, pending_unmoved, pending_stays, fence_stays, unfinished_snapshot_is, unacked_is}
-use Rattle.law_moves.proofs.Using.{mapped_is, alone_mapped, mapped_floor}
+use Rattle.law_moves.proofs.Using.{mapped_is, alone_mapped}
 
 stays_complete : (b complete : Bool) → complete ≡ true → cond b true complete ≡ true
 stays_complete true complete e = refl
@@ -55,13 +54,14 @@ one_snapshot (s ∷ rs) q r h (inr a) (inr b) e = one_snapshot rs q r h.1 a b e
 abbrev marked : SnapshotRecord → SnapshotRecord → SnapshotRecord
 marked r x = record x { complete = cond (same x.id r.id) true x.complete; listed = cond (same x.id r.id) (anew x.listed) x.listed }
 
-abbrev timed : SnapshotRecord → Schedule → Schedule
-timed r s = record s { complete = cond (same s.id r.schedule) (Some r.at) s.complete }
+abbrev timed : SnapshotRecord → ScheduledNamespace → ScheduledNamespace
+timed r k = record k { complete = cond (same k.namespace r.namespace) (Some r.at) k.complete }
 
 abbrev finished : SnapshotRecord → ℕ → Master → Records
 finished r n m = record {
   clock = n;
-  schedules = map (timed r) m.schedules;
+  schedules = m.schedules;
+  scheduled = map (timed r) m.scheduled;
   snapshots = map (marked r) m.snapshots;
   restorations = m.restorations;
   sent = unsent r.id m.sent;
@@ -78,37 +78,17 @@ marked_same r x other =
     let with_it : Bool → List Listed → SnapshotRecord = λ b ls. record x { complete = b; listed = ls } in
     ap (λ b. with_it (cond b true x.complete) (cond b (anew x.listed) x.listed)) other
 
-complete_same : (at : Option ℕ) (s t : Schedule) → s.kept_low ≡ t.kept_low → complete_to at s ≡ complete_to at t
-complete_same None s t e = ap (λ x. x - 1) e
-complete_same (Some at) s t e = refl
+-- what holds of the time of the last complete snapshot, and of the new one, holds of what a namespace has after the move
+timed_by : (P : ℕ → Type 0) (r : SnapshotRecord) (k : ScheduledNamespace) → (k.namespace ≡ r.namespace → P r.at) → P (complete_to k) → P (complete_to (timed r k))
+timed_by P r k new old = either_way (same k.namespace r.namespace)
+    (λ b. subst (λ c. P (or_before (cond c (Some r.at) k.complete) k.since)) (sym b) (new (same_equal k.namespace r.namespace b)))
+    (λ b. subst (λ c. P (or_before (cond c (Some r.at) k.complete) k.since)) (sym b) old)
 
-after_same : (last : Option ℕ) (s t : Schedule) → s.kept_low ≡ t.kept_low → after_of last s ≡ after_of last t
-after_same None s t e = ap (λ x. x - 1) e
-after_same (Some at) s t e = refl
-
--- what holds of the time of the last complete snapshot, and of the new one, holds of what a schedule has after the move
-timed_by : (P : ℕ → Type 0) (r : SnapshotRecord) (s : Schedule) → (s.id ≡ r.schedule → P r.at) → P (complete_to s.complete s) → P (complete_to (timed r s).complete (timed r s))
-timed_by P r s new old = either_way (same s.id r.schedule)
-    (λ b. subst (λ c. P (complete_to (cond c (Some r.at) s.complete) (timed r s))) (sym b) (new (same_equal s.id r.schedule b)))
-    (λ b. subst (λ c. P (complete_to (cond c (Some r.at) s.complete) (timed r s))) (sym b) (subst P (complete_same s.complete s (timed r s) refl) old))
-
-timed_good : (m : Master) (r : SnapshotRecord) (s : Schedule) → ScheduleGood m s → ScheduleGood m (timed r s)
-timed_good m r s h = record {
-  drawn = h.drawn;
-  drawn_namespace = h.drawn_namespace;
-  from_one = h.from_one;
-  begun = h.begun;
-  last = subst (λ x. x ≤ m.clock) (after_same s.last s (timed r s) refl) h.last;
-  reached = subst (λ x. IsReached m s.id s.namespace x) (after_same s.last s (timed r s) refl) h.reached;
-}
+timed_good : (m : Master) (r : SnapshotRecord) (k : ScheduledNamespace) → ScheduledGood m k → ScheduledGood m (timed r k)
+timed_good m r k h = record { drawn_namespace = h.drawn_namespace; from_one = h.from_one; last = h.last; reached = h.reached; has = h.has }
 
 finished_floors : (m : Master) (n : ℕ) (r : SnapshotRecord) (ns : Id) → m.clock ≤ n → floor_of m ns m.clock ≤ floor_of (recorded m (finished r n m)) ns n
-finished_floors m n r ns le =
-    let up : floor_of m ns m.clock ≤ floor (schedule_of m.schedules ns) (time_of_user m ns) n =
-    floor_rises m (record m { clock = n }) ns (record { clock = le; schedules = refl; restorations = refl; clones = refl }) in
-    let is : floor_of (recorded m (finished r n m)) ns n ≡ floor (schedule_of m.schedules ns) (time_of_user m ns) n =
-    mapped_floor m.schedules (timed r) ns (time_of_user m ns) n (λ t. refl) (λ t. refl) in
-    subst (λ y. floor_of m ns m.clock ≤ y) (sym is) up
+finished_floors m n r ns le = floor_rises m (recorded m (finished r n m)) ns (record { clock = le; schedules = refl; restorations = refl; clones = refl })
 
 rise_marked : (rs : List SnapshotRecord) (r : SnapshotRecord) → SnapshotsRise rs → SnapshotsRise (map (marked r) rs)
 rise_marked [] r h = tt
@@ -129,7 +109,6 @@ lines_marked false ls l isin = (l, (isin, refl))
 marked_on : (r x : SnapshotRecord) → SnapshotOn x (marked r x)
 marked_on r x = record {
   id_is = refl;
-  schedule_is = refl;
   namespace_is = refl;
   after_is = refl;
   at_is = refl;
@@ -140,7 +119,6 @@ marked_on r x = record {
 done_on : (r : SnapshotRecord) → SnapshotOn r (snapshot_advanced r)
 done_on r = record {
   id_is = refl;
-  schedule_is = refl;
   namespace_is = refl;
   after_is = refl;
   at_is = refl;
@@ -187,7 +165,6 @@ finished_came ps activity changes n r before there acked inv =
       good = record {
         kind_is = h.kind_is;
         drawn = h.drawn;
-        drawn_schedule = h.drawn_schedule;
         drawn_namespace = h.drawn_namespace;
         rises = h.rises;
         past = le_trans h.past (le_of_lt before);
@@ -201,8 +178,6 @@ finished_came ps activity changes n r before there acked inv =
           | inl l ↦ inl (lt_of_lt_of_le l (finished_floors m n r r.namespace (le_of_lt before)))
           | inr q ↦ inr (marked r q.0, (map_in {A = SnapshotRecord} {B = SnapshotRecord} (marked r) m.snapshots q.0 q.1.0, (q.1.1.0, (q.1.1.1.0, stays_complete (same q.0.id r.id) q.0.complete q.1.1.1.1))))
         ];
-        of_schedule = in_mapped {A = Schedule} {B = Schedule} (timed r) (λ s. s.id ≡ r.schedule → s.namespace ≡ r.namespace) m.schedules (λ s isin is. h.of_schedule s isin is);
-        same_namespace = in_mapped {A = SnapshotRecord} {B = SnapshotRecord} (marked r) (λ q. q.schedule ≡ r.schedule → q.namespace ≡ r.namespace) m.snapshots (λ q isin is. h.same_namespace q isin is);
         scheduled = λ unfinished. absurd (true≢false unfinished);
       };
     }
@@ -222,15 +197,15 @@ finished_onto ps activity changes n r before there acked inv =
       drawn = λ kind. le_refl _;
       floors = floors;
       apart = record {
-        schedule_ids = alone_mapped {A = Schedule} (λ t. t.id) (timed r) m.schedules (λ t. refl) a.schedule_ids;
-        one_schedule = alone_mapped {A = Schedule} (λ t. t.namespace) (timed r) m.schedules (λ t. refl) a.one_schedule;
+        schedule_ids = a.schedule_ids;
+        one_scheduled = alone_mapped {A = ScheduledNamespace} (λ k. k.namespace) (timed r) m.scheduled (λ k. refl) a.one_scheduled;
         snapshots_rise = rise_marked m.snapshots r a.snapshots_rise;
         one_snapshot = λ q s in_q in_s open_q open_s e. (
             let x = mapped_is {A = SnapshotRecord} (marked r) m.snapshots q in_q in
             let y = mapped_is {A = SnapshotRecord} (marked r) m.snapshots s in_s in
             let one = a.one_snapshot x.0 y.0 x.1.0 y.1.0
             (was_incomplete (same x.0.id r.id) x.0.complete (ap (λ k. k.complete) x.1.1 ∙ open_q)) (was_incomplete (same y.0.id r.id) y.0.complete (ap (λ k. k.complete) y.1.1 ∙ open_s))
-            (ap (λ k. k.schedule) x.1.1 ∙ e ∙ sym (ap (λ k. k.schedule) y.1.1)) in
+            (ap (λ k. k.namespace) x.1.1 ∙ e ∙ sym (ap (λ k. k.namespace) y.1.1)) in
             sym x.1.1 ∙ ap (marked r) one ∙ y.1.1);
         restoration_ids = a.restoration_ids;
         one_restoration = a.one_restoration;
@@ -241,23 +216,23 @@ finished_onto ps activity changes n r before there acked inv =
         one_made = a.one_made;
         one_name = a.one_name;
       };
-      complete = in_mapped {A = Schedule} {B = Schedule} (timed r) (λ t. complete_to t.complete t + 1 ≤ n) m.schedules
-          (λ t isin. timed_by (λ x. x + 1 ≤ n) r t (λ is. let l = h.past in omega arith) (le_trans (inv.master.complete t isin) (le_of_lt before)));
-      schedule = in_mapped {A = Schedule} {B = Schedule} (timed r) (ScheduleGood (recorded m w)) m.schedules
-          (λ t isin. timed_good (recorded m w) r t (schedule_on m w t (le_of_lt before) (λ kind. le_refl _) (floors t.namespace) kept (ops.schedules t isin)));
-      schedule_came = in_mapped {A = Schedule} {B = Schedule} (timed r) (λ t. WasSchedule m t ⊎ NewSchedule m t) m.schedules (λ t isin. inl (record { was = t; kept = isin; id_is = refl; namespace_is = refl }));
-      schedule_kept = λ t isin. inl (timed r t, (map_in {A = Schedule} {B = Schedule} (timed r) m.schedules t isin, (refl, refl)));
+      complete = in_mapped {A = ScheduledNamespace} {B = ScheduledNamespace} (timed r) (λ k. complete_to k + 1 ≤ n) m.scheduled
+          (λ k isin. timed_by (λ x. x + 1 ≤ n) r k (λ is. let l = h.past in omega arith) (le_trans (inv.master.complete k isin) (le_of_lt before)));
+      schedule = λ t isin. schedule_on m w t (le_of_lt before) (λ kind. le_refl _)
+          (λ k there is. (timed r k, (map_in {A = ScheduledNamespace} {B = ScheduledNamespace} (timed r) m.scheduled k there, (refl, refl)))) (ops.schedules t isin);
+      scheduled = in_mapped {A = ScheduledNamespace} {B = ScheduledNamespace} (timed r) (ScheduledGood (recorded m w)) m.scheduled
+          (λ k isin. let g = ops.scheduled k isin in timed_good (recorded m w) r k (scheduled_on m w k (le_of_lt before) (λ kind. le_refl _) (floors k.namespace) kept g.has g));
+      schedule_came = λ t isin. inl (record { was = t; kept = isin; namespace_is = refl });
+      schedule_kept = λ t isin. inl (t, (isin, (refl, refl)));
       points = λ k point t in_k unfinished at isin is. (
-          let p = mapped_is {A = Schedule} (timed r) m.schedules t isin in
-          let named = ap (λ q. q.id) p.1.1 ∙ is in
+          let p = mapped_is {A = ScheduledNamespace} (timed r) m.scheduled t isin in
+          let named = ap (λ q. q.namespace) p.1.1 ∙ is in
           let g = point_is k.state m changes k point at unfinished (ops.restorations k in_k).in_state in
-          subst (λ q. complete_to q.complete q + 1 ≤ point) p.1.1
+          subst (λ q. complete_to q + 1 ≤ point) p.1.1
           (timed_by (λ x. x + 1 ≤ point) r p.0
-          (λ of. (
-          let s = (ops.restorations k in_k).scheduled unfinished in
-          let l : r.at < point = g.snapshots r there (sym (h.of_schedule s.0 s.1.0 (s.1.1.0 ∙ sym named ∙ of)) ∙ s.1.1.1) in omega arith))
+          (λ of. (let l : r.at < point = g.snapshots r there (sym of ∙ named) in omega arith))
           (g.complete p.0 p.1.0 named)));
-      last = λ q in_q now unfinished t isin is lasts. (timed r t, (map_in {A = Schedule} {B = Schedule} (timed r) m.schedules t isin, (is, lasts)));
+      last = λ q in_q now unfinished k isin is lasts. (timed r k, (map_in {A = ScheduledNamespace} {B = ScheduledNamespace} (timed r) m.scheduled k isin, (is, lasts)));
       sent = λ mark isin. (
           let k = filter_in m.sent (λ s. not (same s.operation r.id)) mark isin in
           elim (ops.sent mark k.0) [

@@ -8,8 +8,8 @@ use Rattle.model.specs.Activity.{Interval}
 use Rattle.model.specs.Catalog.{owner_of}
 use Rattle.model.specs.Journal.{Change}
 use Rattle.model.specs.Tablets.{Mark, is_empty}
-use Rattle.model.specs.Records.{Listed, RestorationRecord, RestorationState, Fencing, CloneRecord, is_restored, point_of, unsent, schedule_of}
-use Rattle.model.specs.Schedules.{floor}
+use Rattle.model.specs.Records.{Listed, RestorationRecord, RestorationState, Fencing, CloneRecord, is_restored, point_of, unsent}
+use Rattle.model.specs.Schedules.{floor, least_low}
 use Rattle.model.specs.Stands.{awaited_in, awaited_of, first_of_two}
 use Rattle.model.specs.Coordination.{unfinished_restoration}
 use Rattle.model.specs.Operations.{restoration_of, clone_with, time_of_user}
@@ -23,7 +23,7 @@ use Rattle.law_invariants.proofs.Finding.{same_equal, same_self, filter_in, in_m
 use Rattle.law_invariants.proofs.Remembering.{floor_rises}
 use Rattle.law_invariants.proofs.Ticking.{not_true}
 use Rattle.law_moves.proofs.Recording.{Records, recorded, RestorationCame, Onto}
-use Rattle.law_moves.proofs.Staying.{schedule_on, known_on}
+use Rattle.law_moves.proofs.Staying.{schedule_on, known_on, scheduled_on}
 use Rattle.law_moves.proofs.Slots.{parts_with, records_keep}
 use Rattle.law_moves.proofs.Pending.{point_complete, pending_drawn, pending_unmoved, pending_stays, fence_stays, unfinished_restoration_is, unacked_is}
 use Rattle.law_moves.proofs.Using.{same_on, mapped_is, alone_mapped}
@@ -38,6 +38,7 @@ abbrev pub enters : RestorationRecord → RestorationState → List Listed → �
 enters r state listed n m = record {
   clock = n;
   schedules = m.schedules;
+  scheduled = m.scheduled;
   snapshots = m.snapshots;
   restorations = map (entering r state listed) m.restorations;
   sent = unsent r.id m.sent;
@@ -114,15 +115,15 @@ awaited_mapped (x ∷ rs) f tablet done each =
     ap (λ a. first_of_two a (awaited_in (map f rs) tablet done)) (each x (inl refl)) ∙ ap (first_of_two (awaited_of x.state x tablet done)) (awaited_mapped rs f tablet done (λ y isin. each y (inr isin)))
 
 -- the records go on to be each of their own
-pub entered_apart : (m : Master) (r : RestorationRecord) (state : RestorationState) (listed : List Listed) → In r m.restorations → is_restored r.state ≡ false → OperationsApart m.schedules m.snapshots m.restorations m.clones
-    → OperationsApart m.schedules m.snapshots (map (entering r state listed) m.restorations) m.clones
+pub entered_apart : (m : Master) (r : RestorationRecord) (state : RestorationState) (listed : List Listed) → In r m.restorations → is_restored r.state ≡ false → OperationsApart m.schedules m.scheduled m.snapshots m.restorations m.clones
+    → OperationsApart m.schedules m.scheduled m.snapshots (map (entering r state listed) m.restorations) m.clones
 entered_apart m r state listed there unfinished a =
     let f = entering r state listed in
     let open_was : (x : RestorationRecord) → In x m.restorations → is_restored (f x).state ≡ false → is_restored x.state ≡ false = λ x isin.
     by_record (λ x y. is_restored y.state ≡ false → is_restored x.state ≡ false) m r state listed x a.restoration_ids there isin (λ k. unfinished) (λ b k. k) in
     record {
       schedule_ids = a.schedule_ids;
-      one_schedule = a.one_schedule;
+      one_scheduled = a.one_scheduled;
       snapshots_rise = a.snapshots_rise;
       one_snapshot = a.one_snapshot;
       restoration_ids = alone_mapped {A = RestorationRecord} (λ r. r.id) f m.restorations (λ x. refl) a.restoration_ids;
@@ -205,8 +206,9 @@ entered_onto ps activity changes n r state listed e inv =
       floors = e.floors;
       apart = entered_apart m r state listed e.there e.unfinished a;
       complete = λ t isin. le_trans (inv.master.complete t isin) e.clock;
-      schedule = λ t isin. schedule_on m w t e.clock (λ kind. le_refl _) (e.floors t.namespace) (λ q q_in. (q, (q_in, same_on q))) (ops.schedules t isin);
-      schedule_came = λ t isin. inl (record { was = t; kept = isin; id_is = refl; namespace_is = refl });
+      schedule = λ t isin. schedule_on m w t e.clock (λ kind. le_refl _) (λ k there is. (k, (there, (refl, refl)))) (ops.schedules t isin);
+      scheduled = λ k isin. (let g = ops.scheduled k isin in scheduled_on m w k e.clock (λ kind. le_refl _) (e.floors k.namespace) (λ q q_in. (q, (q_in, same_on q))) g.has g);
+      schedule_came = λ t isin. inl (record { was = t; kept = isin; namespace_is = refl });
       schedule_kept = λ t isin. inl (t, (isin, (refl, refl)));
       points = λ k point t in_k unfinished at isin is. point_complete m changes k point t ops in_k unfinished at isin is;
       last = λ q in_q now unfinished t isin is lasts. (t, (isin, (is, lasts)));
@@ -277,11 +279,11 @@ times_stay (x ∷ rs) f ns each =
 pub going_floors : (m : Master) (n : ℕ) (r : RestorationRecord) (state : RestorationState) (listed : List Listed) (ns : Id) → m.clock ≤ n → Alone (λ r. r.id) m.restorations → In r m.restorations → is_restored r.state ≡ false → is_restored state ≡ false
     → floor_of m ns m.clock ≤ floor_of (recorded m (enters r state listed n m)) ns n
 going_floors m n r state listed ns le one there unfinished still =
-    let up : floor_of m ns m.clock ≤ floor (schedule_of m.schedules ns) (time_of_user m ns) n =
+    let up : floor_of m ns m.clock ≤ floor (least_low m.schedules ns n) (time_of_user m ns) n =
     floor_rises m (record m { clock = n }) ns (record { clock = le; schedules = refl; restorations = refl; clones = refl }) in
     let f = entering r state listed in
     let times : option_map {T = RestorationRecord} (λ r. r.to) (restoration_of (map f m.restorations) ns) ≡ option_map {T = RestorationRecord} (λ r. r.to) (restoration_of m.restorations ns) = times_stay m.restorations f ns
     (λ x isin. (refl, by_record (λ x y. (same x.namespace ns && not (is_restored y.state)) ≡ (same x.namespace ns && not (is_restored x.state))) m r state listed x one there isin (ap (λ b. same r.namespace ns && not b) (still ∙ sym unfinished)) (λ b. refl))) in
-    let here : floor_of (recorded m (enters r state listed n m)) ns n ≡ floor (schedule_of m.schedules ns) (time_of_user m ns) n =
-    ap (λ t. floor (schedule_of m.schedules ns) (option_or t (option_map {T = CloneRecord} (λ c. c.to) (clone_with m.clones ns))) n) times in
+    let here : floor_of (recorded m (enters r state listed n m)) ns n ≡ floor (least_low m.schedules ns n) (time_of_user m ns) n =
+    ap (λ t. floor (least_low m.schedules ns n) (option_or t (option_map {T = CloneRecord} (λ c. c.to) (clone_with m.clones ns))) n) times in
     subst (λ y. floor_of m ns m.clock ≤ y) (sym here) up

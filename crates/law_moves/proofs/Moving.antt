@@ -8,8 +8,8 @@ use Rattle.row_values.specs.Elements.{In}
 use Rattle.model.specs.Activity.{Interval}
 use Rattle.model.specs.Journal.{Change}
 use Rattle.model.specs.Tablets.{Body, Fence, Freeze, RestoreFrom, Hide, Copy, Release, BodyKind, RestoreFromKind, HideKind, ReleaseKind, same_body, Mark, is_mark, is_done, kind_of}
-use Rattle.model.specs.Records.{Listed, Schedule, RestorationRecord, RestorationState, Restoring, Releasing, Restored, CloneRecord, is_restored, point_of, schedule_of}
-use Rattle.model.specs.Schedules.{floor, low}
+use Rattle.model.specs.Records.{Listed, RestorationRecord, RestorationState, Restoring, Releasing, Restored, CloneRecord, is_restored, point_of}
+use Rattle.model.specs.Schedules.{floor, low, least_low}
 use Rattle.model.specs.Stands.{awaited_of, is_restore}
 use Rattle.model.specs.Operations.{restoration_of, clone_with, time_of_user}
 use Rattle.model.specs.Cleanup.{floor_of}
@@ -77,13 +77,13 @@ any_restoring (l ∷ ls) tablet e = either_way (same l.tablet tablet && is_resto
     (λ b. let k : list_any (λ l. same l.tablet tablet && is_restore l.body) ls ≡ true = sym (ap (λ c. c || list_any (λ l. same l.tablet tablet && is_restore l.body) ls) b) ∙ e in
     let r = any_restoring ls tablet k in (r.0, (inr r.1.0, r.1.1)))
 
-pub point_moves : (m : Master) (w : Records) (changes : List Change) (r : RestorationRecord) (state : RestorationState) (listed : List Listed) (point : ℕ) → w.snapshots ≡ m.snapshots → w.schedules ≡ m.schedules → IsPoint m changes r point
+pub point_moves : (m : Master) (w : Records) (changes : List Change) (r : RestorationRecord) (state : RestorationState) (listed : List Listed) (point : ℕ) → w.snapshots ≡ m.snapshots → w.scheduled ≡ m.scheduled → IsPoint m changes r point
     → IsPoint (recorded m w) changes (entered r state listed) point
-point_moves m w changes r state listed point snapshots schedules h = record {
+point_moves m w changes r state listed point snapshots scheduled h = record {
   later = h.later;
   fixed = h.fixed;
   snapshots = λ q isin is. h.snapshots q (subst (In q) snapshots isin) is;
-  complete = λ s isin is. h.complete s (subst (In s) schedules isin) is;
+  complete = λ s isin is. h.complete s (subst (In s) scheduled isin) is;
 }
 
 -- All took back their rows or are hidden: those that took them back are released
@@ -173,7 +173,7 @@ releases ps activity changes n r point serving_ before there is acked inv =
 
 -- All are released: the restoration is finished
 
-floor_free : (s : Option Schedule) (to : Option ℕ) (n : ℕ) → floor s to n ≤ floor s None n
+floor_free : (s : Option ℕ) (to : Option ℕ) (n : ℕ) → floor s to n ≤ floor s None n
 floor_free None to n = le_refl n
 floor_free (Some s) None n = le_refl _
 floor_free (Some s) (Some to) n = omega arith
@@ -186,7 +186,7 @@ restored_floors ps activity changes n r point serving_ ns before there unfinishe
     let f = entering r state [] in
     let w = enters r state [] n m in
     let a = inv.operations.apart in
-    let up : floor_of m ns m.clock ≤ floor (schedule_of m.schedules ns) (time_of_user m ns) n =
+    let up : floor_of m ns m.clock ≤ floor (least_low m.schedules ns n) (time_of_user m ns) n =
     floor_rises m (record m { clock = n }) ns (record { clock = le_of_lt before; schedules = refl; restorations = refl; clones = refl }) in
     either_way (same r.namespace ns)
     (λ b.
@@ -201,7 +201,7 @@ restored_floors ps activity changes n r point serving_ ns before there unfinishe
     let no_clone : clone_with m.clones ns ≡ None = none_clones m.clones ns (λ c isin open_ uses. a.one_operation r c there isin unfinished open_ (subst (Uses c) (sym is) uses)) in
     let time : time_of_user (recorded m w) ns ≡ None = ap (λ q. option_or (option_map {T = RestorationRecord} (λ r. r.to) q) (option_map {T = CloneRecord} (λ c. c.to) (clone_with m.clones ns))) none
     ∙ ap (λ q. option_or None (option_map {T = CloneRecord} (λ c. c.to) q)) no_clone in
-    subst (λ y. floor_of m ns m.clock ≤ y) (sym (ap (λ t. floor (schedule_of m.schedules ns) t n) time)) (le_trans up (floor_free (schedule_of m.schedules ns) (time_of_user m ns) n)))
+    subst (λ y. floor_of m ns m.clock ≤ y) (sym (ap (λ t. floor (least_low m.schedules ns n) t n) time)) (le_trans up (floor_free (least_low m.schedules ns n) (time_of_user m ns) n)))
     (λ b.
     let times : option_map {T = RestorationRecord} (λ r. r.to) (restoration_of (map f m.restorations) ns) ≡ option_map {T = RestorationRecord} (λ r. r.to) (restoration_of m.restorations ns) = times_stay m.restorations f ns
     (λ x isin. (
@@ -209,8 +209,8 @@ restored_floors ps activity changes n r point serving_ ns before there unfinishe
       by_record (λ x y. (same x.namespace ns && not (is_restored y.state)) ≡ (same x.namespace ns && not (is_restored x.state))) m r state [] x a.restoration_ids there isin
           (first_fails (same r.namespace ns) false b ∙ sym (first_fails (same r.namespace ns) (not (is_restored r.state)) b)) (λ c. refl),
     )) in
-    let here : floor_of (recorded m w) ns n ≡ floor (schedule_of m.schedules ns) (time_of_user m ns) n =
-    ap (λ t. floor (schedule_of m.schedules ns) (option_or t (option_map {T = CloneRecord} (λ c. c.to) (clone_with m.clones ns))) n) times in
+    let here : floor_of (recorded m w) ns n ≡ floor (least_low m.schedules ns n) (time_of_user m ns) n =
+    ap (λ t. floor (least_low m.schedules ns n) (option_or t (option_map {T = CloneRecord} (λ c. c.to) (clone_with m.clones ns))) n) times in
     subst (λ y. floor_of m ns m.clock ≤ y) (sym here) up)
 
 pub finishes : (ps : Parts) (activity : List Interval) (changes : List Change) (n : ℕ) (r : RestorationRecord) (point : ℕ) (serving_ : Id) → ps.master.clock < n → In r ps.master.restorations → r.state ≡ Releasing point serving_

@@ -6,7 +6,7 @@ use Rattle.row_values.specs.Ids.{Kind, Namespace, Table, Tablet as TabletKind, S
 use Rattle.row_values.specs.Elements.{In}
 use Rattle.model.specs.Journal.{Change}
 use Rattle.model.specs.Tablets.{Mark}
-use Rattle.model.specs.Records.{Listed, SnapshotRecord, RestorationRecord, RestorationState, Fencing, Snapshotting, Switching, Restoring, Releasing, Restored, CloneRecord, is_restored, is_cloned, unacked_at, Schedule, point_of}
+use Rattle.model.specs.Records.{Listed, SnapshotRecord, RestorationRecord, RestorationState, Fencing, Snapshotting, Switching, Restoring, Releasing, Restored, CloneRecord, is_restored, is_cloned, unacked_at, point_of, ScheduledNamespace}
 use Rattle.model.specs.Drawn.{drawn_of}
 use Rattle.model.specs.Coordination.{pending, pending_of, unfinished_snapshot, unfinished_restoration, unfinished_clone}
 use Rattle.model.specs.Parts.{Master}
@@ -151,6 +151,6 @@ point_is (Restoring at serving) m changes r point e unfinished h = let is : at �
 point_is (Releasing at serving) m changes r point e unfinished h = let is : at ≡ point = cc in subst (IsPoint m changes r) is h.is_point
 point_is (Restored at serving) m changes r point e unfinished h = absurd (true≢false unfinished)
 
-pub point_complete : (m : Master) (changes : List Change) (r : RestorationRecord) (point : ℕ) (s : Schedule) → OperationsGood m changes → In r m.restorations → is_restored r.state ≡ false → point_of r.state ≡ Some point → In s m.schedules → s.id ≡ r.schedule
-    → complete_to s.complete s + 1 ≤ point
-point_complete m changes r point s ops there unfinished at isin is = (point_is r.state m changes r point at unfinished (ops.restorations r there).in_state).complete s isin is
+pub point_complete : (m : Master) (changes : List Change) (r : RestorationRecord) (point : ℕ) (k : ScheduledNamespace) → OperationsGood m changes → In r m.restorations → is_restored r.state ≡ false → point_of r.state ≡ Some point → In k m.scheduled → k.namespace ≡ r.namespace
+    → complete_to k + 1 ≤ point
+point_complete m changes r point k ops there unfinished at isin is = (point_is r.state m changes r point at unfinished (ops.restorations r there).in_state).complete k isin is

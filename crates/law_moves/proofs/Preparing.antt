@@ -9,10 +9,9 @@ use Rattle.model.specs.Activity.{Interval, active_within}
 use Rattle.model.specs.Catalog.{owner_of}
 use Rattle.model.specs.Journal.{Change}
 use Rattle.model.specs.Tablets.{FreezeKind}
-use Rattle.model.specs.Records.{Listed, Schedule, SnapshotRecord, RestorationRecord, RestorationState, Fencing, Snapshotting, Switching, Restoring, Releasing, Restored, is_restored, point_of, unfinished_of}
+use Rattle.model.specs.Records.{Listed, SnapshotRecord, RestorationRecord, RestorationState, Fencing, Snapshotting, Switching, Restoring, Releasing, Restored, is_restored, point_of}
 use Rattle.model.specs.Schedules.{serving}
 use Rattle.model.specs.Stands.{awaited_of}
-use Rattle.model.specs.Cleanup.{floor_of}
 use Rattle.model.specs.Lists.{next_snapshot, new_snapshot}
 use Rattle.model.specs.Parts.{Master, Parts}
 use Rattle.model.specs.Moves.{incomplete}
@@ -67,15 +66,15 @@ finished_point (Switching at serving_) m changes r point e p h = absurd (true≢
 finished_point (Restoring at serving_) m changes r point e p h = absurd (true≢false (sym e))
 finished_point (Releasing at serving_) m changes r point e p h = absurd (true≢false (sym e))
 
--- all is fenced: the restoration makes its own snapshot. `s` is its schedule
-pub snapshots_own : (ps : Parts) (activity : List Interval) (changes : List Change) (n : ℕ) (r : RestorationRecord) (s : Schedule) → ps.master.clock < n → In r ps.master.restorations → r.state ≡ Fencing → ((l : Listed) → In l r.listed → l.acked ≡ true)
-    → In s ps.master.schedules → s.id ≡ r.schedule → unfinished_of ps.master.snapshots s.id ≡ None → (inv : Inv ps activity changes) → Inv (parts_with ps (taken s n ps.master)) activity changes
-    → Enters (parts_with ps (taken s n ps.master)) changes n r (Snapshotting (n + 1) (next_snapshot ps.master)) []
-snapshots_own ps activity changes n r s before there is acked schedule named calm inv now =
+-- all is fenced: the restoration makes its own snapshot
+pub snapshots_own : (ps : Parts) (activity : List Interval) (changes : List Change) (n : ℕ) (r : RestorationRecord) → ps.master.clock < n → In r ps.master.restorations → r.state ≡ Fencing → ((l : Listed) → In l r.listed → l.acked ≡ true)
+    → (inv : Inv ps activity changes) → Inv (parts_with ps (taken r.namespace r.schedule n ps.master)) activity changes
+    → Enters (parts_with ps (taken r.namespace r.schedule n ps.master)) changes n r (Snapshotting (n + 1) (next_snapshot ps.master)) []
+snapshots_own ps activity changes n r before there is acked inv now =
     let m = ps.master in
-    let k = recorded m (taken s n m) in
+    let k = recorded m (taken r.namespace r.schedule n m) in
     let own = next_snapshot m in
-    let q0 = new_snapshot m s n in
+    let q0 = new_snapshot m r.namespace r.schedule n in
     let state = Snapshotting (n + 1) own in
     let w = enters r state [] n k in
     let h = inv.operations.restorations r there in
@@ -110,13 +109,13 @@ snapshots_own ps activity changes n r s before there is acked schedule named cal
         };
         empty = refl;
         soon = le_refl _;
-        before = (let b = before_now (parts_with ps (taken s n m)) activity changes r.namespace (n + 1) (omega arith) now in record { begun = b.begun; ended = b.ended; tables_begun = b.tables_begun; tables_ended = b.tables_ended });
+        before = (let b = before_now (parts_with ps (taken r.namespace r.schedule n m)) activity changes r.namespace (n + 1) (omega arith) now in record { begun = b.begun; ended = b.ended; tables_begun = b.tables_begun; tables_ended = b.tables_ended });
         snapshot = q0;
         kept = held;
         id_is = refl;
         at_is = refl;
-        schedule_is = named;
-        alone = λ q isin open_ e. ap (λ x. x.id) (now.operations.apart.one_snapshot q q0 isin held open_ refl (e ∙ sym named));
+        namespace_is = refl;
+        alone = λ q isin open_ e. ap (λ x. x.id) (now.operations.apart.one_snapshot q q0 isin held open_ refl e);
       };
       slots = λ slot. record {
         fenced = λ i opened at. (
@@ -131,10 +130,10 @@ snapshots_own ps activity changes n r s before there is acked schedule named cal
 -- its own snapshot is complete: the first complete one at or after the time serves it
 pub serves_it : (ps : Parts) (activity : List Interval) (changes : List Change) (n : ℕ) (r : RestorationRecord) (point : ℕ) (own : Id) → ps.master.clock < n → In r ps.master.restorations → r.state ≡ Snapshotting point own
     → incomplete ps.master.snapshots own ≡ None → Inv ps activity changes
-    → Enters ps changes n r (Switching point (unwrap_or (option_map (λ s. s.id) (serving ps.master.snapshots r.schedule r.to)) own)) []
+    → Enters ps changes n r (Switching point (unwrap_or (option_map (λ s. s.id) (serving ps.master.snapshots r.namespace r.to)) own)) []
 serves_it ps activity changes n r point own before there is done inv =
     let m = ps.master in
-    let state = Switching point (unwrap_or (option_map (λ s. s.id) (serving m.snapshots r.schedule r.to)) own) in
+    let state = Switching point (unwrap_or (option_map (λ s. s.id) (serving m.snapshots r.namespace r.to)) own) in
     let w = enters r state [] n m in
     let ops = inv.operations in
     let h = ops.restorations r there in
@@ -145,15 +144,11 @@ serves_it ps activity changes n r point own before there is done inv =
     let one : q.0 ≡ g.snapshot = one_snapshot m.snapshots q.0 g.snapshot ops.apart.snapshots_rise q.1.0 g.kept (q.1.1.0 ∙ sym g.id_is) in
     let complete : g.snapshot.complete ≡ true = ap (λ x. x.complete) (sym one) ∙ q.1.1.1 in
     let good = ops.snapshots g.snapshot g.kept in
-    let t = h.scheduled unfinished in
-    let own_ns : t.0.namespace ≡ g.snapshot.namespace = good.of_schedule t.0 t.1.0 (t.1.1.0 ∙ sym g.schedule_is) in
     let at_is = g.at_is in
     let later = g.is_point.later in
-    let found = serving_some m.snapshots r.schedule r.to g.snapshot g.kept (record { schedule_is = g.schedule_is; complete = complete; reaches = omega arith }) in
-    let serves : IsServing m found.0.id r.namespace r.to = subst (λ ns. IsServing m found.0.id ns r.to) t.1.1.1
-    (served m changes t.0 r.to found.0 ops t.1.0 (subst (λ ns. floor_of m ns m.clock ≤ r.to) (sym t.1.1.1) (floor_restores m changes r ops there unfinished))
-    (ap (λ i. serving m.snapshots i r.to) t.1.1.0 ∙ found.1)) in
-    let named : unwrap_or (option_map (λ s. s.id) (serving m.snapshots r.schedule r.to)) own ≡ found.0.id = ap (λ o. unwrap_or (option_map {T = SnapshotRecord} (λ s. s.id) o) own) found.1 in
+    let found = serving_some m.snapshots r.namespace r.to g.snapshot g.kept (record { namespace_is = g.namespace_is; complete = complete; reaches = omega arith }) in
+    let serves : IsServing m found.0.id r.namespace r.to = served m changes r.namespace r.to found.0 ops (floor_restores m changes r ops there unfinished) found.1 in
+    let named : unwrap_or (option_map (λ s. s.id) (serving m.snapshots r.namespace r.to)) own ≡ found.0.id = ap (λ o. unwrap_or (option_map {T = SnapshotRecord} (λ s. s.id) o) own) found.1 in
     record {
       there = there;
       unfinished = unfinished;
@@ -193,7 +188,7 @@ serves_it ps activity changes n r point own before there is done inv =
         past = λ i opened at. (
             let from : i.from < point = g.before.begun i opened.kept opened.owned in
             let within : active_within g.snapshot.after g.snapshot.at i ≡ true = passes_both (leb i.from g.snapshot.at) (before_end (g.snapshot.after + 1) i.to) (le-leb i.from g.snapshot.at (omega arith)) (ap (before_end (g.snapshot.after + 1)) opened.opened) in
-            let line = good.lists i opened.kept (opened.owned ∙ ap Some (sym t.1.1.1 ∙ own_ns)) within in
+            let line = good.lists i opened.kept (opened.owned ∙ ap Some (sym g.namespace_is)) within in
             let each = (inv.slots slot).each i opened.kept at in
             let did = (inv.works slot).obeyed.snapshots g.snapshot line.line g.kept line.listed (line.slot_is ∙ at) (ap (λ b. b || line.line.acked) complete) (each.tablet_is ∙ sym line.tablet_is) each.present in
             let mark = done_is (ps.tablet slot).done g.snapshot.id FreezeKind did in

@@ -17,7 +17,7 @@ use Rattle.law_store.proofs.Keys.{either_way}
 use Rattle.law_invariants.specs.Operations.{Uses, IsKnown, IsListed, SnapshotGood, IsServing, IsPoint, BeforePoint, IsAfterSwitch, IsComing, RestorationStateGood, RestorationGood, CloneStateGood, CloneGood, OperationsGood}
 use Rattle.law_invariants.proofs.Finding.{in_mapped, map_in, filter_in, same_equal, both_pass, passes_both}
 use Rattle.law_invariants.proofs.Ticking.{not_true}
-use Rattle.law_moves.proofs.Staying.{schedule_on}
+use Rattle.law_moves.proofs.Staying.{schedule_on, scheduled_on}
 use Rattle.law_moves.proofs.Using.{same_on}
 use Rattle.law_moves.proofs.Listing.{one_place}
 use Rattle.law_moves.proofs.Entering.{entering, entering_other, enters, by_record, going_floors, entered_apart}
@@ -46,7 +46,6 @@ snapshot_turned ps activity changes n r point serving_ q s isin floors =
     record {
       kind_is = h.kind_is;
       drawn = h.drawn;
-      drawn_schedule = h.drawn_schedule;
       drawn_namespace = h.drawn_namespace;
       rises = h.rises;
       past = le_trans h.past (le_of_lt s.before);
@@ -67,8 +66,6 @@ snapshot_turned ps activity changes n r point serving_ q s isin floors =
           let l : q.at < point = good.is_point.snapshots q isin (let e : q.namespace ≡ r.namespace = cc in e) in
           let f = leb-true point q.at (both_pass (leb point q.at) true within).0 in omega arith)) j there owner within;
       reached = elim h.reached [ inl l ↦ inl (lt_of_lt_of_le l floors) | inr k ↦ inr k ];
-      of_schedule = h.of_schedule;
-      same_namespace = h.same_namespace;
       scheduled = h.scheduled;
     }
 
@@ -114,7 +111,7 @@ state_turned (Snapshotting p own) ps activity changes n r point serving_ x s isi
   kept = h.kept;
   id_is = h.id_is;
   at_is = h.at_is;
-  schedule_is = h.schedule_is;
+  namespace_is = h.namespace_is;
   alone = h.alone;
 }
 state_turned (Switching p served) ps activity changes n r point serving_ x s isin apart h = let m = ps.master in record {
@@ -280,7 +277,7 @@ visible_later (CloneComplete served at) e = e
 
 clone_state_turned : (state : CloneState) (m : Master) (r : RestorationRecord) (point : ℕ) (serving_ : Id) (n : ℕ) (c : CloneRecord) → m.clock ≤ n → (is_cloned state ≡ false → c.target_id ≡ r.namespace → ⊥) → CloneStateGood state m c → CloneStateGood state (turned m r point serving_ n) c
 clone_state_turned Accepted m r point serving_ n c le apart h = h
-clone_state_turned (CloneSnapshot own) m r point serving_ n c le apart h = record { empty = h.empty; snapshot = h.snapshot; kept = h.kept; id_is = h.id_is; namespace_is = h.namespace_is; of_schedule = h.of_schedule; reaches = h.reaches }
+clone_state_turned (CloneSnapshot own) m r point serving_ n c le apart h = record { empty = h.empty; snapshot = h.snapshot; kept = h.kept; id_is = h.id_is; namespace_is = h.namespace_is; reaches = h.reaches }
 clone_state_turned (Copying served at) m r point serving_ n c le apart h = record { begun = le_trans h.begun le; later = h.later; serves = serving_turned m r point serving_ n served c.source c.to h.serves; bodies = h.bodies; all = h.all }
 clone_state_turned (CloneReleasing served at) m r point serving_ n c le apart h = record {
   since = h.since;
@@ -377,8 +374,11 @@ operations_turned ps activity changes n r point serving_ s =
     record {
       kept = λ ns. le_trans (ops.kept ns) (floors_turned ps activity changes n r point serving_ ns s);
       apart = entered_apart m r (Restoring point serving_) L s.there unfinished ops.apart;
-      schedules = λ t isin. (let g = schedule_on m (enters r (Restoring point serving_) L n m) t le (λ kind. le_refl _) (floors_turned ps activity changes n r point serving_ t.namespace s) (λ q q_in. (q, (q_in, same_on q))) (ops.schedules t isin) in
-          record { drawn = g.drawn; drawn_namespace = g.drawn_namespace; from_one = g.from_one; begun = g.begun; last = g.last; reached = g.reached });
+      schedules = λ t isin. (let g = schedule_on m (enters r (Restoring point serving_) L n m) t le (λ kind. le_refl _) (λ k there is. (k, (there, (refl, refl)))) (ops.schedules t isin) in
+          record { drawn = g.drawn; drawn_namespace = g.drawn_namespace; begun = g.begun; scheduled = g.scheduled });
+      scheduled = λ k isin. (let h = ops.scheduled k isin in
+          let g = scheduled_on m (enters r (Restoring point serving_) L n m) k le (λ kind. le_refl _) (floors_turned ps activity changes n r point serving_ k.namespace s) (λ q q_in. (q, (q_in, same_on q))) h.has h in
+          record { drawn_namespace = g.drawn_namespace; from_one = g.from_one; last = g.last; reached = g.reached; has = g.has });
       snapshots = λ q isin. snapshot_turned ps activity changes n r point serving_ q s isin (floors_turned ps activity changes n r point serving_ q.namespace s);
       restorations = λ q there. in_mapped {A = RestorationRecord} {B = RestorationRecord} f (RestorationGood (turned m r point serving_ n) (after r point changes)) m.restorations
           (λ x isin. by_record (λ x q. RestorationGood (turned m r point serving_ n) (after r point changes) q) m r (Restoring point serving_) L x one s.there isin

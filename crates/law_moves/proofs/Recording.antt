@@ -7,41 +7,39 @@ use Rattle.model.specs.Activity.{Interval}
 use Rattle.model.specs.Catalog.{owner_of}
 use Rattle.model.specs.Journal.{Change}
 use Rattle.model.specs.Tablets.{Mark, is_empty}
-use Rattle.model.specs.Records.{Listed, Schedule, SnapshotRecord, RestorationRecord, Fencing, CloneRecord, Sent, is_restored, is_cloned, is_visible, point_of}
+use Rattle.model.specs.Records.{Listed, Schedule, SnapshotRecord, RestorationRecord, Fencing, CloneRecord, Sent, is_restored, is_cloned, is_visible, point_of, ScheduledNamespace}
 use Rattle.model.specs.Schedules.{complete_to}
 use Rattle.model.specs.Stands.{awaited_in, awaited_of}
 use Rattle.model.specs.Cleanup.{floor_of}
 use Rattle.model.specs.Drawn.{drawn_of}
 use Rattle.model.specs.Coordination.{pending}
 use Rattle.model.specs.Parts.{Master, Drawn, Parts}
-use Rattle.law_invariants.specs.Operations.{is_switched, IsSwitchedBy, IsSent, AfterRowsOf, IsKnown, ScheduleGood, SnapshotGood, RestorationGood, OperationsApart}
+use Rattle.law_invariants.specs.Operations.{is_switched, IsSwitchedBy, IsSent, AfterRowsOf, IsKnown, ScheduleGood, SnapshotGood, RestorationGood, OperationsApart, ScheduledGood}
 use Rattle.law_invariants.specs.Orders.{IsFence, RestorationSlot, stage_of_restoration}
 
 -- the records, with the clock and the drawn numbers
 pub record Records : Type 0 where
   pub clock : ℕ
   pub schedules : List Schedule
+  pub scheduled : List ScheduledNamespace
   pub snapshots : List SnapshotRecord
   pub restorations : List RestorationRecord
   pub sent : List Sent
   pub drawn : Drawn
 
 abbrev pub recorded : Master → Records → Master
-recorded m w = record m { clock = w.clock; schedules = w.schedules; snapshots = w.snapshots; restorations = w.restorations; sent = w.sent; drawn = w.drawn }
+recorded m w = record m { clock = w.clock; schedules = w.schedules; scheduled = w.scheduled; snapshots = w.snapshots; restorations = w.restorations; sent = w.sent; drawn = w.drawn }
 
 -- Schedules
 
--- a schedule was there, under its id and of its namespace
+-- a schedule was there, of its namespace
 pub record WasSchedule (m : Master) (s : Schedule) : Type 0 where
   pub was : Schedule
   pub kept : In was m.schedules
-  pub id_is : s.id ≡ was.id
   pub namespace_is : s.namespace ≡ was.namespace
 
--- or it is new, and no unfinished clone has its namespace as its source
+-- or it is new, and its namespace is none that a clone is yet to make current
 pub record NewSchedule (m : Master) (s : Schedule) : Type 0 where
-  pub drawn : m.drawn.schedules < s.id.number
-  pub unused : (c : CloneRecord) → In c m.clones → is_cloned c.state ≡ false → c.source ≡ s.namespace → ⊥
   pub unmade : (c : CloneRecord) → In c m.clones → is_visible c.state ≡ false → c.target_id ≡ s.namespace → ⊥
 
 -- no operation that is unfinished has the schedule's namespace
@@ -53,12 +51,15 @@ pub record IsUnused (m : Master) (s : Schedule) : Type 0 where
 abbrev pub Stays : List Schedule → Schedule → Type 0
 Stays ss s = (k : Schedule) × (In k ss × ((k.id ≡ s.id) × (k.namespace ≡ s.namespace)))
 
+-- a namespace stays scheduled, since the same stamp
+abbrev pub StaysScheduled : List ScheduledNamespace → ScheduledNamespace → Type 0
+StaysScheduled ks k = (j : ScheduledNamespace) × (In j ks × ((j.namespace ≡ k.namespace) × (j.since ≡ k.since)))
+
 -- Snapshots
 
 -- a snapshot goes on, and may become complete
 pub record SnapshotOn (q r : SnapshotRecord) : Type 0 where
   pub id_is : r.id ≡ q.id
-  pub schedule_is : r.schedule ≡ q.schedule
   pub namespace_is : r.namespace ≡ q.namespace
   pub after_is : r.after ≡ q.after
   pub at_is : r.at ≡ q.at
@@ -72,8 +73,7 @@ pub record NewSnapshot (m : Master) (r : SnapshotRecord) : Type 0 where
   pub unfinished : r.complete ≡ false
   pub known : (l : Listed) → In l r.listed → IsKnown m l
   pub unacked : (l : Listed) → In l r.listed → l.acked ≡ false
-  pub apart : (k : RestorationRecord) (point : ℕ) → In k m.restorations → is_restored k.state ≡ false → point_of k.state ≡ Some point → (r.namespace ≡ k.namespace → ⊥) × (r.schedule ≡ k.schedule → ⊥)
-  pub same_namespace : (q : SnapshotRecord) → In q m.snapshots → r.schedule ≡ q.schedule → r.namespace ≡ q.namespace
+  pub apart : (k : RestorationRecord) (point : ℕ) → In k m.restorations → is_restored k.state ≡ false → point_of k.state ≡ Some point → r.namespace ≡ k.namespace → ⊥
 
 -- one became complete: all that it lists were acked
 pub record Completed (m : Master) (r : SnapshotRecord) : Type 0 where
@@ -122,16 +122,17 @@ pub record Onto (ps : Parts) (changes : List Change) (w : Records) : Type 0 wher
   pub clock : ps.master.clock ≤ w.clock
   pub drawn : (kind : Kind) → drawn_of kind ps.master.drawn ≤ drawn_of kind w.drawn
   pub floors : (ns : Id) → floor_of ps.master ns ps.master.clock ≤ floor_of (recorded ps.master w) ns w.clock
-  pub apart : OperationsApart w.schedules w.snapshots w.restorations ps.master.clones
-  pub complete : (s : Schedule) → In s w.schedules → complete_to s.complete s + 1 ≤ w.clock
+  pub apart : OperationsApart w.schedules w.scheduled w.snapshots w.restorations ps.master.clones
+  pub complete : (k : ScheduledNamespace) → In k w.scheduled → complete_to k + 1 ≤ w.clock
   pub schedule : (s : Schedule) → In s w.schedules → ScheduleGood (recorded ps.master w) s
+  pub scheduled : (k : ScheduledNamespace) → In k w.scheduled → ScheduledGood (recorded ps.master w) k
   pub schedule_came : (s : Schedule) → In s w.schedules → WasSchedule ps.master s ⊎ NewSchedule ps.master s
   pub schedule_kept : (s : Schedule) → In s ps.master.schedules → Stays w.schedules s ⊎ IsUnused ps.master s
-  -- the last complete snapshot of a schedule is before the point of an unfinished restoration
-  pub points : (r : RestorationRecord) (point : ℕ) (s : Schedule) → In r ps.master.restorations → is_restored r.state ≡ false → point_of r.state ≡ Some point → In s w.schedules → s.id ≡ r.schedule → complete_to s.complete s + 1 ≤ point
-  -- an unfinished snapshot stays the last one of its schedule
-  pub last : (q : SnapshotRecord) → In q ps.master.snapshots → In q w.snapshots → q.complete ≡ false → (s : Schedule) → In s ps.master.schedules → s.id ≡ q.schedule → s.last ≡ Some q.at
-      → (k : Schedule) × (In k w.schedules × ((k.id ≡ q.schedule) × (k.last ≡ Some q.at)))
+  -- the last complete snapshot of a namespace is before the point of an unfinished restoration
+  pub points : (r : RestorationRecord) (point : ℕ) (k : ScheduledNamespace) → In r ps.master.restorations → is_restored r.state ≡ false → point_of r.state ≡ Some point → In k w.scheduled → k.namespace ≡ r.namespace → complete_to k + 1 ≤ point
+  -- an unfinished snapshot stays the last one of its namespace
+  pub last : (q : SnapshotRecord) → In q ps.master.snapshots → In q w.snapshots → q.complete ≡ false → (k : ScheduledNamespace) → In k ps.master.scheduled → k.namespace ≡ q.namespace → k.last ≡ Some q.at
+      → (j : ScheduledNamespace) × (In j w.scheduled × ((j.namespace ≡ q.namespace) × (j.last ≡ Some q.at)))
   pub sent : (mark : Sent) → In mark w.sent → IsSent w.snapshots w.restorations ps.master.clones mark
   pub snapshot_came : (q : SnapshotRecord) → In q w.snapshots → In q ps.master.snapshots ⊎ SnapshotCame ps.master w q
   pub snapshot_kept : (q : SnapshotRecord) → In q ps.master.snapshots → (r : SnapshotRecord) × (In r w.snapshots × SnapshotOn q r)

@@ -6,13 +6,13 @@ use Rattle.row_values.specs.Ids.{Restoration, Id}
 use Rattle.row_values.specs.Elements.{In}
 use Rattle.model.specs.Activity.{Interval}
 use Rattle.model.specs.Journal.{Change as Made}
-use Rattle.model.specs.Records.{Listed, RestorationRecord, RestorationState, Fencing, Snapshotting, Switching, Restoring, Releasing, Restored, is_restored, schedule_with, unfinished_of, point_of}
+use Rattle.model.specs.Records.{Listed, RestorationRecord, RestorationState, Fencing, Snapshotting, Switching, Restoring, Releasing, Restored, is_restored, unfinished_of, point_of}
 use Rattle.model.specs.Schedules.{serving}
 use Rattle.model.specs.Coordination.{unfinished_restoration, unfinished_clone}
 use Rattle.model.specs.Acts.{Advance}
 use Rattle.model.specs.Lists.{next_snapshot}
 use Rattle.model.specs.Parts.{Master, Parts}
-use Rattle.model.specs.Moves.{progress_of, restoration_progress, awaited_by_restoration, after_restoration, released, brought_back, restoration_moved, restoration_enters, with_own_snapshot, moved_of, advance}
+use Rattle.model.specs.Moves.{progress_of, restoration_progress, awaited_by_restoration, after_restoration, released, brought_back, restoration_moved, moved_of, advance}
 use Rattle.model.specs.History.{with_either, with_restoration}
 use Rattle.law_invariants.specs.Invariant.{Inv, Later}
 use Rattle.law_invariants.proofs.Ticking.{KeepsAll}
@@ -21,11 +21,9 @@ use Rattle.law_moves.proofs.Slots.{parts_with, records_keep}
 use Rattle.law_moves.proofs.Acting.{alone_keeps}
 use Rattle.law_moves.proofs.Advancing.{moves, advance_by, mapped_some}
 use Rattle.law_moves.proofs.Pending.{unfinished_restoration_is}
-use Rattle.law_moves.proofs.Using.{schedule_with_is}
 use Rattle.law_moves.proofs.Snapshots.{taken, MayTake, taken_onto}
 use Rattle.law_moves.proofs.Entering.{enters, entered_keeps}
 use Rattle.law_moves.proofs.Moving.{releases, finishes}
-use Rattle.law_moves.proofs.Serving.{schedule_found}
 use Rattle.law_moves.proofs.Preparing.{snapshots_own, serves_it}
 
 -- the restoration that an advance moves
@@ -58,36 +56,30 @@ fencing_keeps ps activity changes n operation r later v is inv =
     let a = inv.operations.apart in
     let unfinished : is_restored r.state ≡ false = ap is_restored is in
     let t = (inv.operations.restorations r v.there).scheduled unfinished in
-    let found = schedule_found m.schedules t.0 t.1.0 in
-    let s = found.0 in
-    let there = schedule_with_is m.schedules t.0.id s found.1 in
-    let one : s ≡ t.0 = a.schedule_ids s t.0 there.0 t.1.0 there.1 in
-    let named : s.id ≡ r.schedule = there.1 ∙ t.1.1.0 in
-    let calm : unfinished_of m.snapshots s.id ≡ None = ap (unfinished_of m.snapshots) named ∙ sym (ap (λ st. awaited_by_restoration st m r) is) ∙ v.unawaited in
-    let may : MayTake m s = record {
-      there = there.0;
+    let k = (inv.operations.schedules t.0 t.1.0).scheduled in
+    let ns_is : k.0.namespace ≡ r.namespace = k.1.1.0 ∙ t.1.1.1 in
+    let calm : unfinished_of m.snapshots r.namespace ≡ None = sym (ap (λ st. awaited_by_restoration st m r) is) ∙ v.unawaited in
+    let may : MayTake m r.namespace r.schedule = record {
+      scheduled = (k.0, (k.1.0, ns_is));
       calm = calm;
       early = λ q point isin open_ at e. (
-          let same_ : q ≡ r = a.one_restoration q r isin v.there open_ unfinished (sym e ∙ ap (λ x. x.namespace) one ∙ t.1.1.1) in
+          let same_ : q ≡ r = a.one_restoration q r isin v.there open_ unfinished (sym e) in
           let k : None ≡ Some point = sym (ap point_of (ap (λ x. x.state) same_ ∙ is)) ∙ at in grind arith);
     } in
-    let now = records_keep ps activity changes (taken s n m) (taken_onto ps activity changes n s before may inv) inv in
-    let e = snapshots_own ps activity changes n r s before v.there is v.acked there.0 named calm inv now in
-    let w1 = enters r (Snapshotting (n + 1) (next_snapshot m)) [] n (recorded m (taken s n m)) in
-    let scheduled : schedule_with m.schedules r.schedule ≡ Some s = ap (schedule_with m.schedules) (sym t.1.1.0) ∙ found.1 in
-    let w : Records = record { clock = n; schedules = w1.schedules; snapshots = w1.snapshots; restorations = w1.restorations; sent = w1.sent; drawn = w1.drawn } in
-    quiet_keeps ps activity changes n operation r Fencing w later v is
-    (ap (λ o. restoration_enters r (Snapshotting (n + 1) (next_snapshot m)) [] n (with_own_snapshot o n m)) scheduled)
-    (ap (λ o. (restoration_enters r (Snapshotting (n + 1) (next_snapshot m)) [] n (with_own_snapshot o n (record m { activity = activity }))).activity) scheduled)
-    refl
-    (entered_keeps (parts_with ps (taken s n m)) activity changes n r (Snapshotting (n + 1) (next_snapshot m)) [] e now)
+    let w0 = taken r.namespace r.schedule n m in
+    let now = records_keep ps activity changes w0 (taken_onto ps activity changes n r.namespace r.schedule before may inv) inv in
+    let e = snapshots_own ps activity changes n r before v.there is v.acked inv now in
+    let w1 = enters r (Snapshotting (n + 1) (next_snapshot m)) [] n (recorded m w0) in
+    let w : Records = record { clock = n; schedules = w1.schedules; scheduled = w1.scheduled; snapshots = w1.snapshots; restorations = w1.restorations; sent = w1.sent; drawn = w1.drawn } in
+    quiet_keeps ps activity changes n operation r Fencing w later v is refl refl refl
+    (entered_keeps (parts_with ps w0) activity changes n r (Snapshotting (n + 1) (next_snapshot m)) [] e now)
 
 snapshotting_keeps : (ps : Parts) (activity : List Interval) (changes : List Made) (n : ℕ) (operation : Id) (r : RestorationRecord) (point : ℕ) (own : Id) → Later (0 ∷ []) ps n → Moved ps operation r → r.state ≡ Snapshotting point own → Inv ps activity changes
     → KeepsAll (Advance operation) n ps activity changes (moves operation (after_restoration r.state))
 snapshotting_keeps ps activity changes n operation r point own later v is inv =
     let m = ps.master in
     let before : m.clock < n = later 0 refl in
-    let state = Switching point (unwrap_or (option_map (λ s. s.id) (serving m.snapshots r.schedule r.to)) own) in
+    let state = Switching point (unwrap_or (option_map (λ s. s.id) (serving m.snapshots r.namespace r.to)) own) in
     let e = serves_it ps activity changes n r point own before v.there is (sym (ap (λ st. awaited_by_restoration st m r) is) ∙ v.unawaited) inv in
     quiet_keeps ps activity changes n operation r (Snapshotting point own) (enters r state [] n m) later v is refl refl refl (entered_keeps ps activity changes n r state [] e inv)
 

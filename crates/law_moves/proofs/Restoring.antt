@@ -11,8 +11,8 @@ use Rattle.model.specs.Activity.{Interval}
 use Rattle.model.specs.Catalog.{owner_of}
 use Rattle.model.specs.Journal.{Change as Made}
 use Rattle.model.specs.Tablets.{Fence, FenceKind, Mark}
-use Rattle.model.specs.Records.{Listed, Schedule, RestorationRecord, Fencing, is_restored, point_of, schedule_with, schedule_of}
-use Rattle.model.specs.Schedules.{floor, low, least_with}
+use Rattle.model.specs.Records.{Listed, Schedule, RestorationRecord, Fencing, is_restored, point_of, schedule_with}
+use Rattle.model.specs.Schedules.{floor, low, least_with, least_low}
 use Rattle.model.specs.Stands.{awaited_in, awaited_of, first_of_two}
 use Rattle.model.specs.Drawn.{drawn_of}
 use Rattle.model.specs.Acts.{Reply, Refusal, Refused, Ok, Restore, Change, UnknownSchedule, Busy, TooEarly, Future}
@@ -22,21 +22,21 @@ use Rattle.model.specs.Lists.{active_tablets, listing}
 use Rattle.model.specs.Parts.{Master, Parts, Drawn, BeginsRestoration, Check, If, Outcome, either, checked, decided, refused}
 use Rattle.model.specs.Changes.{accepts, restore_checks, restore}
 use Rattle.model.specs.Changed.{next_restoration}
-use Rattle.model.specs.Replies.{WindowRight, WindowRightOf}
+use Rattle.model.specs.Replies.{WindowRight, RestoreRight}
 use Rattle.law_store.proofs.Keys.{either_way}
 use Rattle.law_invariants.specs.Operations.{IsKnown, IsOpenOf, Uses}
 use Rattle.law_invariants.specs.Invariant.{Inv, Later}
 use Rattle.law_invariants.proofs.Finding.{same_equal, in_append, in_added, in_first, passes_both}
-use Rattle.law_invariants.proofs.Remembering.{floor_rises}
+use Rattle.law_invariants.proofs.Remembering.{has_low, floor_rises}
 use Rattle.law_invariants.proofs.Judging.{step_if, step_names}
 use Rattle.law_invariants.proofs.Ticking.{refused_keeps, KeepsAll}
 use Rattle.law_moves.proofs.Recording.{Records, recorded, RestorationCame, Onto}
-use Rattle.law_moves.proofs.Staying.{schedule_on}
+use Rattle.law_moves.proofs.Staying.{schedule_on, scheduled_on}
 use Rattle.law_moves.proofs.Slots.{records_keep, done_mark}
 use Rattle.law_moves.proofs.Acting.{alone_keeps}
 use Rattle.law_moves.proofs.Listing.{IsLineOf, listing_only, listing_has, active_only, active_has, one_place}
 use Rattle.law_moves.proofs.Pending.{point_complete, pending_drawn, pending_unmoved, pending_stays, fence_stays, restoration_added}
-use Rattle.law_moves.proofs.Using.{alone_added, same_on, schedule_with_is, schedule_of_is, schedule_there, NotUsed, not_used, none_restores, no_time}
+use Rattle.law_moves.proofs.Using.{alone_added, same_on, schedule_with_is, NotUsed, not_used, none_restores, no_time}
 
 -- The restorations with one more
 
@@ -68,6 +68,7 @@ abbrev begun : Schedule → ℕ → ℕ → Master → Records
 begun s to n m = record {
   clock = n;
   schedules = m.schedules;
+  scheduled = m.scheduled;
   snapshots = m.snapshots;
   restorations = m.restorations ++ new_restoration s to m ∷ [];
   sent = m.sent;
@@ -90,35 +91,27 @@ record MayRestore (m : Master) (s : Schedule) (to n : ℕ) : Type 0 where
   from : low s n ≤ to
   before : to < n
 
-same_schedule : (m : Master) (s : Schedule) → ((x y : Schedule) → In x m.schedules → In y m.schedules → x.namespace ≡ y.namespace → x ≡ y) → In s m.schedules → schedule_of m.schedules s.namespace ≡ Some s
-same_schedule m s one there = elim_option (schedule_of m.schedules s.namespace) refl
-  where
-    elim_option : (found : Option Schedule) → schedule_of m.schedules s.namespace ≡ found → schedule_of m.schedules s.namespace ≡ Some s
-    elim_option None e = absurd (true≢false (sym (schedule_there m.schedules s there) ∙ ap is_some e))
-    elim_option (Some t) e = let k = schedule_of_is m.schedules s.namespace t e in e ∙ ap Some (one t s k.0 there k.1)
-
-begun_floors : (m : Master) (n to : ℕ) (s : Schedule) (ns : Id) → m.clock ≤ n → MayRestore m s to n → ((x y : Schedule) → In x m.schedules → In y m.schedules → x.namespace ≡ y.namespace → x ≡ y)
-    → floor_of m ns m.clock ≤ floor_of (recorded m (begun s to n m)) ns n
-begun_floors m n to s ns le may one =
+begun_floors : (m : Master) (n to : ℕ) (s : Schedule) (ns : Id) → m.clock ≤ n → MayRestore m s to n → floor_of m ns m.clock ≤ floor_of (recorded m (begun s to n m)) ns n
+begun_floors m n to s ns le may =
     let r = new_restoration s to m in
     let w = begun s to n m in
-    let up : floor_of m ns m.clock ≤ floor (schedule_of m.schedules ns) (time_of_user m ns) n =
+    let up : floor_of m ns m.clock ≤ floor (least_low m.schedules ns n) (time_of_user m ns) n =
     floor_rises m (record m { clock = n }) ns (record { clock = le; schedules = refl; restorations = refl; clones = refl }) in
     either_way (same s.namespace ns)
     (λ b.
     let is : s.namespace ≡ ns = same_equal s.namespace ns b in
-    let schedule_is : schedule_of m.schedules ns ≡ Some s = ap (schedule_of m.schedules) (sym is) ∙ same_schedule m s one may.there in
+    let least = has_low m.schedules ns n s may.there is in
     let none : time_of_user m ns ≡ None = ap (time_of_user m) (sym is) ∙ no_time m s.namespace may.free in
     let first : restoration_of m.restorations ns ≡ None = none_restores m.restorations ns (λ q isin unfinished e. may.free.restoration q isin unfinished (e ∙ sym is)) in
     let now : time_of_user (recorded m w) ns ≡ Some to = ap (λ q. option_or (option_map (λ q. q.to) q) (option_map (λ q. q.to) (clone_with m.clones ns))) (restoration_last m.restorations r ns first (passes_both (same s.namespace ns) true b refl)) in
-    let here : floor_of (recorded m w) ns n ≡ least_with (Some to) (low s n) = ap (λ t. floor (schedule_of m.schedules ns) t n) now ∙ ap (λ q. floor q (Some to) n) schedule_is in
-    let old : floor_of m ns m.clock ≤ low s n = subst (λ t. floor_of m ns m.clock ≤ floor (Some s) t n) none (subst (λ q. floor_of m ns m.clock ≤ floor q (time_of_user m ns) n) schedule_is up) in
-    let least : low s n ≤ least_with (Some to) (low s n) = (let l = may.from in omega arith) in
-    subst (λ y. floor_of m ns m.clock ≤ y) (sym here) (le_trans old least))
+    let here : floor_of (recorded m w) ns n ≡ least_with (Some to) least.0 = ap (λ t. floor (least_low m.schedules ns n) t n) now ∙ ap (λ q. floor q (Some to) n) least.1.0 in
+    let old : floor_of m ns m.clock ≤ least.0 = subst (λ t. floor_of m ns m.clock ≤ floor (Some least.0) t n) none (subst (λ q. floor_of m ns m.clock ≤ floor q (time_of_user m ns) n) least.1.0 up) in
+    let most : least.0 ≤ least_with (Some to) least.0 = (let l = may.from in let k = least.1.1 in omega arith) in
+    subst (λ y. floor_of m ns m.clock ≤ y) (sym here) (le_trans old most))
     (λ b.
     let beside : restoration_of w.restorations ns ≡ restoration_of m.restorations ns = restoration_beside m.restorations r ns (ap (λ c. c && true) b) in
-    let here : floor_of (recorded m w) ns n ≡ floor (schedule_of m.schedules ns) (time_of_user m ns) n =
-    ap (λ q. floor (schedule_of m.schedules ns) (option_or (option_map (λ q. q.to) q) (option_map (λ q. q.to) (clone_with m.clones ns))) n) beside in
+    let here : floor_of (recorded m w) ns n ≡ floor (least_low m.schedules ns n) (time_of_user m ns) n =
+    ap (λ q. floor (least_low m.schedules ns n) (option_or (option_map (λ q. q.to) q) (option_map (λ q. q.to) (clone_with m.clones ns))) n) beside in
     subst (λ y. floor_of m ns m.clock ≤ y) (sym here) up)
 
 begun_came : (ps : Parts) (activity : List Interval) (changes : List Made) (n to : ℕ) (s : Schedule) → ps.master.clock < n → MayRestore ps.master s to n → Inv ps activity changes
@@ -166,14 +159,14 @@ begun_onto ps activity changes n to s before may inv =
     let r0 = new_restoration s to m in
     let ops = inv.operations in
     let a = ops.apart in
-    let floors : (id : Id) → floor_of m id m.clock ≤ floor_of (recorded m w) id n = λ id. begun_floors m n to s id (le_of_lt before) may a.one_schedule in
+    let floors : (id : Id) → floor_of m id m.clock ≤ floor_of (recorded m w) id n = λ id. begun_floors m n to s id (le_of_lt before) may in
     record {
       clock = le_of_lt before;
       drawn = drawn_more m.drawn;
       floors = floors;
       apart = record {
         schedule_ids = a.schedule_ids;
-        one_schedule = a.one_schedule;
+        one_scheduled = a.one_scheduled;
         snapshots_rise = a.snapshots_rise;
         one_snapshot = a.one_snapshot;
         restoration_ids = alone_added {A = RestorationRecord} (λ r. r.id) m.restorations r0 a.restoration_ids
@@ -202,8 +195,9 @@ begun_onto ps activity changes n to s before may inv =
         one_name = a.one_name;
       };
       complete = λ t isin. le_trans (inv.master.complete t isin) (le_of_lt before);
-      schedule = λ t isin. schedule_on m w t (le_of_lt before) (drawn_more m.drawn) (floors t.namespace) (λ q q_in. (q, (q_in, same_on q))) (ops.schedules t isin);
-      schedule_came = λ t isin. inl (record { was = t; kept = isin; id_is = refl; namespace_is = refl });
+      schedule = λ t isin. schedule_on m w t (le_of_lt before) (drawn_more m.drawn) (λ k there is. (k, (there, (refl, refl)))) (ops.schedules t isin);
+      scheduled = λ k isin. (let g = ops.scheduled k isin in scheduled_on m w k (le_of_lt before) (drawn_more m.drawn) (floors k.namespace) (λ q q_in. (q, (q_in, same_on q))) g.has g);
+      schedule_came = λ t isin. inl (record { was = t; kept = isin; namespace_is = refl });
       schedule_kept = λ t isin. inl (t, (isin, (refl, refl)));
       points = λ r point t there unfinished at isin is. point_complete m changes r point t ops there unfinished at isin is;
       last = λ q there now unfinished t isin is lasts. (t, (isin, (is, lasts)));
@@ -242,16 +236,16 @@ restore_found : (found : Option Schedule) (ps : Parts) (activity : List Interval
     → KeepsAll (Change (Restore schedule to) []) n ps activity changes
     (decided (checked (ok_or found UnknownSchedule) (λ s. restore_checks s to n ps.master)) (λ s. accepts (BeginsRestoration s to) [] (next_restoration ps.master ∷ [])))
 restore_found None ps activity changes n schedule to later e inv =
-    refused_keeps (Change (Restore schedule to) []) UnknownSchedule n ps activity changes later inv (subst (λ o. WindowRightOf WindowRight o (Refused UnknownSchedule) ps.master n to) (sym e) tt) refl
+    refused_keeps (Change (Restore schedule to) []) UnknownSchedule n ps activity changes later inv (subst (λ o. RestoreRight o (Refused UnknownSchedule) ps.master n to) (sym e) tt) refl
 restore_found (Some s) ps activity changes n schedule to later e inv =
     let m = ps.master in
     let act = Change (Restore schedule to) [] in
     let before : m.clock < n = later 0 refl in
     let go : Schedule → Outcome = λ s. accepts (BeginsRestoration s to) [] (next_restoration m ∷ []) in
     let P : Option Refusal → Type 0 = λ why. KeepsAll act n ps activity changes (decided (either why s) go) in
-    let right : (reply : Reply) → (user m s.namespace ≡ None → WindowRight reply s n to) → WindowRightOf WindowRight (schedule_with m.schedules schedule) reply m n to =
-    λ reply h. subst (λ o. WindowRightOf WindowRight o reply m n to) (sym e) h in
-    let refuse : (why : Refusal) → (user m s.namespace ≡ None → WindowRight (Refused why) s n to) → KeepsAll act n ps activity changes (refused why) =
+    let right : (reply : Reply) → (user m s.namespace ≡ None → WindowRight reply (low s n) n to) → RestoreRight (schedule_with m.schedules schedule) reply m n to =
+    λ reply h. subst (λ o. RestoreRight o reply m n to) (sym e) h in
+    let refuse : (why : Refusal) → (user m s.namespace ≡ None → WindowRight (Refused why) (low s n) n to) → KeepsAll act n ps activity changes (refused why) =
     λ why h. refused_keeps act why n ps activity changes later inv (right (Refused why) h) refl in
     let future : List Check = If (leb n to) (Future n) ∷ [] in
     let early : List Check = If (ltb to (low s n)) (TooEarly (low s n)) ∷ future in

@@ -1,5 +1,5 @@
 -- A snapshot of a schedule is taken.
-use Rattle.std.proofs.Common.{ℕ, ◌≡◌, ◌≤◌, ◌<◌, ◌+◌, ◌-◌, List, [], ◌∷◌, ◌++◌, Option, Some, None, Bool, true, false, cond, ◌⊎◌, inl, inr, refl, sym, ap, subst, ◌∙◌, arith, le_trans, le_refl, le_of_lt, lt_of_lt_of_le}
+use Rattle.std.proofs.Common.{ℕ, ◌≡◌, ◌≤◌, ◌<◌, ◌+◌, List, [], ◌∷◌, ◌++◌, Some, None, Bool, true, false, cond, ◌⊎◌, inl, inr, refl, sym, ap, subst, ◌∙◌, arith, le_trans, le_refl, le_of_lt, lt_of_lt_of_le}
 use Rattle.std.specs.Prelude.{is_some}
 use Rattle.std.specs.List.{filter}
 use Rattle.std.proofs.lemmas.Bool.{true≢false}
@@ -10,35 +10,36 @@ use Rattle.model.specs.Activity.{Interval, active_within}
 use Rattle.model.specs.Catalog.{owner_of}
 use Rattle.model.specs.Journal.{Change as Made}
 use Rattle.model.specs.Tablets.{Freeze}
-use Rattle.model.specs.Records.{Listed, Schedule, SnapshotRecord, RestorationRecord, is_restored, point_of, schedule_of, unfinished_of}
-use Rattle.model.specs.Schedules.{floor, complete_to, after_of}
+use Rattle.model.specs.Records.{Listed, Schedule, SnapshotRecord, RestorationRecord, is_restored, point_of, unfinished_of, ScheduledNamespace}
+use Rattle.model.specs.Schedules.{floor, complete_to, after_of, least_low, after_in}
 use Rattle.model.specs.Drawn.{drawn_of}
 use Rattle.model.specs.Acts.{TakeSnapshot, Change}
 use Rattle.model.specs.Operations.{user, time_of_user}
 use Rattle.model.specs.Cleanup.{floor_of}
-use Rattle.model.specs.Lists.{next_snapshot, new_snapshot, set_last, tablets_active_within, intervals_in, once}
+use Rattle.model.specs.Lists.{next_snapshot, new_snapshot, set_last, tablets_active_within, intervals_in, once, set_last_of}
 use Rattle.model.specs.Parts.{Master, Parts, Drawn, TakesSnapshot}
 use Rattle.model.specs.Changes.{accepts, found_schedule, take_snapshot_checks, judge_take_snapshot, take_snapshot}
 use Rattle.law_store.proofs.Keys.{either_way}
-use Rattle.law_invariants.specs.Operations.{SnapshotsRise, ScheduleGood, SnapshotGood}
+use Rattle.law_invariants.specs.Operations.{SnapshotsRise, ScheduleGood, SnapshotGood, OperationsGood, Alone, IsReached, ScheduledGood}
 use Rattle.law_invariants.specs.Invariant.{Inv, Later}
 use Rattle.law_invariants.proofs.Finding.{same_equal, same_self, in_append, in_added, in_first, in_second, filter_in, in_filter, in_mapped, map_in}
 use Rattle.law_invariants.proofs.Remembering.{floor_rises}
 use Rattle.law_invariants.proofs.Ticking.{by_judgement, refused_keeps, KeepsAll}
 use Rattle.law_invariants.proofs.Judging.{checked_is}
 use Rattle.law_moves.proofs.Recording.{Records, recorded, SnapshotCame, SnapshotOn, Onto}
-use Rattle.law_moves.proofs.Staying.{schedule_on}
+use Rattle.law_moves.proofs.Staying.{schedule_on, scheduled_on}
 use Rattle.law_moves.proofs.Slots.{records_keep}
 use Rattle.law_moves.proofs.Acting.{alone_keeps}
 use Rattle.law_moves.proofs.Listing.{IsLineOf, listing_only, listing_has, once_only, once_has, namespace_only, namespace_has, one_place}
 use Rattle.law_moves.proofs.Pending.{point_complete, pending_drawn, pending_unmoved, pending_stays, fence_stays, snapshot_added}
-use Rattle.law_moves.proofs.Using.{same_on, schedule_is, unfinished_none, neither_is, not_used, mapped_is, alone_mapped, mapped_floor}
+use Rattle.law_moves.proofs.Using.{same_on, schedule_is, unfinished_none, neither_is, not_used, mapped_is, alone_mapped, mapped_lows}
 
-abbrev pub taken : Schedule → ℕ → Master → Records
-taken s n m = record {
+abbrev pub taken : Id → Id → ℕ → Master → Records
+taken ns schedule n m = record {
   clock = n;
-  schedules = set_last s.id n m.schedules;
-  snapshots = m.snapshots ++ new_snapshot m s n ∷ [];
+  schedules = set_last schedule n m.schedules;
+  scheduled = set_last_of ns n m.scheduled;
+  snapshots = m.snapshots ++ new_snapshot m ns schedule n ∷ [];
   restorations = m.restorations;
   sent = m.sent;
   drawn = record m.drawn { snapshots = m.drawn.snapshots + 1 };
@@ -53,41 +54,66 @@ drawn_more d Snapshot = omega arith
 drawn_more d Restoration = le_refl _
 drawn_more d Clone = le_refl _
 
-taken_floors : (m : Master) (n : ℕ) (s : Schedule) (ns : Id) → m.clock ≤ n → floor_of m ns m.clock ≤ floor_of (recorded m (taken s n m)) ns n
-taken_floors m n s ns le =
-    let up : floor_of m ns m.clock ≤ floor (schedule_of m.schedules ns) (time_of_user m ns) n =
+taken_floors : (m : Master) (n : ℕ) (at schedule ns : Id) → m.clock ≤ n → floor_of m ns m.clock ≤ floor_of (recorded m (taken at schedule n m)) ns n
+taken_floors m n at schedule ns le =
+    let up : floor_of m ns m.clock ≤ floor (least_low m.schedules ns n) (time_of_user m ns) n =
     floor_rises m (record m { clock = n }) ns (record { clock = le; schedules = refl; restorations = refl; clones = refl }) in
-    let is : floor_of (recorded m (taken s n m)) ns n ≡ floor (schedule_of m.schedules ns) (time_of_user m ns) n =
-    mapped_floor m.schedules (λ t. record t { last = cond (same t.id s.id) (Some n) t.last }) ns (time_of_user m ns) n (λ t. refl) (λ t. refl) in
-    subst (λ y. floor_of m ns m.clock ≤ y) (sym is) up
+    let is = mapped_lows m.schedules (λ t. record t { last = cond (same t.id schedule) (Some n) t.last }) ns n (λ t. refl) (λ t. refl) in
+    subst (λ o. floor_of m ns m.clock ≤ floor o (time_of_user m ns) n) (sym is) up
 
 rise_added : (rs : List SnapshotRecord) (q : SnapshotRecord) → ((r : SnapshotRecord) → In r rs → (r.id.number < q.id.number) × (r.at < q.at)) → SnapshotsRise rs → SnapshotsRise (rs ++ q ∷ [])
 rise_added [] q above h = ((λ p none. absurd none), tt)
 rise_added (r ∷ rs) q above h = (in_added (λ p. (r.id.number < p.id.number) × (r.at < p.at)) rs q h.0 (above r (inl refl)), rise_added rs q (λ p isin. above p (inr isin)) h.1)
 
--- what a snapshot may be taken of: no snapshot of the schedule is unfinished, and a restoration that uses its namespace has no point yet
-pub record MayTake (m : Master) (s : Schedule) : Type 0 where
-  pub there : In s m.schedules
-  pub calm : unfinished_of m.snapshots s.id ≡ None
-  pub early : (r : RestorationRecord) (point : ℕ) → In r m.restorations → is_restored r.state ≡ false → point_of r.state ≡ Some point → s.namespace ≡ r.namespace → ⊥
+-- the time of the namespace's snapshot before the next one, by its record
+pub after_is : (ks : List ScheduledNamespace) (k : ScheduledNamespace) → Alone (λ k. k.namespace) ks → In k ks → after_in ks k.namespace ≡ after_of k
+after_is [] k one isin = absurd isin
+after_is (j ∷ ks) k one isin = either_way (same j.namespace k.namespace)
+    (λ b. ap (λ c. cond c (after_of j) (after_in ks k.namespace)) b ∙ ap after_of (one j k (inl refl) isin (same_equal j.namespace k.namespace b)))
+    (λ b. ap (λ c. cond c (after_of j) (after_in ks k.namespace)) b ∙ after_is ks k (λ x y in_x in_y e. one x y (inr in_x) (inr in_y) e)
+    (elim isin [ inl e ↦ absurd (true≢false (sym (ap (λ q. same q.namespace k.namespace) e ∙ same_self k.namespace) ∙ b)) | inr rest ↦ rest ]))
 
-taken_good : (ps : Parts) (activity : List Interval) (changes : List Made) (n : ℕ) (s : Schedule) → ps.master.clock < n → MayTake ps.master s → Inv ps activity changes → SnapshotGood (recorded ps.master (taken s n ps.master)) (new_snapshot ps.master s n)
-taken_good ps activity changes n s before may inv =
+-- what a snapshot may be taken of: a scheduled namespace, of which no snapshot is unfinished, and a restoration that uses it has no point yet
+pub record MayTake (m : Master) (ns schedule : Id) : Type 0 where
+  pub scheduled : (k : ScheduledNamespace) × (In k m.scheduled × (k.namespace ≡ ns))
+  pub calm : unfinished_of m.snapshots ns ≡ None
+  pub early : (r : RestorationRecord) (point : ℕ) → In r m.restorations → is_restored r.state ≡ false → point_of r.state ≡ Some point → ns ≡ r.namespace → ⊥
+
+-- what holds of the time before it
+record AfterGood (m : Master) (ns : Id) : Type 0 where
+  past : after_in m.scheduled ns ≤ m.clock
+  reached : IsReached m ns (after_in m.scheduled ns)
+  drawn : ns.number ≤ m.drawn.namespaces
+
+after_good : (m : Master) (changes : List Made) (ns schedule : Id) → MayTake m ns schedule → OperationsGood m changes → AfterGood m ns
+after_good m changes ns schedule may ops =
+    let k = may.scheduled in
+    let g = ops.scheduled k.0 k.1.0 in
+    let e = after_is m.scheduled k.0 ops.apart.one_scheduled k.1.0 in
+    subst (AfterGood m) k.1.1 (record {
+      past = subst (λ x. x ≤ m.clock) (sym e) g.last;
+      reached = subst (IsReached m k.0.namespace) (sym e) g.reached;
+      drawn = g.drawn_namespace;
+    })
+
+taken_good : (ps : Parts) (activity : List Interval) (changes : List Made) (n : ℕ) (ns schedule : Id) → ps.master.clock < n → MayTake ps.master ns schedule → Inv ps activity changes
+    → SnapshotGood (recorded ps.master (taken ns schedule n ps.master)) (new_snapshot ps.master ns schedule n)
+taken_good ps activity changes n ns schedule before may inv =
     let m = ps.master in
-    let w = taken s n m in
+    let w = taken ns schedule n m in
     let ops = inv.operations in
-    let g = ops.schedules s may.there in
+    let g = after_good m changes ns schedule may ops in
     let body = Freeze (next_snapshot m) n in
-    let within = filter (active_within (after_of s.last s) n) (intervals_in m.catalog.owners m.activity s.namespace) in
-    let line : (l : Listed) → In l (new_snapshot m s n).listed → IsLineOf body (once within) l = λ l isin. listing_only body (once within) l isin in
-    let was : (l : Listed) (isin : In l (new_snapshot m s n).listed) → In (line l isin).interval m.activity × (owner_of m.catalog.owners (line l isin).interval.table ≡ Some s.namespace) =
-    λ l isin. namespace_only m s.namespace _ (filter_in (intervals_in m.catalog.owners m.activity s.namespace) (active_within (after_of s.last s) n) _ (once_only within _ (line l isin).listed)).0 in
+    let after = after_in m.scheduled ns in
+    let within = filter (active_within after n) (intervals_in m.catalog.owners m.activity ns) in
+    let line : (l : Listed) → In l (new_snapshot m ns schedule n).listed → IsLineOf body (once within) l = λ l isin. listing_only body (once within) l isin in
+    let was : (l : Listed) (isin : In l (new_snapshot m ns schedule n).listed) → In (line l isin).interval m.activity × (owner_of m.catalog.owners (line l isin).interval.table ≡ Some ns) =
+    λ l isin. namespace_only m ns _ (filter_in (intervals_in m.catalog.owners m.activity ns) (active_within after n) _ (once_only within _ (line l isin).listed)).0 in
     record {
       kind_is = refl;
       drawn = le_refl _;
-      drawn_schedule = g.drawn;
-      drawn_namespace = g.drawn_namespace;
-      rises = (let l = g.last in omega arith);
+      drawn_namespace = g.drawn;
+      rises = (let l = g.past in omega arith);
       past = le_refl _;
       bodies = λ l isin. (line l isin).body_is;
       drawn_listed = λ l isin. (
@@ -98,58 +124,48 @@ taken_good ps activity changes n s before may inv =
           (ap (owner_of m.catalog.owners) k.table_is ∙ (was l isin).1, k.slot_is ∙ sym (line l isin).slot_is));
       known = λ unfinished l isin. record { interval = (line l isin).interval; kept = (was l isin).0; tablet_is = sym (line l isin).tablet_is; slot_is = sym (line l isin).slot_is };
       lists = λ i there owner active. (
-          let first = once_has within i (in_filter (intervals_in m.catalog.owners m.activity s.namespace) (active_within (after_of s.last s) n) i (namespace_has m s.namespace i there owner) active) in
+          let first = once_has within i (in_filter (intervals_in m.catalog.owners m.activity ns) (active_within after n) i (namespace_has m ns i there owner) active) in
           let listed = listing_has body (once within) first.0 first.1.0 in
-          let kept = namespace_only m s.namespace first.0 (filter_in (intervals_in m.catalog.owners m.activity s.namespace) (active_within (after_of s.last s) n) first.0 (once_only within first.0 first.1.0)).0 in
+          let kept = namespace_only m ns first.0 (filter_in (intervals_in m.catalog.owners m.activity ns) (active_within after n) first.0 (once_only within first.0 first.1.0)).0 in
           let k = one_place ps activity changes first.0 i inv kept.0 there first.1.1 in
           record { line = listed.line; listed = listed.listed; tablet_is = listed.tablet_is ∙ first.1.1; slot_is = listed.slot_is ∙ k.slot_is });
       reached = elim g.reached [
-        | inl l ↦ inl (lt_of_lt_of_le l (taken_floors m n s s.namespace (le_of_lt before)))
-        | inr q ↦ inr (q.0, (in_first m.snapshots (new_snapshot m s n ∷ []) q.0 q.1.0, (q.1.1.0, (q.1.1.1, all_complete q.0 q.1.0 q.1.1.0))))
+        | inl l ↦ inl (lt_of_lt_of_le l (taken_floors m n ns schedule ns (le_of_lt before)))
+        | inr q ↦ inr (q.0, (in_first m.snapshots (new_snapshot m ns schedule n ∷ []) q.0 q.1.0, (q.1.1.0, (q.1.1.1, all_complete q.0 q.1.0 q.1.1.0))))
       ];
-      of_schedule = λ t isin is. (
-          let p = mapped_is {A = Schedule} (λ t. record t { last = cond (same t.id s.id) (Some n) t.last }) m.schedules t isin in
-          let e : p.0 ≡ s = ops.apart.schedule_ids p.0 s p.1.0 may.there (ap (λ q. q.id) p.1.1 ∙ is) in
-          ap (λ q. q.namespace) (sym p.1.1) ∙ ap (λ q. q.namespace) e);
-      same_namespace = λ q isin is. elim (in_append m.snapshots (new_snapshot m s n ∷ []) q isin) [
-        | inl old ↦ sym ((ops.snapshots q old).of_schedule s may.there (sym is))
-        | inr new ↦ elim new [ inl e ↦ ap (λ k. k.namespace) (sym e) | inr none ↦ absurd none ]
-      ];
-      scheduled = λ unfinished. (
-        record s { last = cond (same s.id s.id) (Some n) s.last },
-        (map_in {A = Schedule} {B = Schedule} (λ t. record t { last = cond (same t.id s.id) (Some n) t.last }) m.schedules s may.there, (refl, ap (λ b. cond b (Some n) s.last) (same_self s.id))),
-      );
+      scheduled = λ unfinished. (let k = may.scheduled in (
+        record k.0 { last = cond (same k.0.namespace ns) (Some n) k.0.last },
+        (map_in {A = ScheduledNamespace} {B = ScheduledNamespace} (λ k. record k { last = cond (same k.namespace ns) (Some n) k.last }) m.scheduled k.0 k.1.0,
+          (k.1.1, ap (λ i. cond (same i ns) (Some n) k.0.last) k.1.1 ∙ ap (λ b. cond b (Some n) k.0.last) (same_self ns))),
+      ));
     }
   where
-    all_complete : (q : SnapshotRecord) → In q ps.master.snapshots → q.schedule ≡ s.id → q.complete ≡ true
-    all_complete q isin is = either_way q.complete (λ b. b) (λ b. absurd (unfinished_none ps.master.snapshots s.id q may.calm isin b is))
+    all_complete : (q : SnapshotRecord) → In q ps.master.snapshots → q.namespace ≡ ns → q.complete ≡ true
+    all_complete q isin is = either_way q.complete (λ b. b) (λ b. absurd (unfinished_none ps.master.snapshots ns q may.calm isin b is))
 
--- the schedules, of which one has its last snapshot now
-lasted : (b : Bool) (m : Master) (n : ℕ) (s t : Schedule) → m.clock < n → (b ≡ true → t.id ≡ s.id) → In (new_snapshot m s n) (taken s n m).snapshots → ScheduleGood (recorded m (taken s n m)) t → ScheduleGood (recorded m (taken s n m)) (record t { last = cond b (Some n) t.last })
-lasted false m n s t before is there h = record { drawn = h.drawn; drawn_namespace = h.drawn_namespace; from_one = h.from_one; begun = h.begun; last = h.last; reached = h.reached }
-lasted true m n s t before is there h = record {
-  drawn = h.drawn;
+-- the scheduled namespaces, of which one has its last snapshot now
+lasted : (b : Bool) (m : Master) (n : ℕ) (ns schedule : Id) (k : ScheduledNamespace) → m.clock < n → (b ≡ true → k.namespace ≡ ns) → In (new_snapshot m ns schedule n) (taken ns schedule n m).snapshots → ScheduledGood (recorded m (taken ns schedule n m)) k
+    → ScheduledGood (recorded m (taken ns schedule n m)) (record k { last = cond b (Some n) k.last })
+lasted false m n ns schedule k before is there h = record { drawn_namespace = h.drawn_namespace; from_one = h.from_one; last = h.last; reached = h.reached; has = h.has }
+lasted true m n ns schedule k before is there h = record {
   drawn_namespace = h.drawn_namespace;
   from_one = h.from_one;
-  begun = h.begun;
   last = le_refl _;
-  reached = inr (new_snapshot m s n, (there, (sym (is refl), refl)));
+  reached = inr (new_snapshot m ns schedule n, (there, (sym (is refl), refl)));
+  has = h.has;
 }
 
-complete_same : (at : Option ℕ) (s t : Schedule) → s.kept_low ≡ t.kept_low → complete_to at s ≡ complete_to at t
-complete_same None s t e = ap (λ x. x - 1) e
-complete_same (Some at) s t e = refl
-
-pub taken_onto : (ps : Parts) (activity : List Interval) (changes : List Made) (n : ℕ) (s : Schedule) → ps.master.clock < n → MayTake ps.master s → Inv ps activity changes → Onto ps changes (taken s n ps.master)
-taken_onto ps activity changes n s before may inv =
+pub taken_onto : (ps : Parts) (activity : List Interval) (changes : List Made) (n : ℕ) (ns schedule : Id) → ps.master.clock < n → MayTake ps.master ns schedule → Inv ps activity changes → Onto ps changes (taken ns schedule n ps.master)
+taken_onto ps activity changes n ns schedule before may inv =
     let m = ps.master in
-    let w = taken s n m in
+    let w = taken ns schedule n m in
     let ops = inv.operations in
     let a = ops.apart in
-    let q0 = new_snapshot m s n in
-    let f : Schedule → Schedule = λ t. record t { last = cond (same t.id s.id) (Some n) t.last } in
-    let good = taken_good ps activity changes n s before may inv in
-    let floors : (id : Id) → floor_of m id m.clock ≤ floor_of (recorded m w) id n = λ id. taken_floors m n s id (le_of_lt before) in
+    let q0 = new_snapshot m ns schedule n in
+    let f : Schedule → Schedule = λ t. record t { last = cond (same t.id schedule) (Some n) t.last } in
+    let g : ScheduledNamespace → ScheduledNamespace = λ k. record k { last = cond (same k.namespace ns) (Some n) k.last } in
+    let good = taken_good ps activity changes n ns schedule before may inv in
+    let floors : (id : Id) → floor_of m id m.clock ≤ floor_of (recorded m w) id n = λ id. taken_floors m n ns schedule id (le_of_lt before) in
     let here : In q0 (m.snapshots ++ q0 ∷ []) = in_second m.snapshots (q0 ∷ []) q0 (inl refl) in
     let kept : (q : SnapshotRecord) → In q m.snapshots → (r : SnapshotRecord) × (In r w.snapshots × SnapshotOn q r) = λ q isin. (q, (in_first m.snapshots (q0 ∷ []) q isin, same_on q)) in
     record {
@@ -158,16 +174,16 @@ taken_onto ps activity changes n s before may inv =
       floors = floors;
       apart = record {
         schedule_ids = alone_mapped {A = Schedule} (λ t. t.id) f m.schedules (λ t. refl) a.schedule_ids;
-        one_schedule = alone_mapped {A = Schedule} (λ t. t.namespace) f m.schedules (λ t. refl) a.one_schedule;
+        one_scheduled = alone_mapped {A = ScheduledNamespace} (λ k. k.namespace) g m.scheduled (λ k. refl) a.one_scheduled;
         snapshots_rise = rise_added m.snapshots q0 (λ r isin. let k = ops.snapshots r isin in let l = k.drawn in let u = k.past in (omega arith, omega arith)) a.snapshots_rise;
         one_snapshot = λ q r in_q in_r open_q open_r e. elim (in_append m.snapshots (q0 ∷ []) q in_q) [
           | inl old_q ↦ elim (in_append m.snapshots (q0 ∷ []) r in_r) [
             | inl old_r ↦ a.one_snapshot q r old_q old_r open_q open_r e
-            | inr new_r ↦ elim new_r [ inl is ↦ absurd (unfinished_none m.snapshots s.id q may.calm old_q open_q (e ∙ sym (ap (λ k. k.schedule) is))) | inr none ↦ absurd none ]
+            | inr new_r ↦ elim new_r [ inl is ↦ absurd (unfinished_none m.snapshots ns q may.calm old_q open_q (e ∙ sym (ap (λ k. k.namespace) is))) | inr none ↦ absurd none ]
           ]
           | inr new_q ↦ elim new_q [
             | inl is ↦ elim (in_append m.snapshots (q0 ∷ []) r in_r) [
-              | inl old_r ↦ absurd (unfinished_none m.snapshots s.id r may.calm old_r open_r (sym e ∙ sym (ap (λ k. k.schedule) is)))
+              | inl old_r ↦ absurd (unfinished_none m.snapshots ns r may.calm old_r open_r (sym e ∙ sym (ap (λ k. k.namespace) is)))
               | inr new_r ↦ elim new_r [ inl is_r ↦ sym is ∙ is_r | inr none ↦ absurd none ]
             ]
             | inr none ↦ absurd none
@@ -182,20 +198,20 @@ taken_onto ps activity changes n s before may inv =
         one_made = a.one_made;
         one_name = a.one_name;
       };
-      complete = in_mapped {A = Schedule} {B = Schedule} f (λ t. complete_to t.complete t + 1 ≤ n) m.schedules
-          (λ t isin. subst (λ y. y + 1 ≤ n) (complete_same t.complete t (f t) refl) (le_trans (inv.master.complete t isin) (le_of_lt before)));
+      complete = in_mapped {A = ScheduledNamespace} {B = ScheduledNamespace} g (λ k. complete_to k + 1 ≤ n) m.scheduled (λ k isin. le_trans (inv.master.complete k isin) (le_of_lt before));
       schedule = in_mapped {A = Schedule} {B = Schedule} f (ScheduleGood (recorded m w)) m.schedules
-          (λ t isin. lasted (same t.id s.id) m n s t before (λ e. same_equal t.id s.id e) here
-          (schedule_on m w t (le_of_lt before) (drawn_more m.drawn) (floors t.namespace) kept (ops.schedules t isin)));
-      schedule_came = λ t isin. (let p = mapped_is {A = Schedule} f m.schedules t isin in
-          inl (record { was = p.0; kept = p.1.0; id_is = ap (λ q. q.id) (sym p.1.1); namespace_is = ap (λ q. q.namespace) (sym p.1.1) }));
+          (λ t isin. let s = schedule_on m w t (le_of_lt before) (drawn_more m.drawn) (λ k there is. (g k, (map_in {A = ScheduledNamespace} {B = ScheduledNamespace} g m.scheduled k there, (refl, refl)))) (ops.schedules t isin) in
+          record { drawn = s.drawn; drawn_namespace = s.drawn_namespace; begun = s.begun; scheduled = s.scheduled });
+      scheduled = in_mapped {A = ScheduledNamespace} {B = ScheduledNamespace} g (ScheduledGood (recorded m w)) m.scheduled
+          (λ k isin. lasted (same k.namespace ns) m n ns schedule k before (λ e. same_equal k.namespace ns e) here
+          (let h = ops.scheduled k isin in scheduled_on m w k (le_of_lt before) (drawn_more m.drawn) (floors k.namespace) kept (f h.has.0, (map_in {A = Schedule} {B = Schedule} f m.schedules h.has.0 h.has.1.0, h.has.1.1)) h));
+      schedule_came = λ t isin. (let p = mapped_is {A = Schedule} f m.schedules t isin in inl (record { was = p.0; kept = p.1.0; namespace_is = ap (λ q. q.namespace) (sym p.1.1) }));
       schedule_kept = λ t isin. inl (f t, (map_in {A = Schedule} {B = Schedule} f m.schedules t isin, (refl, refl)));
-      points = λ r point t there unfinished at isin is. (let p = mapped_is {A = Schedule} f m.schedules t isin in
-          subst (λ q. complete_to q.complete q + 1 ≤ point) p.1.1
-          (subst (λ y. y + 1 ≤ point) (complete_same p.0.complete p.0 (f p.0) refl) (point_complete m changes r point p.0 ops there unfinished at p.1.0 (ap (λ q. q.id) p.1.1 ∙ is))));
-      last = λ q there now unfinished t isin is lasts. either_way (same t.id s.id)
-          (λ b. absurd (unfinished_none m.snapshots s.id q may.calm there unfinished (sym is ∙ same_equal t.id s.id b)))
-          (λ b. (f t, (map_in {A = Schedule} {B = Schedule} f m.schedules t isin, (is, ap (λ c. cond c (Some n) t.last) b ∙ lasts))));
+      points = λ r point k there unfinished at isin is. (let p = mapped_is {A = ScheduledNamespace} g m.scheduled k isin in
+          subst (λ q. complete_to q + 1 ≤ point) p.1.1 (point_complete m changes r point p.0 ops there unfinished at p.1.0 (ap (λ q. q.namespace) p.1.1 ∙ is)));
+      last = λ q there now unfinished k isin is lasts. either_way (same k.namespace ns)
+          (λ b. absurd (unfinished_none m.snapshots ns q may.calm there unfinished (sym is ∙ same_equal k.namespace ns b)))
+          (λ b. (g k, (map_in {A = ScheduledNamespace} {B = ScheduledNamespace} g m.scheduled k isin, (is, ap (λ c. cond c (Some n) k.last) b ∙ lasts))));
       sent = λ mark isin. elim (ops.sent mark isin) [
         | inl q ↦ inl (q.0, (in_first m.snapshots (q0 ∷ []) q.0 q.1.0, q.1.1))
         | inr more ↦ inr more
@@ -206,14 +222,8 @@ taken_onto ps activity changes n s before may inv =
           drawn = omega arith;
           unfinished = refl;
           known = λ l isin. (let k = good.known refl l isin in record { interval = k.interval; kept = k.kept; tablet_is = k.tablet_is; slot_is = k.slot_is });
-          unacked = λ l isin. (listing_only (Freeze (next_snapshot m) n) (tablets_active_within m.catalog.owners m.activity s.namespace (after_of s.last s) n) l isin).unacked;
-          apart = λ k point isin unfinished at. (
-            λ e. may.early k point isin unfinished at e,
-            λ e. (let t = (ops.restorations k isin).scheduled unfinished in
-                let one : t.0 ≡ s = a.schedule_ids t.0 s t.1.0 may.there (t.1.1.0 ∙ sym e) in
-                may.early k point isin unfinished at (ap (λ q. q.namespace) (sym one) ∙ t.1.1.1)),
-          );
-          same_namespace = λ q isin is. (ops.snapshots q isin).of_schedule s may.there is;
+          unacked = λ l isin. (listing_only (Freeze (next_snapshot m) n) (tablets_active_within m.catalog.owners m.activity ns (after_in m.scheduled ns) n) l isin).unacked;
+          apart = λ k point isin unfinished at e. may.early k point isin unfinished at e;
         });
         good = good;
       }));
@@ -242,8 +252,9 @@ take_snapshot_keeps ps activity changes n schedule [] later plan inv =
     (λ s found.
     let judged = checked_is (found_schedule m schedule) (λ s. take_snapshot_checks s n m) s found in
     let is = schedule_is m schedule s judged.0 in
-    let neither = neither_is (user m s.namespace) (unfinished_of m.snapshots s.id) judged.1.0 in
+    let neither = neither_is (user m s.namespace) (unfinished_of m.snapshots s.namespace) judged.1.0 in
     let free = not_used m s.namespace (ap is_some neither.0) in
-    let may : MayTake m s = record { there = is.0; calm = neither.1; early = λ r point isin unfinished at e. free.restoration r isin unfinished (sym e) } in
-    alone_keeps act (accepts (TakesSnapshot s) [] (next_snapshot m ∷ [])) n ps activity activity changes changes (recorded m (taken s n m)) refl refl refl refl tt refl
-    (records_keep ps activity changes (taken s n m) (taken_onto ps activity changes n s before may inv) inv))
+    let k = (inv.operations.schedules s is.0).scheduled in
+    let may : MayTake m s.namespace s.id = record { scheduled = (k.0, (k.1.0, k.1.1.0)); calm = neither.1; early = λ r point isin unfinished at e. free.restoration r isin unfinished (sym e) } in
+    alone_keeps act (accepts (TakesSnapshot s) [] (next_snapshot m ∷ [])) n ps activity activity changes changes (recorded m (taken s.namespace s.id n m)) refl refl refl refl tt refl
+    (records_keep ps activity changes (taken s.namespace s.id n m) (taken_onto ps activity changes n s.namespace s.id before may inv) inv))

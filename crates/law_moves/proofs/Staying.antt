@@ -1,5 +1,5 @@
 -- What holds of the records that stay, of clones and of slots goes on to hold while others are made, move or go.
-use Rattle.std.proofs.Common.{ℕ, ◌≡◌, ◌≤◌, ◌+◌, List, Option, Some, None, true, false, inl, inr, refl, sym, ap, ◌∙◌, arith, le_trans, lt_of_lt_of_le}
+use Rattle.std.proofs.Common.{ℕ, ◌≡◌, ◌≤◌, ◌+◌, List, Option, Some, None, true, false, inl, inr, refl, sym, ap, ◌∙◌, arith, le_trans, lt_of_lt_of_le, subst}
 use Rattle.std.specs.Option.{option_map_or}
 use Rattle.std.proofs.lemmas.Bool.{true≢false}
 use Rattle.std.proofs.lemmas.Bool.Decides.{nat_tests}
@@ -9,17 +9,17 @@ use Rattle.model.specs.Times.{ended_by}
 use Rattle.model.specs.Activity.{Interval}
 use Rattle.model.specs.Catalog.{owner_of}
 use Rattle.model.specs.Journal.{Change}
-use Rattle.model.specs.Records.{Listed, Schedule, SnapshotRecord, RestorationRecord, RestorationState, Fencing, Snapshotting, Switching, Restoring, Releasing, Restored, TabletPair, CloneRecord, CloneState, Accepted, CloneSnapshot, Copying, CloneReleasing, CloneComplete, is_restored, is_cloned, point_of}
+use Rattle.model.specs.Records.{Listed, Schedule, SnapshotRecord, RestorationRecord, RestorationState, Fencing, Snapshotting, Switching, Restoring, Releasing, Restored, TabletPair, CloneRecord, CloneState, Accepted, CloneSnapshot, Copying, CloneReleasing, CloneComplete, is_restored, is_cloned, point_of, ScheduledNamespace}
 use Rattle.model.specs.Schedules.{after_of}
 use Rattle.model.specs.Cleanup.{floor_of}
 use Rattle.model.specs.Drawn.{drawn_of}
 use Rattle.model.specs.Parts.{Master, Parts}
 use Rattle.law_invariants.specs.Remembered.{Remembered, IsForgotten}
-use Rattle.law_invariants.specs.Operations.{IsKnown, IsOpenOf, IsReached, ScheduleGood, SnapshotGood, IsServing, IsPoint, IsCalm, BeforePoint, IsBack, IsActive, RestorationStateGood, RestorationGood, IsSource, IsReserved, CloneStateGood, CloneGood, OperationsGood, JournalGood}
+use Rattle.law_invariants.specs.Operations.{IsKnown, IsOpenOf, IsReached, ScheduleGood, SnapshotGood, IsServing, IsPoint, IsCalm, BeforePoint, IsBack, IsActive, RestorationStateGood, RestorationGood, IsSource, IsReserved, CloneStateGood, CloneGood, OperationsGood, JournalGood, ScheduledGood}
 use Rattle.law_invariants.specs.Orders.{RowsPast}
 use Rattle.law_invariants.specs.Invariant.{MasterGood}
 use Rattle.law_invariants.proofs.Ticking.{namespaces_later, tables_later}
-use Rattle.law_moves.proofs.Recording.{Records, recorded, SnapshotOn, Onto}
+use Rattle.law_moves.proofs.Recording.{Records, recorded, SnapshotOn, Onto, StaysScheduled}
 
 -- Intervals and listed tablets, which stay
 
@@ -54,27 +54,34 @@ back_on m w l to point h = record {
 
 -- Schedules and snapshots
 
-reach_on : (m : Master) (w : Records) (schedule ns : Id) (after : ℕ) → floor_of m ns m.clock ≤ floor_of (recorded m w) ns w.clock
-    → ((q : SnapshotRecord) → In q m.snapshots → (r : SnapshotRecord) × (In r w.snapshots × SnapshotOn q r)) → IsReached m schedule ns after → IsReached (recorded m w) schedule ns after
-reach_on m w schedule ns after floors kept (inl l) = inl (lt_of_lt_of_le l floors)
-reach_on m w schedule ns after floors kept (inr q) = let k = kept q.0 q.1.0 in inr (k.0, (k.1.0, (k.1.1.schedule_is ∙ q.1.1.0, k.1.1.at_is ∙ q.1.1.1)))
+reach_on : (m : Master) (w : Records) (ns : Id) (after : ℕ) → floor_of m ns m.clock ≤ floor_of (recorded m w) ns w.clock
+    → ((q : SnapshotRecord) → In q m.snapshots → (r : SnapshotRecord) × (In r w.snapshots × SnapshotOn q r)) → IsReached m ns after → IsReached (recorded m w) ns after
+reach_on m w ns after floors kept (inl l) = inl (lt_of_lt_of_le l floors)
+reach_on m w ns after floors kept (inr q) = let k = kept q.0 q.1.0 in inr (k.0, (k.1.0, (k.1.1.namespace_is ∙ q.1.1.0, k.1.1.at_is ∙ q.1.1.1)))
 
-pub schedule_on : (m : Master) (w : Records) (s : Schedule) → m.clock ≤ w.clock → ((kind : Kind) → drawn_of kind m.drawn ≤ drawn_of kind w.drawn) → floor_of m s.namespace m.clock ≤ floor_of (recorded m w) s.namespace w.clock
-    → ((q : SnapshotRecord) → In q m.snapshots → (r : SnapshotRecord) × (In r w.snapshots × SnapshotOn q r)) → ScheduleGood m s → ScheduleGood (recorded m w) s
-schedule_on m w s clock drawn floors kept h = record {
+pub schedule_on : (m : Master) (w : Records) (s : Schedule) → m.clock ≤ w.clock → ((kind : Kind) → drawn_of kind m.drawn ≤ drawn_of kind w.drawn)
+    → ((k : ScheduledNamespace) → In k m.scheduled → k.namespace ≡ s.namespace → StaysScheduled w.scheduled k) → ScheduleGood m s → ScheduleGood (recorded m w) s
+schedule_on m w s clock drawn stays h = record {
   drawn = le_trans h.drawn (drawn ScheduleKind);
   drawn_namespace = le_trans h.drawn_namespace (drawn Namespace);
-  from_one = h.from_one;
   begun = le_trans h.begun clock;
+  scheduled = (let k = h.scheduled in let j = stays k.0 k.1.0 k.1.1.0 in (j.0, (j.1.0, (j.1.1.0 ∙ k.1.1.0, subst (λ x. x ≤ s.kept_low) (sym j.1.1.1) k.1.1.1))));
+}
+
+pub scheduled_on : (m : Master) (w : Records) (k : ScheduledNamespace) → m.clock ≤ w.clock → ((kind : Kind) → drawn_of kind m.drawn ≤ drawn_of kind w.drawn) → floor_of m k.namespace m.clock ≤ floor_of (recorded m w) k.namespace w.clock
+    → ((q : SnapshotRecord) → In q m.snapshots → (r : SnapshotRecord) × (In r w.snapshots × SnapshotOn q r)) → (s : Schedule) × (In s w.schedules × (s.namespace ≡ k.namespace)) → ScheduledGood m k → ScheduledGood (recorded m w) k
+scheduled_on m w k clock drawn floors kept has h = record {
+  drawn_namespace = le_trans h.drawn_namespace (drawn Namespace);
+  from_one = h.from_one;
   last = le_trans h.last clock;
-  reached = reach_on m w s.id s.namespace (after_of s.last s) floors kept h.reached;
+  reached = reach_on m w k.namespace (after_of k) floors kept h.reached;
+  has = has;
 }
 
 snapshot_on : (ps : Parts) (changes : List Change) (w : Records) (q : SnapshotRecord) → Onto ps changes w → In q ps.master.snapshots → In q w.snapshots → SnapshotGood ps.master q → SnapshotGood (recorded ps.master w) q
 snapshot_on ps changes w q o there now h = let m = ps.master in record {
   kind_is = h.kind_is;
   drawn = le_trans h.drawn (o.drawn Snapshot);
-  drawn_schedule = le_trans h.drawn_schedule (o.drawn ScheduleKind);
   drawn_namespace = le_trans h.drawn_namespace (o.drawn Namespace);
   rises = h.rises;
   past = le_trans h.past o.clock;
@@ -85,18 +92,7 @@ snapshot_on ps changes w q o there now h = let m = ps.master in record {
   lists = h.lists;
   reached = elim h.reached [
     | inl l ↦ inl (lt_of_lt_of_le l (o.floors q.namespace))
-    | inr p ↦ (let k = o.snapshot_kept p.0 p.1.0 in inr (k.0, (k.1.0, (k.1.1.schedule_is ∙ p.1.1.0, (k.1.1.at_is ∙ p.1.1.1.0, k.1.1.complete p.1.1.1.1)))))
-  ];
-  of_schedule = λ s isin is. elim (o.schedule_came s isin) [
-    | inl was ↦ was.namespace_is ∙ h.of_schedule was.was was.kept (sym was.id_is ∙ is)
-    | inr new ↦ absurd (let l1 = new.drawn in let l2 = h.drawn_schedule in let e : s.id.number ≡ q.schedule.number = ap (λ i. i.number) is in omega arith)
-  ];
-  same_namespace = λ p isin is. elim (o.snapshot_came p isin) [
-    | inl old ↦ h.same_namespace p old is
-    | inr came ↦ elim came.how [
-      | inl new ↦ new.same_namespace q there is
-      | inr done ↦ done.on.namespace_is ∙ h.same_namespace done.was done.kept (sym done.on.schedule_is ∙ is)
-    ]
+    | inr p ↦ (let k = o.snapshot_kept p.0 p.1.0 in inr (k.0, (k.1.0, (k.1.1.namespace_is ∙ p.1.1.0, (k.1.1.at_is ∙ p.1.1.1.0, k.1.1.complete p.1.1.1.1)))))
   ];
   scheduled = λ unfinished. (let s = h.scheduled unfinished in o.last q there now unfinished s.0 s.1.0 s.1.1.0 s.1.1.1);
 }
@@ -122,7 +118,7 @@ point_on ps changes w r point o there unfinished at h = record {
   snapshots = λ q isin is. elim (o.snapshot_came q isin) [
     | inl old ↦ h.snapshots q old is
     | inr came ↦ elim came.how [
-      | inl new ↦ absurd ((new.apart r point there unfinished at).0 is)
+      | inl new ↦ absurd (new.apart r point there unfinished at is)
       | inr done ↦ (let e = done.on.at_is in let l = h.snapshots done.was done.kept (sym done.on.namespace_is ∙ is) in omega arith)
     ]
   ];
@@ -134,17 +130,17 @@ calm_on : (ps : Parts) (changes : List Change) (w : Records) (r : RestorationRec
 calm_on ps changes w r point o there unfinished at h = λ q isin open_ is. elim (o.snapshot_came q isin) [
   | inl old ↦ h q old open_ is
   | inr came ↦ elim came.how [
-    | inl new ↦ (new.apart r point there unfinished at).1 is
+    | inl new ↦ new.apart r point there unfinished at is
     | inr done ↦ true≢false (sym done.now ∙ open_)
   ]
 ]
 
 alone_on : (ps : Parts) (changes : List Change) (w : Records) (r : RestorationRecord) (point : ℕ) (own : Id) → Onto ps changes w → In r ps.master.restorations → is_restored r.state ≡ false → point_of r.state ≡ Some point
-    → ((q : SnapshotRecord) → In q ps.master.snapshots → q.complete ≡ false → q.schedule ≡ r.schedule → q.id ≡ own) → (q : SnapshotRecord) → In q w.snapshots → q.complete ≡ false → q.schedule ≡ r.schedule → q.id ≡ own
+    → ((q : SnapshotRecord) → In q ps.master.snapshots → q.complete ≡ false → q.namespace ≡ r.namespace → q.id ≡ own) → (q : SnapshotRecord) → In q w.snapshots → q.complete ≡ false → q.namespace ≡ r.namespace → q.id ≡ own
 alone_on ps changes w r point own o there unfinished at h = λ q isin open_ is. elim (o.snapshot_came q isin) [
   | inl old ↦ h q old open_ is
   | inr came ↦ elim came.how [
-    | inl new ↦ absurd ((new.apart r point there unfinished at).1 is)
+    | inl new ↦ absurd (new.apart r point there unfinished at is)
     | inr done ↦ absurd (true≢false (sym done.now ∙ open_))
   ]
 ]
@@ -165,7 +161,7 @@ state_on (Snapshotting point own) ps changes w r e o there h = let m = ps.master
   kept = k.1.0;
   id_is = k.1.1.id_is ∙ h.id_is;
   at_is = ap (λ x. x + 1) k.1.1.at_is ∙ h.at_is;
-  schedule_is = k.1.1.schedule_is ∙ h.schedule_is;
+  namespace_is = k.1.1.namespace_is ∙ h.namespace_is;
   alone = alone_on ps changes w r point own o there (ap is_restored e) (ap point_of e) h.alone;
 }
 state_on (Switching point serving) ps changes w r e o there h = let m = ps.master in record {
@@ -254,10 +250,6 @@ clone_state_on (CloneSnapshot own) ps changes w c e o there h = let k = o.snapsh
   kept = k.1.0;
   id_is = k.1.1.id_is ∙ h.id_is;
   namespace_is = k.1.1.namespace_is ∙ h.namespace_is;
-  of_schedule = λ s isin is. elim (o.schedule_came s isin) [
-    | inl was ↦ was.id_is ∙ h.of_schedule was.was was.kept (sym was.namespace_is ∙ is) ∙ sym k.1.1.schedule_is
-    | inr new ↦ absurd (new.unused c there (sym e) (sym is))
-  ];
   reaches = (let l = h.reaches in let q = k.1.1.at_is in omega arith);
 }
 clone_state_on (Copying serving at) ps changes w c e o there h = record {
@@ -324,6 +316,7 @@ operations_on ps changes w o h = record {
   kept = λ ns. le_trans (h.kept ns) (o.floors ns);
   apart = o.apart;
   schedules = o.schedule;
+  scheduled = o.scheduled;
   snapshots = λ q isin. elim (o.snapshot_came q isin) [ inl old ↦ snapshot_on ps changes w q o old isin (h.snapshots q old) | inr came ↦ came.good ];
   restorations = λ r isin. elim (o.restoration_came r isin) [ inl old ↦ restoration_on ps changes w r o old (h.restorations r old) | inr came ↦ came.good ];
   clones = λ c isin. clone_on ps changes w c o isin (h.clones c isin);

@@ -5,7 +5,7 @@ use Rattle.std.proofs.lemmas.Bool.{true≢false}
 use Rattle.row_values.specs.Ids.{Id, same}
 use Rattle.row_values.specs.Elements.{In}
 use Rattle.model.specs.Records.{Schedule, SnapshotRecord, RestorationRecord, CloneRecord, is_restored, is_cloned, schedule_with, schedule_of, unfinished_of}
-use Rattle.model.specs.Schedules.{low, least_with, floor}
+use Rattle.model.specs.Schedules.{low, least_with, least_low}
 use Rattle.model.specs.Operations.{user, restoration_of, clone_with, time_of_user}
 use Rattle.model.specs.Parts.{Master}
 use Rattle.model.specs.Acts.{UnknownSchedule}
@@ -36,7 +36,7 @@ alone_added drawn xs y h apart = λ x z in_x in_z e. elim (in_append xs (y ∷ [
 ]
 
 pub same_on : (q : SnapshotRecord) → SnapshotOn q q
-same_on q = record { id_is = refl; schedule_is = refl; namespace_is = refl; after_is = refl; at_is = refl; complete = λ e. e; lines = λ l isin. (l, (isin, refl)) }
+same_on q = record { id_is = refl; namespace_is = refl; after_is = refl; at_is = refl; complete = λ e. e; lines = λ l isin. (l, (isin, refl)) }
 
 -- Schedules
 
@@ -148,17 +148,17 @@ schedule_free (s ∷ ss) ns apart = either_way (same s.namespace ns)
     (λ b. absurd (apart s (inl refl) (same_equal s.namespace ns b)))
     (λ b. ap (λ q. cond q (Some s) (schedule_of ss ns)) b ∙ schedule_free ss ns (λ k isin. apart k (inr isin)))
 
-pub unfinished_none : (rs : List SnapshotRecord) (schedule : Id) (q : SnapshotRecord) → unfinished_of rs schedule ≡ None → In q rs → q.complete ≡ false → q.schedule ≡ schedule → ⊥
-unfinished_none [] schedule q e isin open_ is = isin
-unfinished_none (r ∷ rs) schedule q e isin open_ is = either_way (same r.schedule schedule && not r.complete)
+pub unfinished_none : (rs : List SnapshotRecord) (ns : Id) (q : SnapshotRecord) → unfinished_of rs ns ≡ None → In q rs → q.complete ≡ false → q.namespace ≡ ns → ⊥
+unfinished_none [] ns q e isin open_ is = isin
+unfinished_none (r ∷ rs) ns q e isin open_ is = either_way (same r.namespace ns && not r.complete)
     (λ b. let k : Some r.id ≡ None = rw b at e in grind arith)
-    (λ b. let k : unfinished_of rs schedule ≡ None = rw b at e in
+    (λ b. let k : unfinished_of rs ns ≡ None = rw b at e in
     elim isin [
       | inl first ↦ (
-          let here : same r.schedule schedule ≡ true = ap (λ x. same x.schedule schedule) first ∙ ap (λ i. same i schedule) is ∙ same_self schedule in
+          let here : same r.namespace ns ≡ true = ap (λ x. same x.namespace ns) first ∙ ap (λ i. same i ns) is ∙ same_self ns in
           let still : not r.complete ≡ true = ap (λ x. not x.complete) first ∙ ap not open_ in
-          true≢false (sym (passes_both (same r.schedule schedule) (not r.complete) here still) ∙ b))
-      | inr rest ↦ unfinished_none rs schedule q k rest open_ is
+          true≢false (sym (passes_both (same r.namespace ns) (not r.complete) here still) ∙ b))
+      | inr rest ↦ unfinished_none rs ns q k rest open_ is
     ])
 
 pub neither_is : {A : Type 0} (a b : Option A) → is_some (option_or a b) ≡ false → (a ≡ None) × (b ≡ None)
@@ -179,13 +179,11 @@ alone_mapped drawn f xs stays h = λ x y in_x in_y e.
     sym p.1.1 ∙ ap f same_ ∙ q.1.1
 
 -- a floor stays where schedules keep their namespaces and windows
-pub mapped_floor : (ss : List Schedule) (f : Schedule → Schedule) (ns : Id) (to : Option ℕ) (n : ℕ) → ((s : Schedule) → (f s).namespace ≡ s.namespace) → ((s : Schedule) → low (f s) n ≡ low s n)
-    → floor (schedule_of (map f ss) ns) to n ≡ floor (schedule_of ss ns) to n
-mapped_floor [] f ns to n names lows = refl
-mapped_floor (s ∷ ss) f ns to n names lows = either_way (same s.namespace ns)
-    (λ b.
-    let here : same (f s).namespace ns ≡ true = ap (λ i. same i ns) (names s) ∙ b in
-    ap (λ c. floor (cond c (Some (f s)) (schedule_of (map f ss) ns)) to n) here ∙ ap (least_with to) (lows s) ∙ sym (ap (λ c. floor (cond c (Some s) (schedule_of ss ns)) to n) b))
-    (λ b.
-    let here : same (f s).namespace ns ≡ false = ap (λ i. same i ns) (names s) ∙ b in
-    ap (λ c. floor (cond c (Some (f s)) (schedule_of (map f ss) ns)) to n) here ∙ mapped_floor ss f ns to n names lows ∙ sym (ap (λ c. floor (cond c (Some s) (schedule_of ss ns)) to n) b))
+pub mapped_lows : (ss : List Schedule) (f : Schedule → Schedule) (ns : Id) (n : ℕ) → ((s : Schedule) → (f s).namespace ≡ s.namespace) → ((s : Schedule) → low (f s) n ≡ low s n)
+    → least_low (map f ss) ns n ≡ least_low ss ns n
+mapped_lows [] f ns n names lows = refl
+mapped_lows (s ∷ ss) f ns n names lows =
+    let rest = mapped_lows ss f ns n names lows in
+    ap (λ i. cond (same i ns) (Some (least_with (least_low (map f ss) ns n) (low (f s) n))) (least_low (map f ss) ns n)) (names s)
+    ∙ ap (λ o. cond (same s.namespace ns) (Some (least_with o (low (f s) n))) o) rest
+    ∙ ap (λ l. cond (same s.namespace ns) (Some (least_with (least_low ss ns n) l)) (least_low ss ns n)) (lows s)

@@ -10,13 +10,13 @@ use Rattle.row_values.specs.Codes.{code_of}
 use Rattle.law_store.proofs.Members.{keys_kept}
 use Rattle.model.specs.Journal.{Change}
 use Rattle.model.specs.Tablets.{is_empty, RaiseCutoff, Compact as CompactTablet, Restart as RestartTablet}
-use Rattle.model.specs.Records.{Schedule, Listed, RestorationRecord, Restoring, is_restored, schedule_of}
-use Rattle.model.specs.Schedules.{allowed_cutoff, complete_to}
+use Rattle.model.specs.Records.{Listed, RestorationRecord, Restoring, is_restored, ScheduledNamespace, scheduled_in}
+use Rattle.model.specs.Schedules.{complete_to}
 use Rattle.model.specs.Acts.{Cutoff, Compact, Restart, Stats, Ok, CutoffAt, Compacted}
 use Rattle.model.specs.Parts.{Master, Parts, If, Restarts}
 use Rattle.model.specs.Coordination.{restarted_master}
 use Rattle.model.specs.Entries.{slots_of, clock_at}
-use Rattle.model.specs.RowActs.{stats, restart, compact, cutoff, table_in, schedule_at, has_moved}
+use Rattle.model.specs.RowActs.{stats, restart, compact, cutoff, table_in, scheduled_at, has_moved, allowed_of}
 use Rattle.law_store.proofs.Compaction.{compaction, sorted_kept, below_kept}
 use Rattle.law_store.proofs.Keys.{either_way}
 use Rattle.law_invariants.specs.Invariant.{Inv, Later}
@@ -86,22 +86,22 @@ has_second slot = grind (arith, nat_tests)
 second_touched : (slot : ℕ) → 1 ≤ slot → touched (Cutoff slot) slot ≡ true
 second_touched slot from = grind (arith, nat_tests)
 
-pub in_schedules : (ss : List Schedule) (ns : Id) (s : Schedule) → schedule_of ss ns ≡ Some s → In s ss
-in_schedules [] ns s e = absurd (let q = e in grind arith)
-in_schedules (x ∷ xs) ns s e = either_way (same x.namespace ns)
-    (λ b. inl (let q : Some x ≡ Some s = rw b at e in let r : x ≡ s = cc in r))
-    (λ b. inr (in_schedules xs ns s (rw b at e)))
+pub in_scheduled : (ks : List ScheduledNamespace) (ns : Id) (k : ScheduledNamespace) → scheduled_in ks ns ≡ Some k → In k ks
+in_scheduled [] ns k e = absurd (let q = e in grind arith)
+in_scheduled (x ∷ xs) ns k e = either_way (same x.namespace ns)
+    (λ b. inl (let q : Some x ≡ Some k = rw b at e in let r : x ≡ k = cc in r))
+    (λ b. inr (in_scheduled xs ns k (rw b at e)))
 
-in_found : (ss : List Schedule) (ns : Option Id) (s : Schedule) → option_and_then (schedule_of ss) ns ≡ Some s → In s ss
-in_found ss None s e = absurd (let q = e in grind arith)
-in_found ss (Some ns) s e = in_schedules ss ns s e
+in_found : (ks : List ScheduledNamespace) (ns : Option Id) (k : ScheduledNamespace) → option_and_then (scheduled_in ks) ns ≡ Some k → In k ks
+in_found ks None k e = absurd (let q = e in grind arith)
+in_found ks (Some ns) k e = in_scheduled ks ns k e
 
 -- the cutoff that an event may reach is not after its stamp
-pub allowed_by : (found : Option Schedule) (m : Master) (n : ℕ) → m.clock ≤ n → ((s : Schedule) → found ≡ Some s → complete_to s.complete s + 1 ≤ m.clock) → allowed_cutoff found n ≤ n
+pub allowed_by : (found : Option ScheduledNamespace) (m : Master) (n : ℕ) → m.clock ≤ n → ((k : ScheduledNamespace) → found ≡ Some k → complete_to k + 1 ≤ m.clock) → allowed_of found n ≤ n
 allowed_by None m n le h = omega arith
-allowed_by (Some s) m n le h = le_trans (h s refl) le
+allowed_by (Some k) m n le h = le_trans (h k refl) le
 
--- a tablet that took back its rows keeps its cutoff: its schedule's last complete snapshot is the restoration's own
+-- a tablet that took back its rows keeps its cutoff: its namespace's last complete snapshot is the restoration's own
 
 there_is : (is : List Interval) (v : Interval) (slot : ℕ) → In v is → v.slot ≡ slot → (i : Interval) × (In i is × ((i.slot ≡ slot) × (table_in is slot ≡ Some i.table)))
 there_is [] v slot isin e = absurd isin
@@ -113,18 +113,18 @@ there_is (i ∷ is) v slot isin e = either_way (eqb i.slot slot)
     ] in
     (rest.0, (inr rest.1.0, (rest.1.1.0, ap (λ q. cond q (Some i.table) (table_in is slot)) b ∙ rest.1.1.1))))
 
-schedule_there : (ss : List Schedule) (ns : Id) (s : Schedule) → In s ss → s.namespace ≡ ns → (k : Schedule) × (In k ss × ((k.namespace ≡ ns) × (schedule_of ss ns ≡ Some k)))
-schedule_there [] ns s isin e = absurd isin
-schedule_there (k ∷ ss) ns s isin e = either_way (same k.namespace ns)
-    (λ b. (k, (inl refl, (same_equal k.namespace ns b, ap (λ q. cond q (Some k) (schedule_of ss ns)) b))))
-    (λ b. let rest = elim isin as (λ _. (j : Schedule) × (In j ss × ((j.namespace ≡ ns) × (schedule_of ss ns ≡ Some j)))) [
+scheduled_there : (ks : List ScheduledNamespace) (ns : Id) (s : ScheduledNamespace) → In s ks → s.namespace ≡ ns → (k : ScheduledNamespace) × (In k ks × ((k.namespace ≡ ns) × (scheduled_in ks ns ≡ Some k)))
+scheduled_there [] ns s isin e = absurd isin
+scheduled_there (k ∷ ks) ns s isin e = either_way (same k.namespace ns)
+    (λ b. (k, (inl refl, (same_equal k.namespace ns b, ap (λ q. cond q (Some k) (scheduled_in ks ns)) b))))
+    (λ b. let rest = elim isin as (λ _. (j : ScheduledNamespace) × (In j ks × ((j.namespace ≡ ns) × (scheduled_in ks ns ≡ Some j)))) [
       | inl is ↦ absurd (let q : same k.namespace ns ≡ true = ap (λ j. same j.namespace ns) is ∙ ap (λ i. same i ns) e ∙ same_self ns in true≢false (sym q ∙ b))
-      | inr more ↦ schedule_there ss ns s more e
+      | inr more ↦ scheduled_there ks ns s more e
     ] in
-    (rest.0, (inr rest.1.0, (rest.1.1.0, ap (λ q. cond q (Some k) (schedule_of ss ns)) b ∙ rest.1.1.1))))
+    (rest.0, (inr rest.1.0, (rest.1.1.0, ap (λ q. cond q (Some k) (scheduled_in ks ns)) b ∙ rest.1.1.1))))
 
 capped : (ps : Parts) (activity : List Interval) (changes : List Change) (n slot : ℕ) (r : RestorationRecord) (l : Listed) (point : ℕ) (serving : Id) → Inv ps activity changes → In r ps.master.restorations → r.state ≡ Restoring point serving
-    → In l r.listed → l.slot ≡ slot → (ps.tablet slot).cutoff ≡ point → max (ps.tablet slot).cutoff (allowed_cutoff (schedule_at ps.master slot) n) ≡ point
+    → In l r.listed → l.slot ≡ slot → (ps.tablet slot).cutoff ≡ point → max (ps.tablet slot).cutoff (allowed_of (scheduled_at ps.master slot) n) ≡ point
 capped ps activity changes n slot r l point serving inv isin is lists at e =
     let m = ps.master in
     let g = inv.operations.restorations r isin in
@@ -136,10 +136,10 @@ capped ps activity changes n slot r l point serving inv isin is lists at e =
     let owner : option_and_then (owner_of m.catalog.owners) (table_in m.activity slot) ≡ Some r.namespace =
     ap (option_and_then (owner_of m.catalog.owners)) (i.1.1.1 ∙ ap Some alike) ∙ inv.master.listed_of r l isin lists v.interval v.kept v.tablet_is in
     let s = g.scheduled still in
-    let k = schedule_there m.schedules r.namespace s.0 s.1.0 s.1.1.1 in
-    let one : k.0 ≡ s.0 = inv.operations.apart.one_schedule k.0 s.0 k.1.0 s.1.0 (k.1.1.0 ∙ sym s.1.1.1) in
-    let within : complete_to k.0.complete k.0 + 1 ≤ point = good.is_point.complete k.0 k.1.0 (ap (λ q. q.id) one ∙ s.1.1.0) in
-    let found : allowed_cutoff (schedule_at m slot) n ≡ complete_to k.0.complete k.0 + 1 = ap (λ o. allowed_cutoff (option_and_then (schedule_of m.schedules) o) n) owner ∙ ap (λ o. allowed_cutoff o n) k.1.1.1 in
+    let j = (inv.operations.schedules s.0 s.1.0).scheduled in
+    let k = scheduled_there m.scheduled r.namespace j.0 j.1.0 (j.1.1.0 ∙ s.1.1.1) in
+    let within : complete_to k.0 + 1 ≤ point = good.is_point.complete k.0 k.1.0 k.1.1.0 in
+    let found : allowed_of (scheduled_at m slot) n ≡ complete_to k.0 + 1 = ap (λ o. allowed_of (option_and_then (scheduled_in m.scheduled) o) n) owner ∙ ap (λ o. allowed_of o n) k.1.1.1 in
     omega arith
 
 pub cutoff_keeps : (ps : Parts) (activity : List Interval) (changes : List Change) (n slot : ℕ) → Later (slots_of (Cutoff slot)) ps n → 1 ≤ slot → Inv ps activity changes
@@ -149,9 +149,9 @@ cutoff_keeps ps activity changes n slot later from inv =
     let t = ps.tablet slot in
     let h = inv.slots slot in
     let w = inv.works slot in
-    let to = allowed_cutoff (schedule_at ps.master slot) n in
+    let to = allowed_of (scheduled_at ps.master slot) n in
     let le : t.clock ≤ n = le_of_lt (clock_before (0 ∷ slot ∷ []) ps n slot later from (has_second slot)) in
-    let within : to ≤ n = allowed_by (schedule_at ps.master slot) ps.master n (master_before (0 ∷ slot ∷ []) ps n later refl) (λ s e. inv.master.complete s (in_found ps.master.schedules _ s e)) in
+    let within : to ≤ n = allowed_by (scheduled_at ps.master slot) ps.master n (master_before (0 ∷ slot ∷ []) ps n later refl) (λ s e. inv.master.complete s (in_found ps.master.scheduled _ s e)) in
     by_checks (Cutoff slot) n ps activity changes (If (is_empty t.presence) (has_moved slot t) ∷ []) (tells slot (RaiseCutoff to) (CutoffAt (max t.cutoff to)))
     (λ why. refused_keeps (Cutoff slot) why n ps activity changes later inv tt refl)
     (λ passes. record {

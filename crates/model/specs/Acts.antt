@@ -87,7 +87,6 @@ pub data Refusal : Type 0 where
   WrongKind : Refusal
   BadPeriod : (interval retention : ℕ) → Refusal
   NameTaken : (by : Id) → Refusal
-  ScheduleExists : (schedule : Id) → Refusal
   NotEmpty : (table : Id) → Refusal
   UnderSchedule : (schedule : Id) → Refusal
   NoSchedule : (namespace : Id) → Refusal

@@ -1,6 +1,6 @@
 -- What an accepted command makes of the master: names and schemas, tablets' activity, schedules and records. Each
 -- function sets the clock to the stamp, besides what it says. Identifiers are the next ones of their kind.
-use Rattle.std.specs.Prelude.{ℕ, ◌+◌, ◌-◌, not, List, [], ◌∷◌, ◌++◌, map, length, if◌then◌else◌, Option, None, unwrap_or}
+use Rattle.std.specs.Prelude.{ℕ, ◌+◌, ◌-◌, not, List, [], ◌∷◌, ◌++◌, map, length, if◌then◌else◌, Option, Some, None, is_some, unwrap_or}
 use Rattle.std.specs.List.{filter}
 use Rattle.row_values.specs.Ranges.{share_from}
 use Rattle.row_values.specs.Ids.{Id, same, Namespace as NamespaceKind, Table as TableKind, Tablet as TabletKind, Schedule as ScheduleKind, Restoration as RestorationKind, Clone as CloneKind}
@@ -8,10 +8,10 @@ use Rattle.row_values.specs.Schema.{NewColumn, Schema, first_schema}
 use Rattle.model.specs.Catalog.{TableRecord, Owner, namespace_added, namespace_ended, table_added, table_ended, table_replaced}
 use Rattle.model.specs.Activity.{Interval, end_tablet, end_table_tablets}
 use Rattle.model.specs.Tablets.{Fence}
-use Rattle.model.specs.Records.{Schedule, Fencing, Accepted, IdPair, TabletPair, CloneRecord}
+use Rattle.model.specs.Records.{Schedule, ScheduledNamespace, scheduled_in, schedule_of, Fencing, Accepted, IdPair, TabletPair, CloneRecord}
 use Rattle.model.specs.Parts.{Master}
-use Rattle.model.specs.Restored.{clone_map}
 use Rattle.model.specs.Lists.{active_tablets, listing, numbered_as, with_snapshot}
+use Rattle.model.specs.Restored.{clone_map}
 use Rattle.model.specs.Looks.{free_slots}
 
 abbrev pub next_namespace : Master → Id
@@ -149,6 +149,19 @@ tablet_split parent code low_slot high_slot n m = record m {
   drawn = record m.drawn { tablets = m.drawn.tablets + 2 };
 }
 
+-- a namespace is scheduled from its first schedule on
+abbrev pub begin_scheduled :
+    Option ScheduledNamespace → Id → ℕ → List ScheduledNamespace → List ScheduledNamespace
+begin_scheduled (Some k) ns n ks = ks
+begin_scheduled None ns n ks = ks ++ record { namespace = ns; since = n; last = None; complete = None } ∷ []
+
+-- until its last schedule is deleted
+abbrev pub still_scheduled : List Schedule → List ScheduledNamespace → List ScheduledNamespace
+still_scheduled ss ks = filter (λ k. is_some (schedule_of ss k.namespace)) ks
+
+abbrev pub without_schedule : Id → List Schedule → List Schedule
+without_schedule id ss = filter (λ s. not (same s.id id)) ss
+
 abbrev pub schedule_made : Id → ℕ → ℕ → ℕ → Master → Master
 schedule_made ns interval retention n m = record m {
   clock = n;
@@ -158,19 +171,24 @@ schedule_made ns interval retention n m = record m {
         namespace = ns;
         interval = interval;
         retention = retention;
+        made = n;
         kept_low = n;
         last = None;
-        complete = None;
       }
       ∷ [];
+  scheduled = begin_scheduled (scheduled_in m.scheduled ns) ns n m.scheduled;
   drawn = record m.drawn { schedules = m.drawn.schedules + 1 };
 }
 
 abbrev pub schedule_deleted : Id → ℕ → Master → Master
-schedule_deleted schedule n m = record m { clock = n; schedules = filter (λ s. not (same s.id schedule)) m.schedules }
+schedule_deleted schedule n m = let left = without_schedule schedule m.schedules in record m {
+  clock = n;
+  schedules = left;
+  scheduled = still_scheduled left m.scheduled;
+}
 
 abbrev pub snapshot_taken : Schedule → ℕ → Master → Master
-snapshot_taken s n m = record (with_snapshot s n m) { clock = n }
+snapshot_taken s n m = record (with_snapshot s.namespace s.id n m) { clock = n }
 
 -- a restoration begins by fencing the active tablets
 abbrev pub restoration_begun : Schedule → ℕ → ℕ → Master → Master

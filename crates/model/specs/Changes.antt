@@ -4,7 +4,7 @@ use Rattle.std.specs.Prelude.{ℕ, ◌+◌, not, ◌&&◌, List, [], ◌∷◌, 
 use Rattle.std.specs.List.{filter}
 use Rattle.std.specs.Option.{option_or, ok_or}
 use Rattle.std.specs.Str.{bytes_eq}
-use Rattle.row_values.specs.Ids.{Id}
+use Rattle.row_values.specs.Ids.{Id, same}
 use Rattle.row_values.specs.Slots.{same_slots}
 use Rattle.model.specs.Times.{is_open}
 use Rattle.row_values.specs.Store.{part_of}
@@ -13,16 +13,16 @@ use Rattle.model.specs.Catalog.{TableRecord, namespace_named, current_named, cur
 use Rattle.model.specs.Activity.{Interval}
 use Rattle.model.specs.Tablets.{Tablet, TabletAct, Make, Child, SetVersion, HideSince, Told}
 use Rattle.model.specs.Records.{Schedule, CloneRecord, is_visible, schedule_with, schedule_of, unfinished_of}
-use Rattle.model.specs.Acts.{Command, CreateNamespace, DropNamespace, CreateTable, AddColumn, DropColumn, RenameTable, DropTable, Split, CreateSchedule, DeleteSchedule, TakeSnapshot, Restore, CloneNamespace, ListSchedules, ListSnapshots, ListRestorations, ListClones, ListTablets, Refusal, UnknownColumn, UnknownSchedule, BadPeriod, NameTaken, ScheduleExists, NotEmpty, UnderSchedule, NoSchedule, TooMany, SlotsFull, TooEarly, Future, Busy, StalePlan, TooNarrow, NotDue, Ok, Schedules, Snapshots, Restorations, Clones, Tablets}
+use Rattle.model.specs.Acts.{Command, CreateNamespace, DropNamespace, CreateTable, AddColumn, DropColumn, RenameTable, DropTable, Split, CreateSchedule, DeleteSchedule, TakeSnapshot, Restore, CloneNamespace, ListSchedules, ListSnapshots, ListRestorations, ListClones, ListTablets, Refusal, UnknownColumn, UnknownSchedule, BadPeriod, NameTaken, NotEmpty, UnderSchedule, NoSchedule, TooMany, SlotsFull, TooEarly, Future, Busy, StalePlan, TooNarrow, NotDue, Ok, Schedules, Snapshots, Restorations, Clones, Tablets}
 use Rattle.model.specs.Parts.{Master, Parts, MasterAct, MakesNamespace, DropsNamespace, MakesTable, AddsColumn, DropsColumn, RenamesTable, DropsTable, SplitsTablet, MakesSchedule, DeletesSchedule, TakesSnapshot, BeginsRestoration, BeginsClone, Outcome, Check, If, Names, checked, and_found, decided, judged, answered}
-use Rattle.model.specs.Schedules.{is_period, low, next_due, is_due}
+use Rattle.model.specs.Schedules.{is_period, low, least_low, next_due, is_due}
 use Rattle.model.specs.Lists.{next_snapshot}
 use Rattle.model.specs.Operations.{holder, user}
 use Rattle.model.specs.Looks.{free_slots, found_namespace, found_table, Parent, found_parent, Family, found_family, plan_of}
 use Rattle.model.specs.Changed.{next_namespace, next_table, next_schedule, next_restoration, next_clone, next_tablet, shares, children, sources, clone_time}
 use Rattle.model.specs.Lines.{schedule_lines, snapshot_lines, restoration_lines, clone_lines, tablet_lines}
 
--- the most current namespaces, tables of a namespace, and columns of a table
+-- the most current namespaces, tables and schedules of a namespace, and columns of a table
 abbrev pub most_namespaces : ℕ
 most_namespaces = 64
 
@@ -31,6 +31,12 @@ most_tables = 64
 
 abbrev pub most_columns : ℕ
 most_columns = 16
+
+abbrev pub most_schedules : ℕ
+most_schedules = 8
+
+abbrev pub count_schedules : List Schedule → Id → ℕ
+count_schedules ss ns = length (filter (λ s. same s.namespace ns) ss)
 
 -- the clone that is to make a namespace of this name
 abbrev pub clone_named : List CloneRecord → List ℕ → Option Id
@@ -58,9 +64,9 @@ table_id t = option_map {T = TableRecord} (λ t. t.id) t
 abbrev pub schedule_id : Option Schedule → Option Id
 schedule_id s = option_map {T = Schedule} (λ s. s.id) s
 
--- the operation that uses a schedule's namespace, or else the schedule's unfinished snapshot
+-- the operation that uses a schedule's namespace, or else the namespace's unfinished snapshot
 abbrev pub schedule_user : Master → Schedule → Option Id
-schedule_user m s = option_or (user m s.namespace) (unfinished_of m.snapshots s.id)
+schedule_user m s = option_or (user m s.namespace) (unfinished_of m.snapshots s.namespace)
 
 -- the tablets in the slots are told the same
 abbrev pub tell : List ℕ → TabletAct → List Told
@@ -220,7 +226,7 @@ split namespace table code n ps =
 abbrev pub create_schedule_checks : Id → ℕ → ℕ → Master → List Check
 create_schedule_checks ns interval retention m =
     Names (holder m ns) Busy
-    ∷ Names (schedule_id (schedule_of m.schedules ns)) ScheduleExists
+    ∷ If (count_schedules m.schedules ns == most_schedules) (TooMany most_schedules)
     ∷ If (not (is_period interval retention)) (BadPeriod interval retention)
     ∷ []
 
@@ -275,28 +281,36 @@ restore schedule to n m =
 abbrev pub unused_checks : Id → Master → List Check
 unused_checks ns m = Names (user m ns) Busy ∷ []
 
--- the schedule of a namespace that is found
-abbrev pub scheduled : Result Id Refusal → Master → Result Schedule Refusal
-scheduled (Denied why) m = Denied why
-scheduled (Granted ns) m = ok_or (schedule_of m.schedules ns) (NoSchedule ns)
+-- a namespace that may be cloned, to times from the least low end of its schedules' windows on
+pub record CloneSource : Type 0 where
+  pub namespace : Id
+  pub least : ℕ
 
--- the schedule by which a namespace is cloned
-abbrev pub found_source : Master → List ℕ → Result Schedule Refusal
-found_source m source = scheduled (checked (found_namespace m source) (λ ns. unused_checks ns m)) m
+abbrev pub source_from : Id → Option ℕ → Option CloneSource
+source_from ns least = option_map (λ l. record { namespace = ns; least = l }) least
 
-abbrev pub clone_checks : Schedule → List ℕ → ℕ → ℕ → Master → List Check
+-- a namespace that is found, where it has a schedule
+abbrev pub with_window : Result Id Refusal → ℕ → Master → Result CloneSource Refusal
+with_window (Denied why) n m = Denied why
+with_window (Granted ns) n m = ok_or (source_from ns (least_low m.schedules ns n)) (NoSchedule ns)
+
+-- the namespace that is cloned
+abbrev pub found_source : Master → List ℕ → ℕ → Result CloneSource Refusal
+found_source m source n = with_window (checked (found_namespace m source) (λ ns. unused_checks ns m)) n m
+
+abbrev pub clone_checks : CloneSource → List ℕ → ℕ → ℕ → Master → List Check
 clone_checks s target to n m =
     let free = length (free_slots m) in
     let needed = length (sources m s.namespace to) in
     Names (named m target) NameTaken
     ∷ If (count_namespaces m == most_namespaces) (TooMany most_namespaces)
-    ∷ If (nat_lt to (low s n)) (TooEarly (low s n))
+    ∷ If (nat_lt to s.least) (TooEarly s.least)
     ∷ If (nat_le n to) (Future n)
     ∷ If (nat_lt free needed) (SlotsFull free needed)
     ∷ []
 
-abbrev pub judge_clone : List ℕ → List ℕ → ℕ → ℕ → Master → Result Schedule Refusal
-judge_clone source target to n m = checked (found_source m source) (λ s. clone_checks s target to n m)
+abbrev pub judge_clone : List ℕ → List ℕ → ℕ → ℕ → Master → Result CloneSource Refusal
+judge_clone source target to n m = checked (found_source m source n) (λ s. clone_checks s target to n m)
 
 unfoldable pub clone_namespace : List ℕ → List ℕ → Option ℕ → ℕ → Master → Outcome
 clone_namespace source target at n m =

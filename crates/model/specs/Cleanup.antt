@@ -9,15 +9,15 @@ use Rattle.model.specs.Times.{ended_by}
 use Rattle.model.specs.Catalog.{NamespaceRecord, TableRecord, KeptFrom, Catalog, owner_of}
 use Rattle.model.specs.Activity.{Interval, last_of, forget}
 use Rattle.model.specs.Tablets.{Tablet as TabletPart, Presence, EmptyPart, ServingPart, HiddenPart, Empty, Clear, DropFrozen, standing, is_hidden}
-use Rattle.model.specs.Records.{Listed, SnapshotRecord, RestorationRecord, CloneRecord, named_by_restoration, named_by_clone, is_restored, is_cloned, lists_tablet, schedule_of, snapshot_with}
+use Rattle.model.specs.Records.{Listed, SnapshotRecord, RestorationRecord, CloneRecord, named_by_restoration, named_by_clone, is_restored, is_cloned, lists_tablet, snapshot_with}
 use Rattle.model.specs.Acts.{Refusal, UnknownSnapshot, Moved, StalePlan, InWindow, IsListed, Removal, Removed, Pruned}
 use Rattle.model.specs.Parts.{Master, Parts, Outcome, If, Fault, Removes, Prunes, judged, refused}
-use Rattle.model.specs.Schedules.{floor, history_retention}
+use Rattle.model.specs.Schedules.{floor, least_low, history_retention}
 use Rattle.model.specs.Operations.{time_of_user}
 
 -- the floor of a namespace at a stamp
 abbrev pub floor_of : Master → Id → ℕ → ℕ
-floor_of m ns n = floor (schedule_of m.schedules ns) (time_of_user m ns) n
+floor_of m ns n = floor (least_low m.schedules ns n) (time_of_user m ns) n
 
 -- the floor of a table's namespace
 abbrev pub floor_of_table : Master → Id → ℕ → ℕ

@@ -1,11 +1,11 @@
 -- How the records of snapshots, restorations and clones move from state to state. A move waits for the listed tablets,
 -- and some for a snapshot. It clears the acks and the sent marks of its record.
 use Rattle.std.specs.Prelude.{ℕ, Bool, true, false, List, [], ◌++◌, Option, Some, None, ◌&&◌, ◌+◌, is_some, map, if◌then◌else◌}
-use Rattle.std.specs.Option.{unwrap_or, option_map, option_map_or, option_and_then}
+use Rattle.std.specs.Option.{unwrap_or, option_map, option_map_or}
 use Rattle.std.specs.List.{list_any, filter}
 use Rattle.row_values.specs.Ids.{Id, Kind, Namespace, Table, Tablet, Schedule as ScheduleKind, Snapshot, Restoration, Clone, same}
 use Rattle.model.specs.Tablets.{Body, Fence, Freeze, RestoreFrom, Hide, Copy, Release, Command}
-use Rattle.model.specs.Records.{Listed, Schedule, SnapshotRecord, RestorationRecord, CloneRecord, TabletPair, RestorationState, Fencing, Snapshotting, Switching, Restoring, Releasing, Restored, CloneState, Accepted, CloneSnapshot, Copying, CloneReleasing, CloneComplete, State, IsComplete, IsSnapshot, IsSwitching, IsRestoring, IsReleasing, IsRestored, IsCopying, first_unacked, unacked, unsent, schedule_with, schedule_of, unfinished_of}
+use Rattle.model.specs.Records.{Listed, Schedule, ScheduledNamespace, SnapshotRecord, RestorationRecord, CloneRecord, TabletPair, RestorationState, Fencing, Snapshotting, Switching, Restoring, Releasing, Restored, CloneState, Accepted, CloneSnapshot, Copying, CloneReleasing, CloneComplete, State, IsComplete, IsSnapshot, IsSwitching, IsRestoring, IsReleasing, IsRestored, IsCopying, first_unacked, unacked, unsent, schedule_of, unfinished_of}
 use Rattle.model.specs.Acts.{NotPending, Waiting, Advanced}
 use Rattle.model.specs.Parts.{Master, Parts, Outcome, Moves, refused}
 use Rattle.model.specs.Schedules.{serving}
@@ -104,21 +104,17 @@ is_complete rs id = list_any (λ r. same r.id id && r.complete) rs
 abbrev pub incomplete : List SnapshotRecord → Id → Option Id
 incomplete rs id = if is_complete rs id then None else Some id
 
--- the schedule's snapshot that serves a time; a clone's schedule is that of its source
-abbrev pub serving_of : Option Schedule → List SnapshotRecord → ℕ → Option SnapshotRecord
-serving_of schedule rs to = option_and_then (λ s. serving rs s.id to) schedule
-
 abbrev pub id_of_snapshot : Option SnapshotRecord → Option Id
 id_of_snapshot found = option_map {T = SnapshotRecord} (λ s. s.id) found
 
 abbrev pub serving_restoration : Master → RestorationRecord → Option SnapshotRecord
-serving_restoration m r = serving m.snapshots r.schedule r.to
+serving_restoration m r = serving m.snapshots r.namespace r.to
 
 abbrev pub serving_clone : Master → CloneRecord → Option SnapshotRecord
-serving_clone m r = serving_of (schedule_of m.schedules r.source) m.snapshots r.to
+serving_clone m r = serving m.snapshots r.source r.to
 
 abbrev pub awaited_by_restoration : RestorationState → Master → RestorationRecord → Option Id
-awaited_by_restoration Fencing m r = unfinished_of m.snapshots r.schedule
+awaited_by_restoration Fencing m r = unfinished_of m.snapshots r.namespace
 awaited_by_restoration (Snapshotting point own) m r = incomplete m.snapshots own
 awaited_by_restoration (Switching point serving) m r = None
 awaited_by_restoration (Restoring point serving) m r = None
@@ -126,10 +122,7 @@ awaited_by_restoration (Releasing point serving) m r = None
 awaited_by_restoration (Restored point serving) m r = None
 
 abbrev pub awaited_by_clone : CloneState → Master → CloneRecord → Option Id
-awaited_by_clone Accepted m r =
-    if is_some (serving_clone m r)
-    then None
-    else option_and_then (λ s. unfinished_of m.snapshots s.id) (schedule_of m.schedules r.source)
+awaited_by_clone Accepted m r = if is_some (serving_clone m r) then None else unfinished_of m.snapshots r.source
 awaited_by_clone (CloneSnapshot own) m r = incomplete m.snapshots own
 awaited_by_clone (Copying serving copied_at) m r = None
 awaited_by_clone (CloneReleasing serving copied_at) m r = None
@@ -251,11 +244,6 @@ advance operation n ps = advancing (progress_of operation.kind ps.master operati
 
 -- What a move makes of the master
 
--- a new snapshot of the schedule, on behalf of an operation
-abbrev pub with_own_snapshot : Option Schedule → ℕ → Master → Master
-with_own_snapshot None n m = m
-with_own_snapshot (Some s) n m = with_snapshot s n m
-
 -- a record enters a state, with the tablets that it lists there
 
 abbrev pub restoration_enters : RestorationRecord → RestorationState → List Listed → ℕ → Master → Master
@@ -278,13 +266,13 @@ clone_enters r state listed n m = record m {
   sent = unsent r.id m.sent;
 }
 
--- a snapshot is complete, and its time is that of the schedule's last complete one
+-- a snapshot is complete, and its time is that of the namespace's last complete one
 abbrev pub completed : SnapshotRecord → ℕ → Master → Master
 completed r n m = record m {
   clock = n;
-  schedules = map {A = Schedule}
-      (λ s. record s { complete = if same s.id r.schedule then Some r.at else s.complete })
-      m.schedules;
+  scheduled = map {A = ScheduledNamespace}
+      (λ k. record k { complete = if same k.namespace r.namespace then Some r.at else k.complete })
+      m.scheduled;
   snapshots = map {A = SnapshotRecord} (λ x. record x {
     complete = if same x.id r.id then (snapshot_advanced x).complete else x.complete;
     listed = if same x.id r.id then (snapshot_advanced x).listed else x.listed;
@@ -300,7 +288,7 @@ restoration_goes state r n m beside =
 
 -- all is fenced: a restoration makes its own snapshot, so that what it undoes can be brought back
 abbrev pub with_restorations_snapshot : RestorationRecord → ℕ → Master → Master
-with_restorations_snapshot r n m = with_own_snapshot (schedule_with m.schedules r.schedule) n m
+with_restorations_snapshot r n m = with_snapshot r.namespace r.schedule n m
 
 -- the switch: from the point on, the catalog and the active tablets are those of the time
 abbrev pub switched : RestorationRecord → ℕ → Master → Master
@@ -325,10 +313,16 @@ clone_goes state serving r n m beside =
     let moved = clone_advanced state (given_clone state serving r n m) r in
     clone_enters r moved.state moved.listed n beside
 
--- where no snapshot serves its time, a clone makes one
+-- where no snapshot serves its time, a clone makes one, by the source's schedule with the least number
+abbrev pub with_clones_snapshot : Option Schedule → CloneRecord → ℕ → Master → Master
+with_clones_snapshot (Some s) r n m = with_snapshot r.source s.id n m
+with_clones_snapshot None r n m = m
+
 abbrev pub begins_clone : Option SnapshotRecord → CloneRecord → ℕ → Master → Master
 begins_clone (Some s) r n m = clone_goes Accepted (Some s.id) r n m m
-begins_clone None r n m = clone_goes Accepted None r n m (with_own_snapshot (schedule_of m.schedules r.source) n m)
+begins_clone None r n m =
+    clone_goes Accepted None r n m
+    (with_clones_snapshot (schedule_of m.schedules r.source) r n m)
 
 -- the target becomes current, its tablets active
 abbrev pub with_target : CloneRecord → ℕ → Master → Master

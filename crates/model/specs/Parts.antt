@@ -7,7 +7,7 @@ use Rattle.row_values.specs.Schema.{Column, ColumnKind, NewColumn}
 use Rattle.model.specs.Catalog.{TableRecord, Catalog, empty_catalog}
 use Rattle.model.specs.Activity.{Interval}
 use Rattle.model.specs.Tablets.{Tablet as TabletPart, Told, emptied}
-use Rattle.model.specs.Records.{Schedule as ScheduleRecord, SnapshotRecord, RestorationRecord, CloneRecord, Sent}
+use Rattle.model.specs.Records.{Schedule as ScheduleRecord, ScheduledNamespace, SnapshotRecord, RestorationRecord, CloneRecord, Sent}
 use Rattle.model.specs.Acts.{Refusal, Reply, Refused}
 
 -- how many identifiers of each kind were ever drawn; none is drawn again
@@ -26,6 +26,7 @@ pub record Master : Type 0 where
   pub catalog : Catalog
   pub activity : List Interval
   pub schedules : List ScheduleRecord
+  pub scheduled : List ScheduledNamespace
   pub snapshots : List SnapshotRecord
   pub restorations : List RestorationRecord
   pub clones : List CloneRecord
@@ -54,6 +55,7 @@ empty_master slots = record {
   catalog = empty_catalog;
   activity = [];
   schedules = [];
+  scheduled = [];
   snapshots = [];
   restorations = [];
   clones = [];

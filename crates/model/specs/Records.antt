@@ -11,18 +11,26 @@ pub record Listed : Type 0 where
   pub body : Body
   pub acked : Bool
 
--- periods in minutes; the stamp from which its window may begin; the times of its last snapshot and of its last
--- complete one, which stay when the snapshots' records are removed
+-- periods in minutes; the stamp at which it was made, and the one from which its window may begin; the time of the last
+-- snapshot whose record names it, which stays when that record is removed
 pub record Schedule : Type 0 where
   pub id : Id
   pub namespace : Id
   pub interval : ℕ
   pub retention : ℕ
+  pub made : ℕ
   pub kept_low : ℕ
+  pub last : Option ℕ
+
+-- a namespace that has schedules: the stamp since which it has one, and the times of its last snapshot that was made
+-- since then and of its last complete one, which stay when the snapshots' records are removed
+pub record ScheduledNamespace : Type 0 where
+  pub namespace : Id
+  pub since : ℕ
   pub last : Option ℕ
   pub complete : Option ℕ
 
--- a snapshot of a namespace at a time, and the time of the schedule's one before it
+-- a snapshot of a namespace at a time, by a schedule, and the time of the namespace's one before it
 pub record SnapshotRecord : Type 0 where
   pub id : Id
   pub complete : Bool
@@ -206,17 +214,20 @@ abbrev pub schedule_with : List Schedule → Id → Option Schedule
 schedule_with [] id = None
 schedule_with (s ∷ ss) id = if same s.id id then Some s else schedule_with ss id
 
--- the schedule of a namespace
+-- the schedule of a namespace that has the least number: schedules stand in the order of their numbers
 abbrev pub schedule_of : List Schedule → Id → Option Schedule
 schedule_of [] ns = None
 schedule_of (s ∷ ss) ns = if same s.namespace ns then Some s else schedule_of ss ns
+
+abbrev pub scheduled_in : List ScheduledNamespace → Id → Option ScheduledNamespace
+scheduled_in [] ns = None
+scheduled_in (k ∷ ks) ns = if same k.namespace ns then Some k else scheduled_in ks ns
 
 abbrev pub snapshot_with : List SnapshotRecord → Id → Option SnapshotRecord
 snapshot_with [] id = None
 snapshot_with (r ∷ rs) id = if same r.id id then Some r else snapshot_with rs id
 
--- the unfinished snapshot of a schedule
+-- the unfinished snapshot of a namespace
 abbrev pub unfinished_of : List SnapshotRecord → Id → Option Id
-unfinished_of [] schedule = None
-unfinished_of (r ∷ rs) schedule =
-    if same r.schedule schedule && not r.complete then Some r.id else unfinished_of rs schedule
+unfinished_of [] ns = None
+unfinished_of (r ∷ rs) ns = if same r.namespace ns && not r.complete then Some r.id else unfinished_of rs ns

@@ -1,6 +1,6 @@
 -- What retention keeps: while a time is retained, nothing removes a version, a frozen set, a tablet or a catalog record
 -- that it needs.
-use Rattle.std.specs.Prelude.{◌≡◌, ℕ, ◌≤◌, ◌<◌, true, false, List, [], ◌∷◌, Option, Some, None, ◌&&◌, ◌+◌, ◌-◌, max, not, nat_le, unwrap_or, if◌then◌else◌}
+use Rattle.std.specs.Prelude.{nat_lt, ◌-◌, ◌<◌, ◌≡◌, ℕ, ◌≤◌, true, false, List, [], ◌∷◌, Option, Some, None, ◌&&◌, ◌+◌, max, not, nat_le, unwrap_or, if◌then◌else◌}
 use Rattle.row_values.specs.Ids.{Id, same}
 use Rattle.std.specs.Option.{option_map}
 use Rattle.row_values.specs.Elements.{In}
@@ -8,8 +8,8 @@ use Rattle.row_values.specs.Store.{Version}
 use Rattle.model.specs.Catalog.{owns, kept_from}
 use Rattle.model.specs.Activity.{Interval, active_at, last_of}
 use Rattle.model.specs.Tablets.{Tablet, FrozenSet, set_of, is_empty}
-use Rattle.model.specs.Records.{Schedule, Listed, SnapshotRecord, RestorationRecord, CloneRecord, TabletPair, is_restored, is_cloned, lists_tablet}
-use Rattle.model.specs.Schedules.{complete_to, serving}
+use Rattle.model.specs.Records.{Schedule, ScheduledNamespace, Listed, SnapshotRecord, RestorationRecord, CloneRecord, TabletPair, is_restored, is_cloned, lists_tablet}
+use Rattle.model.specs.Schedules.{low, low, complete_to, serving}
 use Rattle.model.specs.Parts.{Master, Parts}
 use Rattle.model.specs.Cleanup.{floor_of}
 
@@ -18,10 +18,10 @@ pub record IsPresent (ps : Parts) (slot : ℕ) (tablet : Id) : Type 0 where
   pub held : is_empty (ps.tablet slot).presence ≡ false
   pub tablet_is : (ps.tablet slot).tablet ≡ tablet
 
--- the schedule's unfinished snapshot
+-- the namespace's unfinished snapshot
 abbrev pub unfinished : List SnapshotRecord → Id → Option SnapshotRecord
-unfinished [] schedule = None
-unfinished (r ∷ rs) schedule = if same r.schedule schedule && not r.complete then Some r else unfinished rs schedule
+unfinished [] ns = None
+unfinished (r ∷ rs) ns = if same r.namespace ns && not r.complete then Some r else unfinished rs ns
 
 -- a store from which a tablet's rows are had, and how far back it goes
 pub record Source : Type 0 where
@@ -46,9 +46,9 @@ abbrev pub source_at : Option SnapshotRecord → Option SnapshotRecord → Table
 source_at (Some r) left t to = option_map from_set (set_of t.frozen r.id)
 source_at None left t to = Some (not_yet_served left t to)
 
-abbrev pub source_for : Parts → Schedule → ℕ → ℕ → Option Source
-source_for ps s slot to =
-    source_at (serving ps.master.snapshots s.id to) (unfinished ps.master.snapshots s.id) (ps.tablet slot) to
+abbrev pub source_for : Parts → Id → ℕ → ℕ → Option Source
+source_for ps ns slot to =
+    source_at (serving ps.master.snapshots ns to) (unfinished ps.master.snapshots ns) (ps.tablet slot) to
 
 -- there is such a store, and it goes back to the time
 abbrev pub ReachesBack : Option Source → ℕ → Type 0
@@ -61,18 +61,24 @@ WillServe None (Some r) tablet to = to ≤ r.at → lists_tablet tablet r.listed
 WillServe None None tablet to = Unit {0}
 WillServe (Some r) left tablet to = Unit {0}
 
--- all snapshots of a schedule that were ever taken, from a time on: times rise, and each names that of the one before
-abbrev pub TimesRise : List SnapshotRecord → Id → ℕ → Type 0
-TimesRise [] schedule before = Unit {0}
-TimesRise (r ∷ rs) schedule before =
-    (same r.schedule schedule ≡ true → (r.after ≡ before) × (before < r.at))
-    × TimesRise rs schedule (if same r.schedule schedule then r.at else before)
+-- the time of the snapshot before the next one among those that were made since a stamp, the last of all being of this
+-- time; just before the stamp for the first
+abbrev pub before_next : ℕ → ℕ → ℕ
+before_next since last = if nat_lt last since then since - 1 else last
 
--- at most one snapshot of the schedule is unfinished
+-- all snapshots of a namespace that were ever taken, behind one of a time: times rise, and each that was made since the
+-- stamp names the time of the one before it
+abbrev pub TimesRise : List SnapshotRecord → Id → ℕ → ℕ → Type 0
+TimesRise [] ns since last = Unit {0}
+TimesRise (r ∷ rs) ns since last =
+    (same r.namespace ns ≡ true → (last < r.at) × (since ≤ r.at → r.after ≡ before_next since last))
+    × TimesRise rs ns since (if same r.namespace ns then r.at else last)
+
+-- at most one snapshot of the namespace is unfinished
 abbrev pub OneUnfinished : List SnapshotRecord → Id → Type 0
-OneUnfinished [] schedule = Unit {0}
-OneUnfinished (r ∷ rs) schedule =
-    (same r.schedule schedule ≡ true → r.complete ≡ false → unfinished rs schedule ≡ None) × OneUnfinished rs schedule
+OneUnfinished [] ns = Unit {0}
+OneUnfinished (r ∷ rs) ns =
+    (same r.namespace ns ≡ true → r.complete ≡ false → unfinished rs ns ≡ None) × OneUnfinished rs ns
 
 -- the floor of a namespace at this moment
 abbrev pub floor_now : Master → Id → ℕ
@@ -84,25 +90,31 @@ IsTabletOf m ns i = owns m.catalog.owners ns i.table ≡ true
 
 -- what is kept for a namespace with a schedule. `activity` has the intervals of all tablets that ever were, and `taken`
 -- the records of all snapshots, as they were made
-pub record RetainedFor (ps : Parts) (activity : List Interval) (taken : List SnapshotRecord) (s : Schedule)
-    : Type 0 where
+pub record RetainedFor (ps : Parts) (activity : List Interval) (taken : List SnapshotRecord)
+    (k : ScheduledNamespace) : Type 0 where
   -- each tablet that was active from the floor on is present
-  pub active_present : (i : Interval) (x : ℕ) → In i activity → IsTabletOf ps.master s.namespace i
-      → floor_now ps.master s.namespace ≤ x → active_at x i ≡ true → IsPresent ps i.slot i.tablet
+  pub active_present : (i : Interval) (x : ℕ) → In i activity → IsTabletOf ps.master k.namespace i
+      → floor_now ps.master k.namespace ≤ x → active_at x i ≡ true → IsPresent ps i.slot i.tablet
   -- its rows at each time from the floor on can be had
-  pub reaches : (i : Interval) (to : ℕ) → In i activity → IsTabletOf ps.master s.namespace i
-      → floor_now ps.master s.namespace ≤ to → to ≤ ps.master.clock → active_at to i ≡ true
-      → ReachesBack (source_for ps s i.slot to) to
-      × WillServe (serving ps.master.snapshots s.id to) (unfinished ps.master.snapshots s.id) i.tablet to
+  pub reaches : (i : Interval) (to : ℕ) → In i activity → IsTabletOf ps.master k.namespace i
+      → floor_now ps.master k.namespace ≤ to → to ≤ ps.master.clock → active_at to i ≡ true
+      → ReachesBack (source_for ps k.namespace i.slot to) to
+      × WillServe
+      (serving ps.master.snapshots k.namespace to)
+      (unfinished ps.master.snapshots k.namespace)
+      i.tablet
+      to
   -- a cutoff passes neither what is complete, or the start of its tablet's last activity, nor the master's clock
   pub cutoffs : (slot : ℕ) (i : Interval) → is_empty (ps.tablet slot).presence ≡ false
-      → last_of ps.master.activity (ps.tablet slot).tablet ≡ Some i → IsTabletOf ps.master s.namespace i
-      → ((ps.tablet slot).cutoff ≤ max (complete_to s.complete s + 1) i.from)
+      → last_of ps.master.activity (ps.tablet slot).tablet ≡ Some i → IsTabletOf ps.master k.namespace i
+      → ((ps.tablet slot).cutoff ≤ max (complete_to k + 1) i.from)
       × ((ps.tablet slot).cutoff ≤ ps.master.clock)
-  pub times : TimesRise taken s.id (s.kept_low - 1)
-  pub unfinished_one : OneUnfinished ps.master.snapshots s.id
+  pub times : TimesRise taken k.namespace k.since 0
+  pub unfinished_one : OneUnfinished ps.master.snapshots k.namespace
+  -- the windows of its schedules begin since then
+  pub since : (s : Schedule) → In s ps.master.schedules → s.namespace ≡ k.namespace → k.since ≤ low s ps.master.clock
   -- the catalog is kept from the floor on
-  pub catalog : kept_from ps.master.catalog.kept_from s.namespace ≤ floor_now ps.master s.namespace
+  pub catalog : kept_from ps.master.catalog.kept_from k.namespace ≤ floor_now ps.master k.namespace
 
 -- a record in progress finds its tablets
 pub record ListedPresent (ps : Parts) : Type 0 where
@@ -115,7 +127,7 @@ pub record ListedPresent (ps : Parts) : Type 0 where
 
 -- what retention keeps at each moment
 pub record Retained (ps : Parts) (activity : List Interval) (taken : List SnapshotRecord) : Type 0 where
-  pub scheduled : (s : Schedule) → In s ps.master.schedules → RetainedFor ps activity taken s
+  pub scheduled : (k : ScheduledNamespace) → In k ps.master.scheduled → RetainedFor ps activity taken k
   pub listed : ListedPresent ps
   -- also without a schedule no cutoff, and no mark of the catalog, passes the master's clock
   pub cutoffs : (slot : ℕ) → is_empty (ps.tablet slot).presence ≡ false → (ps.tablet slot).cutoff ≤ ps.master.clock

@@ -13,7 +13,7 @@ use Rattle.row_values.specs.Ranges.{in_range}
 use Rattle.model.specs.Catalog.{owner_of}
 use Rattle.model.specs.Activity.{Interval}
 use Rattle.model.specs.Tablets.{Tablet, FrozenSet, standing, is_empty, serves, RaiseCutoff, Write as WriteRows, Compact as CompactRows, Restart as RestartTablet}
-use Rattle.model.specs.Records.{Schedule, schedule_of}
+use Rattle.model.specs.Records.{ScheduledNamespace, scheduled_in}
 use Rattle.model.specs.Acts.{At, Refusal, Future, Fenced, Moved, StaleSchema, TooOld, Ok, Rows, CutoffAt, Compacted, Counts, NoTablet}
 use Rattle.model.specs.Parts.{Master, Parts, Ticks, Restarts, Outcome, If, Names, Fault, judged, answered}
 use Rattle.model.specs.Schedules.{allowed_cutoff}
@@ -125,16 +125,20 @@ abbrev pub table_in : List Interval → ℕ → Option Id
 table_in [] slot = None
 table_in (i ∷ is) slot = if i.slot == slot then Some i.table else table_in is slot
 
--- the schedule of the namespace of the tablet in a slot. The target of a clone has none before it is current
-abbrev pub schedule_at : Master → ℕ → Option Schedule
-schedule_at m slot =
+-- the namespace of the tablet in a slot, where it is scheduled. The target of a clone isn't before it is current
+abbrev pub scheduled_at : Master → ℕ → Option ScheduledNamespace
+scheduled_at m slot =
     let ns = option_and_then (owner_of m.catalog.owners) (table_in m.activity slot) in
-    option_and_then (schedule_of m.schedules) ns
+    option_and_then (scheduled_in m.scheduled) ns
+
+-- how far a tablet's cutoff may be raised
+abbrev pub allowed_of : Option ScheduledNamespace → ℕ → ℕ
+allowed_of found n = allowed_cutoff (option_map (λ k. k.since) found) (option_and_then (λ k. k.complete) found) n
 
 unfoldable pub cutoff : ℕ → ℕ → Parts → Outcome
 cutoff slot n ps =
     let t = ps.tablet slot in
-    let to = allowed_cutoff (schedule_at ps.master slot) n in
+    let to = allowed_of (scheduled_at ps.master slot) n in
     judged
     (If (is_empty t.presence) (has_moved slot t) ∷ [])
     (record {

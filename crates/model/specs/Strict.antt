@@ -9,12 +9,12 @@ use Rattle.model.specs.Catalog.{is_owned_by}
 use Rattle.model.specs.Activity.{Interval}
 use Rattle.model.specs.Tablets.{Standing, BodyKind}
 use Rattle.model.specs.Records.{State}
-use Rattle.model.specs.Acts.{Command, CreateNamespace, DropNamespace, CreateTable, AddColumn, DropColumn, RenameTable, DropTable, Split, CreateSchedule, DeleteSchedule, TakeSnapshot, Restore, CloneNamespace, ListSchedules, ListSnapshots, ListRestorations, ListClones, ListTablets, Ask, AskPlan, AskKeys, AskTable, AskWork, AskRemovable, AskPresent, Act, Look, Change, Write, Read, Cutoff, Compact, Send, Process, Ack, Advance, Remove, Prune, Restart, Stats, Refusal, UnknownNamespace, UnknownTable, UnknownColumn, UnknownSchedule, UnknownSnapshot, BadPeriod, NameTaken, ScheduleExists, NotEmpty, UnderSchedule, TooMany, SlotsFull, Busy, Fenced, Moved, StaleSchema, StalePlan, TooNarrow, NotDue, NotPending, Idle, OtherSlot, NotDone, Waiting, InWindow, IsListed, WorkItem, Removal, ScheduleLine, SnapshotLine, RestorationLine, CloneLine, TabletLine, Reply, Ok, Planned, Work, Removable, Present, CutoffAt, Compacted, SentTo, Done, Acked, Advanced, Removed, Pruned, Counts, NoTablet, Schedules, Snapshots, Restorations, Clones, Tablets, Refused}
+use Rattle.model.specs.Acts.{Command, CreateNamespace, DropNamespace, CreateTable, AddColumn, DropColumn, RenameTable, DropTable, Split, CreateSchedule, DeleteSchedule, TakeSnapshot, Restore, CloneNamespace, ListSchedules, ListSnapshots, ListRestorations, ListClones, ListTablets, Ask, AskPlan, AskKeys, AskTable, AskWork, AskRemovable, AskPresent, Act, Look, Change, Write, Read, Cutoff, Compact, Send, Process, Ack, Advance, Remove, Prune, Restart, Stats, Refusal, UnknownNamespace, UnknownTable, UnknownColumn, UnknownSchedule, UnknownSnapshot, BadPeriod, NameTaken, NotEmpty, UnderSchedule, TooMany, SlotsFull, Busy, Fenced, Moved, StaleSchema, StalePlan, TooNarrow, NotDue, NotPending, Idle, OtherSlot, NotDone, Waiting, InWindow, IsListed, WorkItem, Removal, ScheduleLine, SnapshotLine, RestorationLine, CloneLine, TabletLine, Reply, Ok, Planned, Work, Removable, Present, CutoffAt, Compacted, SentTo, Done, Acked, Advanced, Removed, Pruned, Counts, NoTablet, Schedules, Snapshots, Restorations, Clones, Tablets, Refused}
 use Rattle.model.specs.Parts.{Parts}
 use Rattle.model.specs.Journal as made
 use Rattle.model.specs.Journal.{ChangeAct, NamespaceMade, NamespaceDropped, TableMade, TableRenamed, TableDropped, ColumnAdded, ColumnDropped, RowChanged, NamespaceRestored, NamespaceCloned, owner_in}
 use Rattle.model.specs.Looks.{plan_of}
-use Rattle.model.specs.Changes.{most_namespaces, most_tables, most_columns}
+use Rattle.model.specs.Changes.{most_namespaces, most_tables, most_columns, most_schedules}
 use Rattle.model.specs.Entries.{Entry}
 use Rattle.model.specs.Right.{is_fixed, StillSame}
 use Rattle.model.specs.Stands.{Cover}
@@ -112,8 +112,7 @@ CommandAnswer (Split namespace table code) reply n ps changes =
     MakesTwo reply ⊎ RefusedAs (λ why. IsTableClosed why ⊎ (why ≡ TooNarrow code) ⊎ IsSlotsFull 2 why) reply
 CommandAnswer (CreateSchedule interval retention namespace) reply n ps changes =
     MakesOne reply
-    ⊎ RefusedAs (λ why. IsClosed why ⊎ ((schedule : Id) × (why ≡ ScheduleExists schedule))
-    ⊎ (why ≡ BadPeriod interval retention)) reply
+    ⊎ RefusedAs (λ why. IsClosed why ⊎ (why ≡ TooMany most_schedules) ⊎ (why ≡ BadPeriod interval retention)) reply
 CommandAnswer (DeleteSchedule schedule) reply n ps changes = MakesNone reply ⊎ RefusedAs IsScheduleClosed reply
 CommandAnswer (TakeSnapshot schedule) reply n ps changes =
     MakesOne reply

@@ -12,7 +12,7 @@ use Rattle.model.specs.Times.{holds_at, before_end}
 use Rattle.model.specs.Catalog.{NamespaceRecord, TableRecord, Catalog, tables_at, kept_from, owns}
 use Rattle.model.specs.Activity.{Interval, active_at, route}
 use Rattle.model.specs.Tablets.{set_of}
-use Rattle.model.specs.Records.{Schedule, SnapshotRecord, point_of}
+use Rattle.model.specs.Records.{ScheduledNamespace, SnapshotRecord, point_of}
 use Rattle.model.specs.Acts.{Act, Look, Change, Write, Read, Cutoff, Compact, Send, Process, Ack, Advance, Remove, Prune, Restart, Stats}
 use Rattle.model.specs.Parts.{Master, Parts}
 use Rattle.model.specs.Schedules.{history_retention, serving}
@@ -63,24 +63,24 @@ read_from (Some source) key x = read_of source.versions key x
 
 -- a tablet that was active at a time stays, and its rows of then are had as before. What it writes later than its clock
 -- isn't of then
-pub record TabletKept (before after : Parts) (s : Schedule) (to : ℕ) (i : Interval) : Type 0 where
+pub record TabletKept (before after : Parts) (ns : Id) (to : ℕ) (i : Interval) : Type 0 where
   pub present : IsPresent after i.slot i.tablet
   pub active : StillActive after.master.activity i to
-  pub set : SetKept (serving before.master.snapshots s.id to) i.slot before after
-  pub reaches : ReachesBack (source_for after s i.slot to) to
+  pub set : SetKept (serving before.master.snapshots ns to) i.slot before after
+  pub reaches : ReachesBack (source_for after ns i.slot to) to
   pub reads : (key : List ℕ) → let x = min to (before.tablet i.slot).clock in
-      read_from (source_for after s i.slot to) key x ≡ read_from (source_for before s i.slot to) key x
+      read_from (source_for after ns i.slot to) key x ≡ read_from (source_for before ns i.slot to) key x
 
--- all that a time of a schedule's namespace needs is still there: the catalog, the place of each code, the snapshot
+-- all that a time of a scheduled namespace needs is still there: the catalog, the place of each code, the snapshot
 -- that serves it, and the tablets with their rows
-pub record NeededKept (before after : Parts) (s : Schedule) (to : ℕ) : Type 0 where
-  pub catalog : CatalogKept before.master.catalog after.master.catalog s.namespace to
-  pub places : (table : Id) (code : ℕ) → owns before.master.catalog.owners s.namespace table ≡ true
+pub record NeededKept (before after : Parts) (ns : Id) (to : ℕ) : Type 0 where
+  pub catalog : CatalogKept before.master.catalog after.master.catalog ns to
+  pub places : (table : Id) (code : ℕ) → owns before.master.catalog.owners ns table ≡ true
       → option_map place_of (route after.master.activity table code to)
       ≡ option_map place_of (route before.master.activity table code to)
-  pub serves : StillServes (serving before.master.snapshots s.id to) (serving after.master.snapshots s.id to)
-  pub tablets : (i : Interval) → In i before.master.activity → IsTabletOf before.master s.namespace i
-      → active_at to i ≡ true → TabletKept before after s to i
+  pub serves : StillServes (serving before.master.snapshots ns to) (serving after.master.snapshots ns to)
+  pub tablets : (i : Interval) → In i before.master.activity → IsTabletOf before.master ns i
+      → active_at to i ≡ true → TabletKept before after ns to i
 
 -- the point of the unfinished restoration of a namespace
 abbrev pub point_in : Master → Id → Option ℕ
@@ -104,12 +104,12 @@ replaced_from Prune m ns = None
 replaced_from (Restart slot) m ns = None
 replaced_from (Stats slot) m ns = None
 
--- an act takes nothing that a time needs, from the floor of a namespace with a schedule up to the master's clock
+-- an act takes nothing that a time needs, from the floor of a scheduled namespace up to the master's clock
 abbrev pub TakesNothingNeeded : Act → Parts → Parts → Type 0
-TakesNothingNeeded act before after = (s : Schedule) (to : ℕ) → In s after.master.schedules
-    → floor_now after.master s.namespace ≤ to → to ≤ before.master.clock
-    → before_end to (replaced_from act before.master s.namespace) ≡ true
-    → NeededKept before after s to
+TakesNothingNeeded act before after = (k : ScheduledNamespace) (to : ℕ) → In k after.master.scheduled
+    → floor_now after.master k.namespace ≤ to → to ≤ before.master.clock
+    → before_end to (replaced_from act before.master k.namespace) ≡ true
+    → NeededKept before after k.namespace to
 
 -- The mark of a namespace's catalog
 

@@ -116,7 +116,6 @@ refusal_text acts.UnknownSnapshot = codes "unknown_snapshot"
 refusal_text acts.WrongKind = codes "wrong_kind"
 refusal_text (acts.BadPeriod interval retention) = codes "bad_period" ++ number_word interval ++ number_word retention
 refusal_text (acts.NameTaken by) = codes "name_taken" ++ id_word by
-refusal_text (acts.ScheduleExists schedule) = codes "schedule_exists" ++ id_word schedule
 refusal_text (acts.NotEmpty table) = codes "not_empty" ++ id_word table
 refusal_text (acts.UnderSchedule schedule) = codes "under_schedule" ++ id_word schedule
 refusal_text (acts.NoSchedule namespace) = codes "no_schedule" ++ id_word namespace

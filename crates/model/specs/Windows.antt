@@ -6,10 +6,10 @@ use Rattle.std.specs.List.{filter}
 use Rattle.row_values.specs.Ids.{Id}
 use Rattle.row_values.specs.Elements.{In}
 use Rattle.model.specs.Activity.{Interval, active_at}
-use Rattle.model.specs.Records.{Schedule, CloneRecord, is_visible, schedule_with, schedule_of}
+use Rattle.model.specs.Records.{Schedule, CloneRecord, is_visible, schedule_with}
 use Rattle.model.specs.Acts.{UnknownNamespace, UnknownSchedule, NameTaken, NoSchedule, TooMany, SlotsFull, TooEarly, Future, Busy, Reply, Ok, Refused}
 use Rattle.model.specs.Parts.{Master}
-use Rattle.model.specs.Schedules.{low, IsInWindow}
+use Rattle.model.specs.Schedules.{low, least_low, IsInWindow}
 use Rattle.model.specs.Operations.{user}
 use Rattle.model.specs.Looks.{free_slots}
 use Rattle.model.specs.Changes.{most_namespaces}
@@ -36,7 +36,7 @@ pub data RestoreAnswer (schedule : Id) (to now : ℕ) (m : Master) : Reply → T
   RestoreLate : (end : ℕ) (may : MayRestore m schedule) (end_is : end ≡ now) (reached : low may.by now ≤ to)
       (beyond : now ≤ to)
       → RestoreAnswer schedule to now m (Refused (Future end))
-  RestoreAccepted : (made : Id) (may : MayRestore m schedule) (inside : IsInWindow may.by now to)
+  RestoreAccepted : (made : Id) (may : MayRestore m schedule) (inside : IsInWindow (low may.by now) now to)
       → RestoreAnswer schedule to now m (Ok (made ∷ []))
 
 -- Clones
@@ -78,12 +78,12 @@ time_to_clone q = unwrap_or q.at (q.now - 1)
 abbrev pub HasSource : CloneLook → Type 0
 HasSource q = NamespaceFound q.changes q.now q.source
 
--- no operation uses the source, and it has a schedule
+-- no operation uses the source, and it has a schedule: the window begins at the least low end
 pub record MayTakeFrom (q : CloneLook) : Type 0 where
   pub source : HasSource q
   pub unused : user q.master source.id ≡ None
-  pub by : Schedule
-  pub scheduled : schedule_of q.master.schedules source.id ≡ Some by
+  pub least : ℕ
+  pub scheduled : least_low q.master.schedules source.id q.now ≡ Some least
 
 -- besides, the target's name is free, and there may be one more namespace
 pub record MayClone (q : CloneLook) : Type 0 where
@@ -101,7 +101,7 @@ pub data CloneAnswer (q : CloneLook) : Reply → Type 0 where
   CloneBusy : (operation : Id) (source : HasSource q) (used : user q.master source.id ≡ Some operation)
       → CloneAnswer q (Refused (Busy operation))
   CloneUnscheduled : (namespace : Id) (source : HasSource q) (unused : user q.master source.id ≡ None)
-      (none : schedule_of q.master.schedules source.id ≡ None) (namespace_is : namespace ≡ source.id)
+      (none : least_low q.master.schedules source.id q.now ≡ None) (namespace_is : namespace ≡ source.id)
       → CloneAnswer q (Refused (NoSchedule namespace))
   CloneNamed : (taken_by : Id) (from : MayTakeFrom q) (has : HasName q.changes q.now q.master.clones q.target taken_by)
       → CloneAnswer q (Refused (NameTaken taken_by))
@@ -109,13 +109,13 @@ pub data CloneAnswer (q : CloneLook) : Reply → Type 0 where
       (free : (id : Id) → HasName q.changes q.now q.master.clones q.target id → ⊥)
       (full : count_of_names q.changes q.now q.master.clones ≡ most_namespaces) (limit_is : limit ≡ most_namespaces)
       → CloneAnswer q (Refused (TooMany limit))
-  CloneEarly : (low_end : ℕ) (may : MayClone q) (low_is : low_end ≡ low may.from.by q.now)
-      (below : time_to_clone q < low may.from.by q.now)
+  CloneEarly : (low_end : ℕ) (may : MayClone q) (low_is : low_end ≡ may.from.least)
+      (below : time_to_clone q < may.from.least)
       → CloneAnswer q (Refused (TooEarly low_end))
-  CloneLate : (end : ℕ) (may : MayClone q) (end_is : end ≡ q.now) (reached : low may.from.by q.now ≤ time_to_clone q)
+  CloneLate : (end : ℕ) (may : MayClone q) (end_is : end ≡ q.now) (reached : may.from.least ≤ time_to_clone q)
       (beyond : q.now ≤ time_to_clone q) → CloneAnswer q (Refused (Future end))
-  CloneFull : (free needed : ℕ) (may : MayClone q) (inside : IsInWindow may.from.by q.now (time_to_clone q))
+  CloneFull : (free needed : ℕ) (may : MayClone q) (inside : IsInWindow may.from.least q.now (time_to_clone q))
       (free_is : free ≡ length (free_slots q.master)) (needed_is : needed ≡ slots_needed q may.from.source) (less : free < needed)
       → CloneAnswer q (Refused (SlotsFull free needed))
-  CloneAccepted : (made : Id) (may : MayClone q) (inside : IsInWindow may.from.by q.now (time_to_clone q))
+  CloneAccepted : (made : Id) (may : MayClone q) (inside : IsInWindow may.from.least q.now (time_to_clone q))
       (fits : slots_needed q may.from.source ≤ length (free_slots q.master)) → CloneAnswer q (Ok (made ∷ []))

@@ -37,6 +37,7 @@ mod KeptVersions
 mod Limits
 mod Places
 mod Taken
+mod SeveralSchedules
 mod WrongJournals
 mod WrongWindows
 mod WrongLooks

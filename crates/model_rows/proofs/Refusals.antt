@@ -1,6 +1,6 @@
 -- Refusals: fences, names that are taken, stale events, limits.
 use Rattle.std.proofs.Common.{◌≡◌, ℕ, [], ◌∷◌, ◌++◌, List, None, map, refl}
-use Rattle.model.specs.Acts.{AddColumn, BadPeriod, Busy, CloneNamespace, CreateTable, DropNamespace, DropTable, Fenced, Moved, NameTaken, NoSchedule, NotEmpty, NotPending, ScheduleExists, StalePlan, StaleSchema, TooMany, UnderSchedule, UnknownNamespace}
+use Rattle.model.specs.Acts.{AddColumn, BadPeriod, Busy, CloneNamespace, CreateTable, DropNamespace, DropTable, Fenced, Moved, NameTaken, NoSchedule, NotEmpty, NotPending, StalePlan, StaleSchema, TooMany, UnderSchedule, UnknownNamespace}
 use Rattle.row_values.specs.Schema.{IntColumn, NewColumn}
 use Rattle.model.specs.Tablets.{Serving}
 use Rattle.model_rows.specs.Computed.{the_book}
@@ -40,7 +40,7 @@ names_taken : shown
     ++ change (CloneNamespace c d None))
     ready
     ≡ refused (early 4) (NameTaken (N 1))
-    ++ refused (early 5) (ScheduleExists (S 1))
+    ++ ok (early 5) (S 2 ∷ [])
     ++ refused (early 6) (NotEmpty (T 1))
     ++ planned (early 7) (1 ∷ []) ++ ok (early 8) []
     ++ refused (early 9) (UnderSchedule (S 1))

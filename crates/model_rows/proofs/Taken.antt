@@ -7,14 +7,14 @@ use Rattle.model.specs.Acts.{Compact, Cutoff, Prune, Remove}
 use Rattle.model.specs.Catalog.{Catalog}
 use Rattle.model.specs.Retained.{floor_now}
 use Rattle.model.specs.Parts.{Parts}
-use Rattle.model.specs.Records.{Schedule}
+use Rattle.model.specs.Records.{ScheduledNamespace}
 use Rattle.model.specs.Tablets.{Tablet, emptied}
 use Rattle.model.specs.Taking.{NeededKept, MarkRaised, TabletKept, TakesNothingNeeded}
 use Rattle.model_rows.proofs.RightEntries.{only_one}
 use Rattle.model_rows.proofs.Numbers.{none_is_not_one}
 use Rattle.model_rows.specs.Computed.{the_book}
 use Rattle.model_rows.specs.Runs.{Run, after}
-use Rattle.model_rows.specs.Scripts.{B, N, P, S, a, compact, early, home, ht, put, ready, settle, since, t, take_snapshot, v_is, x}
+use Rattle.model_rows.specs.Scripts.{B, N, P, a, compact, early, home, ht, put, ready, settle, since, t, take_snapshot, v_is, x}
 
 -- two values of a row, at the tablet's stamps 3 and 4; the window begins at 3, the master's clock is 5
 abbrev filled_run : Run
@@ -23,8 +23,8 @@ filled_run = after (put a t (home 1) x (v_is 1) ++ put a t (home 1) x (v_is 2)) 
 abbrev filled : Parts
 filled = filled_run.parts
 
-abbrev schedule : Schedule
-schedule = record { id = S 1; namespace = N 1; interval = 1; retention = 10; kept_low = early 3; last = None; complete = None }
+abbrev scheduled : ScheduledNamespace
+scheduled = record { namespace = N 1; since = early 3; last = None; complete = None }
 
 abbrev with_tablets : (Tablet → Tablet) → Parts → Parts
 with_tablets changed ps = record ps { tablet = λ slot. changed (ps.tablet slot) }
@@ -36,7 +36,7 @@ with_catalog changed ps = record ps { master = record ps.master { catalog = chan
 folded_to_the_clock : TakesNothingNeeded (Compact 1) filled (with_tablets (λ t. record t { versions = kept t.versions (early 9) }) filled) → ⊥
 unfolding the_book
 folded_to_the_clock takes =
-    let needed = takes schedule (early 3) (inl refl) (leb-true _ _ refl) (leb-true _ _ refl) refl in
+    let needed = takes scheduled (early 3) (inl refl) (leb-true _ _ refl) (leb-true _ _ refl) refl in
     let e = (needed.tablets (since 2) (inl refl) refl refl).reads x in
     true≢false (sym (ap (λ row. row.present) e))
 
@@ -44,7 +44,7 @@ folded_to_the_clock takes =
 emptied_store : TakesNothingNeeded (Compact 1) filled (with_tablets (λ t. record t { versions = [] }) filled) → ⊥
 unfolding the_book
 emptied_store takes =
-    let needed = takes schedule (early 5) (inl refl) (leb-true _ _ refl) (leb-true _ _ refl) refl in
+    let needed = takes scheduled (early 5) (inl refl) (leb-true _ _ refl) (leb-true _ _ refl) refl in
     let e = (needed.tablets (since 2) (inl refl) refl refl).reads x in
     true≢false (sym (ap (λ row. row.present) e))
 
@@ -52,7 +52,7 @@ emptied_store takes =
 cut_too_far : TakesNothingNeeded (Cutoff 1) filled (with_tablets (λ t. record t { cutoff = early 4 }) filled) → ⊥
 unfolding the_book
 cut_too_far takes =
-    let needed = takes schedule (early 3) (inl refl) (leb-true _ _ refl) (leb-true _ _ refl) refl in
+    let needed = takes scheduled (early 3) (inl refl) (leb-true _ _ refl) (leb-true _ _ refl) refl in
     let reaches : early 4 ≤ early 3 = (needed.tablets (since 2) (inl refl) refl refl).reaches in
     omega arith
 
@@ -60,22 +60,22 @@ cut_too_far takes =
 tablet_removed : TakesNothingNeeded (Remove (B 1) (1 ∷ [])) filled (with_tablets (λ t. emptied t.clock) filled) → ⊥
 unfolding the_book
 tablet_removed takes =
-    let needed = takes schedule (early 3) (inl refl) (leb-true _ _ refl) (leb-true _ _ refl) refl in
+    let needed = takes scheduled (early 3) (inl refl) (leb-true _ _ refl) (leb-true _ _ refl) refl in
     true≢false ((needed.tablets (since 2) (inl refl) refl refl).present.held)
 
 -- the master forgets it
 forgotten : TakesNothingNeeded (Remove (B 1) (1 ∷ [])) filled (record filled { master = record filled.master { activity = [] } }) → ⊥
 unfolding the_book
 forgotten takes =
-    let needed = takes schedule (early 3) (inl refl) (leb-true _ _ refl) (leb-true _ _ refl) refl in
+    let needed = takes scheduled (early 3) (inl refl) (leb-true _ _ refl) (leb-true _ _ refl) refl in
     (needed.tablets (since 2) (inl refl) refl refl).active.listed
 
 -- a snapshot of stamp 5 that serves the window
 abbrev frozen : Parts
 frozen = (after (put a t (home 1) x (v_is 1) ++ take_snapshot ++ settle) ready).parts
 
-abbrev snapped : Schedule
-snapped = record schedule { last = Some (early 5); complete = Some (early 5) }
+abbrev snapped : ScheduledNamespace
+snapped = record scheduled { last = Some (early 5); complete = Some (early 5) }
 
 snapshot_removed : TakesNothingNeeded (Remove (P 1) (1 ∷ [])) frozen (record frozen { master = record frozen.master { snapshots = [] } }) → ⊥
 unfolding the_book
@@ -94,13 +94,13 @@ set_dropped takes =
 table_pruned : TakesNothingNeeded Prune filled (with_catalog (λ c. record c { tables = [] }) filled) → ⊥
 unfolding the_book
 table_pruned takes =
-    let needed = takes schedule (early 3) (inl refl) (leb-true _ _ refl) (leb-true _ _ refl) refl in
+    let needed = takes scheduled (early 3) (inl refl) (leb-true _ _ refl) (leb-true _ _ refl) refl in
     none_is_not_one (ap length needed.catalog.tables)
 
 namespace_pruned : TakesNothingNeeded Prune filled (with_catalog (λ c. record c { namespaces = [] }) filled) → ⊥
 unfolding the_book
 namespace_pruned takes =
-    let needed = takes schedule (early 3) (inl refl) (leb-true _ _ refl) (leb-true _ _ refl) refl in
+    let needed = takes scheduled (early 3) (inl refl) (leb-true _ _ refl) (leb-true _ _ refl) refl in
     none_is_not_one (ap length needed.catalog.names)
 
 abbrev marked_at : ℕ → Catalog → Catalog
@@ -109,7 +109,7 @@ marked_at from c = record c { kept_from = record { namespace = N 1; from = from 
 mark_too_high : TakesNothingNeeded Prune filled (with_catalog (marked_at (early 4)) filled) → ⊥
 unfolding the_book
 mark_too_high takes =
-    let needed = takes schedule (early 3) (inl refl) (leb-true _ _ refl) (leb-true _ _ refl) refl in
+    let needed = takes scheduled (early 3) (inl refl) (leb-true _ _ refl) (leb-true _ _ refl) refl in
     let kept : early 4 ≤ early 3 = needed.catalog.kept in
     omega arith
 
@@ -131,13 +131,13 @@ lowered raised =
 abbrev compacted : Parts
 compacted = (after (compact 1) filled_run).parts
 
-kept_for_each : (to : ℕ) → early 3 ≤ to → NeededKept filled compacted schedule to
+kept_for_each : (to : ℕ) → early 3 ≤ to → NeededKept filled compacted (N 1) to
 unfolding the_book
 kept_for_each to from = record {
   catalog = record { names = refl; tables = refl; kept = omega arith };
   places = λ table code owned. refl;
   serves = tt;
-  tablets = λ i inside owned active. subst (λ j. active_at to j ≡ true → TabletKept filled compacted schedule to j) (only_one i (since 2) inside)
+  tablets = λ i inside owned active. subst (λ j. active_at to j ≡ true → TabletKept filled compacted (N 1) to j) (only_one i (since 2) inside)
       (λ now. record {
         present = record { held = refl; tablet_is = refl };
         active = record { interval = since 2; listed = inl refl; place = refl; table = refl; active = now };
@@ -149,6 +149,6 @@ kept_for_each to from = record {
 
 compaction_takes_nothing : TakesNothingNeeded (Compact 1) filled compacted
 unfolding the_book
-compaction_takes_nothing s to listed from below point =
-    subst (λ r. floor_now compacted.master r.namespace ≤ to → NeededKept filled compacted r to) (only_one s schedule listed)
+compaction_takes_nothing k to listed from below point =
+    subst (λ r. floor_now compacted.master r.namespace ≤ to → NeededKept filled compacted r.namespace to) (only_one k scheduled listed)
     (λ low. kept_for_each to low) from

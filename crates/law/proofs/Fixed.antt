@@ -9,10 +9,10 @@ use Rattle.row_values.specs.Ids.{Id, same}
 use Rattle.row_values.specs.Schema.{numbered}
 use Rattle.model.specs.Catalog.{Owner, is_owned_by, owner_of}
 use Rattle.model.specs.Activity.{Interval}
-use Rattle.model.specs.Tablets.{Tablet, Write as WriteRows, is_serving, serves}
+use Rattle.model.specs.Tablets.{Told, Tablet, Write as WriteRows, is_serving, serves}
 use Rattle.model.specs.Records.{RestorationRecord, RestorationState, Switching, CloneRecord, first_unacked}
-use Rattle.std.specs.Prelude.{Result, Ok, Err, if◌then◌else◌}
-use Rattle.model.specs.Acts.{ListSchedules, ListSnapshots, ListRestorations, ListClones, ListTablets, Split, CreateSchedule, DeleteSchedule, TakeSnapshot, Restore, CloneNamespace, is_ok, StaleSchema, Fenced, At, Command, CreateNamespace, DropNamespace, CreateTable, AddColumn, DropColumn, RenameTable, DropTable, Act, Change, Write, Advance, Ok, Refusal, Ok as ReplyOk}
+use Rattle.std.specs.Prelude.{Result, Ok, Err}
+use Rattle.model.specs.Acts.{ListSchedules, ListSnapshots, ListRestorations, ListClones, ListTablets, Split, CreateSchedule, DeleteSchedule, TakeSnapshot, Restore, CloneNamespace, StaleSchema, Fenced, At, Command, CreateNamespace, DropNamespace, CreateTable, AddColumn, DropColumn, RenameTable, DropTable, Act, Change, Write, Advance, Ok, Refusal, Ok as ReplyOk}
 use Rattle.model.specs.Journal as made
 use Rattle.model.specs.Journal.{ChangeAct, TableView, table_at, owner_in}
 use Rattle.model.specs.Parts.{Master, Parts, MasterAct, MakesNamespace, DropsNamespace, MakesTable, AddsColumn, DropsColumn, RenamesTable, DropsTable, Moves, Ticks, Check, If, Names, Fault, Outcome, judged, decided, unless}
@@ -25,7 +25,7 @@ use Rattle.model.specs.Coordination.{unfinished_restoration, unfinished_clone}
 use Rattle.model.specs.Right.{fixes, is_fixed}
 use Rattle.model.specs.Strict.{FixedStays}
 use Rattle.model.specs.Entries.{Entry, ActAsked, slots_of}
-use Rattle.model.specs.History.{outcome, replay, journal_of, activity_of, Legal, with, rows_made, with_master, with_restoration, with_either, with_changes}
+use Rattle.model.specs.History.{outcome, replay, journal_of, activity_of, Legal, with, with_rows, rows_made, with_master, with_restoration, with_either, with_changes}
 use Rattle.law_cleanup.proofs.Forgetting.{not_false}
 use Rattle.law_invariants.specs.Invariant.{Inv, Later, Passes}
 use Rattle.law_invariants.specs.Operations.{RestorationStateGood}
@@ -114,8 +114,13 @@ change_still command slots n ps = unless_still _ (planned command slots n ps) (p
 
 -- Writes
 
--- where an act is accepted no refusal comes
-accepted : (checks : List Check) (o : Outcome) → is_ok (judged checks o).reply ≡ true → Passes checks
+-- whether tablets are told something
+abbrev is_told : List Told → Bool
+is_told [] = false
+is_told (one ∷ rest) = true
+
+-- where tablets are told something no refusal comes
+accepted : (checks : List Check) (o : Outcome) → is_told (judged checks o).tablets ≡ true → Passes checks
 accepted [] o e = tt
 accepted (If true why ∷ checks) o e = absurd (true≢false (sym e))
 accepted (If false why ∷ checks) o e = (refl, accepted checks o e)
@@ -128,7 +133,7 @@ record IsWritable (t : Tablet) : Type 0 where
   serving : is_serving t.presence ≡ true
   unfenced : t.fence ≡ None
 
-writable : (ps : Parts) (n : ℕ) (place : At) (version : ℕ) (batch : List Item) → is_ok (write place version batch n ps).reply ≡ true
+writable : (ps : Parts) (n : ℕ) (place : At) (version : ℕ) (batch : List Item) → is_told (write place version batch n ps).tablets ≡ true
     → IsWritable (ps.tablet place.slot)
 unfolding write
 writable ps n place version batch e =
@@ -187,9 +192,10 @@ advance_fixed ps activity changes n operation inv covered h =
 
 -- Each act
 
-if_written : (b : Bool) (new changes : List made.Change) → JournalFixed changes → (b ≡ true → JournalFixed new) → JournalFixed (if b then new else changes)
-if_written true new changes h written = written refl
-if_written false new changes h written = h
+if_written : (told : List Told) (n : ℕ) (table : Id) (batch : List Item) (changes : List made.Change) → JournalFixed changes
+    → (is_told told ≡ true → JournalFixed (rows_made n table batch changes)) → JournalFixed (with_rows told n table batch changes)
+if_written [] n table batch changes h written = h
+if_written (one ∷ rest) n table batch changes h written = written refl
 
 -- an advance tells the master to move its record, or nothing
 advanced_fixed : (p : Option Progress) (operation : Id) (n : ℕ) (m : Master) (changes : List made.Change) → JournalFixed changes
@@ -210,7 +216,7 @@ act_fixed (Change command plan) slots n ps activity changes os later asked cover
     master_fixed (change command plan n ps).master n ps.master changes os (change_still command plan n ps)
     (λ ns t fixed. let past : t ≤ ps.master.clock = inv.master.past ns t fixed in let less : ps.master.clock < n = later 0 refl in omega arith) inside h
 act_fixed (Write place version batch) slots n ps activity changes os later asked covered inv inside h =
-    if_written (is_ok (write place version batch n ps).reply) _ changes h
+    if_written (write place version batch n ps).tablets n (ps.tablet place.slot).table batch changes h
     (λ ok. written_fixed ps activity changes n place batch later asked.0.0 inv (writable ps n place version batch ok) h)
 act_fixed (Advance operation) slots n ps activity changes os later asked covered inv inside h =
     advanced_fixed (progress_of operation.kind ps.master operation) operation n ps.master changes h (advance_fixed ps activity changes n operation inv covered h)

@@ -29,13 +29,12 @@ use Rattle.law_changes.proofs.Told.{slots_equal}
 use Rattle.law.specs.Covering.{ActCovered, AdvanceCovered, CommandCovered, Covered}
 use Rattle.law_store.proofs.Keys.{either_way}
 use Rattle.law_invariants.proofs.Finding.{same_self, not_same, apart_by_number}
-use Rattle.model.specs.Records.{RestorationRecord, RestorationState, Fencing, Snapshotting, Switching, Restoring, Releasing, Restored, SnapshotRecord, CloneRecord, State, IsCreating, IsComplete, IsFencing, IsSnapshot, IsSwitching, IsRestoring, IsReleasing, IsRestored, IsAccepted, IsCopying, first_unacked, schedule_with}
+use Rattle.model.specs.Records.{RestorationRecord, RestorationState, Fencing, Snapshotting, Switching, Restoring, Releasing, Restored, SnapshotRecord, CloneRecord, State, IsCreating, IsComplete, IsFencing, IsSnapshot, IsSwitching, IsRestoring, IsReleasing, IsRestored, IsAccepted, IsCopying, first_unacked}
 use Rattle.model.specs.Coordination.{unfinished_snapshot, unfinished_restoration, unfinished_clone, acked_by}
-use Rattle.model.specs.Moves.{advance, advancing, moving, moved, moved_of, progress_of, snapshot_progress, restoration_progress, awaited_by_restoration, after_restoration, waits_for, with_own_snapshot, completed, restoration_enters, restoration_moved}
+use Rattle.model.specs.Moves.{advance, advancing, moving, moved, moved_of, progress_of, snapshot_progress, restoration_progress, awaited_by_restoration, after_restoration, waits_for, completed, restoration_enters, restoration_moved}
 use Rattle.model.specs.Cleanup.{prune, removed_of}
 use Rattle.law_moves.proofs.Advancing.{no_clone}
 use Rattle.law_moves.proofs.Pending.{unfinished_restoration_is}
-use Rattle.law_moves.proofs.Serving.{schedule_found}
 use Rattle.law.proofs.Plain.{is_weighty, may_weigh, act_none}
 use Rattle.law.proofs.Law.{legal_holds}
 use Rattle.std.specs.Option.{option_map, option_map_or}
@@ -265,17 +264,13 @@ own_move : (r : RestorationRecord) (operation : Id) (n : ℕ) (ps : Parts) (acti
 own_move r operation n ps activity changes kind found inv =
     let m = ps.master in
     let is = unfinished_restoration_is m.restorations operation r found in
-    let t = (inv.operations.restorations r is.0).scheduled is.1.1 in
-    let k = schedule_found m.schedules t.0 t.1.0 in
-    let scheduled : schedule_with m.schedules r.schedule ≡ Some k.0 = ap (schedule_with m.schedules) (sym t.1.1.0) ∙ k.1 in
-    let after = restoration_enters r (Snapshotting (n + 1) (next_snapshot m)) [] n (with_snapshot k.0 n m) in
+    let after = restoration_enters r (Snapshotting (n + 1) (next_snapshot m)) [] n (with_snapshot r.namespace r.schedule n m) in
     let own : own_of after operation ≡ next_snapshot m ∷ []
     = ap (λ ids. ids ++ option_map_or (λ c. own_of_clone c.state) (unfinished_clone m.clones operation) []) (own_found m.restorations r operation (next_snapshot m) (n + 1) is.1.0 found)
     ∙ ap (λ c. next_snapshot m ∷ option_map_or {T = CloneRecord} (λ c. own_of_clone c.state) c []) (no_clone m changes operation inv.operations (λ q. let e = sym kind ∙ q in grind arith)) in
-    subst (λ o. DrawsNext (Advance operation) (Advanced IsSnapshot) n m (restoration_enters r (Snapshotting (n + 1) (next_snapshot m)) [] n (with_own_snapshot o n m))) (sym scheduled)
-    (next_of (Advance operation) (Advanced IsSnapshot) n m after (omega arith, (refl, tt)) (omega arith, (refl, tt)) (omega arith, (refl, tt)) (omega arith, (refl, tt))
+    next_of (Advance operation) (Advanced IsSnapshot) n m after (omega arith, (refl, tt)) (omega arith, (refl, tt)) (omega arith, (refl, tt)) (omega arith, (refl, tt))
     (refl, (ap length own, subst (AreNext Snapshot m.drawn.snapshots) (sym own) (refl, tt)))
-    (omega arith, (refl, tt)) (omega arith, (refl, tt)))
+    (omega arith, (refl, tt)) (omega arith, (refl, tt))
 
 state_next : (state : RestorationState) (r : RestorationRecord) (operation : Id) (n : ℕ) (ps : Parts) (activity : List Interval) (changes : List Made) → operation.kind ≡ Restoration → unfinished_restoration ps.master.restorations operation ≡ Some r → Inv ps activity changes
     → DrawsNext (Advance operation) (Advanced (after_restoration state)) n ps.master (restoration_moved state r n ps.master)

@@ -6,7 +6,7 @@ use Rattle.std.proofs.lemmas.Bool.{cond_both}
 use Rattle.row_values.specs.Ids.{Id, Kind, Tablet, Snapshot, Restoration, Clone}
 use Rattle.row_values.specs.Slots.{has}
 use Rattle.model.specs.Tablets.{Command as TabletCommand, Tablet as TabletPart, kind_of, is_done}
-use Rattle.model.specs.Records.{Listed, Schedule, SnapshotRecord, RestorationRecord, RestorationState, Fencing, schedule_with}
+use Rattle.model.specs.Records.{Listed, SnapshotRecord, RestorationRecord, RestorationState, Fencing}
 use Rattle.model.specs.Activity.{Interval}
 use Rattle.model.specs.Acts as acts
 use Rattle.model.specs.Acts.{Act, Command, CreateNamespace, CloneNamespace, Refusal, Look, Ask, AskPlan, AskKeys, AskTable, AskWork, AskRemovable, AskPresent, Change, Write, Read, Cutoff, Compact, Send, Process, Ack, Advance, Remove, Prune, Restart, Stats}
@@ -15,7 +15,7 @@ use Rattle.model.specs.Looks.{look_plan, look_keys, look_table, look_present}
 use Rattle.model.specs.Changes.{planned, change, create_namespace, drop_namespace, create_table, add_column, drop_column, rename_table, drop_table, split, create_schedule, delete_schedule, take_snapshot, restore, list_tablets}
 use Rattle.model.specs.RowActs.{write, read, cutoff, compact, restart, stats}
 use Rattle.model.specs.Coordination.{unfinished_snapshot, unfinished_restoration, unfinished_clone, acked_by, acked_clone, pending, send, sending, process, processing, ack, acknowledging}
-use Rattle.model.specs.Moves.{Progress, progress_of, advance, advancing, moving, with_own_snapshot, completed, restoration_moved, clone_moved, moved_of}
+use Rattle.model.specs.Moves.{Progress, progress_of, advance, advancing, moving, completed, restoration_moved, clone_moved, moved_of}
 use Rattle.model.specs.Cleanup.{removed_of, remove, removing, removing_tablet, removing_snapshot, prune}
 use Rattle.model.specs.Entries.{Entry, slots_of}
 use Rattle.model.specs.History.{look, master_effect, told, outcome, replay}
@@ -31,12 +31,8 @@ removed_clones : (kind : Kind) (target : Id) (n : ℕ) (m : Master) → (removed
 removed_clones Tablet target n m = refl
 removed_clones _ target n m = refl
 
-own_clones : (s : Option Schedule) (n : ℕ) (m : Master) → (with_own_snapshot s n m).clones ≡ m.clones
-own_clones None n m = refl
-own_clones (Some s) n m = refl
-
 restoration_clones : (state : RestorationState) (r : RestorationRecord) (n : ℕ) (m : Master) → (restoration_moved state r n m).clones ≡ m.clones
-restoration_clones Fencing r n m = own_clones (schedule_with m.schedules r.schedule) n m
+restoration_clones Fencing r n m = refl
 restoration_clones _ r n m = refl
 
 found_clones : {A : Type 0} (f : A → Master) (found : Option A) (m other : Master) → ((a : A) → (f a).clones ≡ m.clones) → other.clones ≡ m.clones → (option_map_or f found other).clones ≡ m.clones

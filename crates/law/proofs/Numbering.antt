@@ -9,8 +9,8 @@ use Rattle.row_values.specs.Schema.{first_schema}
 use Rattle.model.specs.Activity.{Interval}
 use Rattle.model.specs.Catalog.{TableRecord, kept_from}
 use Rattle.model.specs.Journal as made
-use Rattle.model.specs.Records.{Schedule as ScheduleRecord, RestorationRecord, RestorationState, Fencing, Snapshotting, Switching, Restoring, Releasing, Restored, SnapshotRecord, State, schedule_with, is_restored, first_unacked}
-use Rattle.model.specs.Acts.{Act, At, Look, Change, Write, Read, Cutoff, Compact, Send, Process, Ack, Advance, Remove, Prune, Restart, Stats, Command, CreateNamespace, DropNamespace, CreateTable, AddColumn, DropColumn, RenameTable, DropTable, Split, CreateSchedule, DeleteSchedule, TakeSnapshot, Restore, CloneNamespace, ListSchedules, ListSnapshots, ListRestorations, ListClones, ListTablets, Refusal, StalePlan, UnknownColumn, is_ok}
+use Rattle.model.specs.Records.{RestorationRecord, RestorationState, Fencing, Snapshotting, Switching, Restoring, Releasing, Restored, SnapshotRecord, State, is_restored, first_unacked}
+use Rattle.model.specs.Acts.{Act, Look, Change, Write, Read, Cutoff, Compact, Send, Process, Ack, Advance, Remove, Prune, Restart, Stats, Command, CreateNamespace, DropNamespace, CreateTable, AddColumn, DropColumn, RenameTable, DropTable, Split, CreateSchedule, DeleteSchedule, TakeSnapshot, Restore, CloneNamespace, ListSchedules, ListSnapshots, ListRestorations, ListClones, ListTablets, Refusal, StalePlan, UnknownColumn}
 use Rattle.model.specs.Parts.{Master, Parts, Outcome, MasterAct, Ticks, MakesNamespace, DropsNamespace, MakesTable, AddsColumn, DropsColumn, RenamesTable, DropsTable, SplitsTablet, MakesSchedule, DeletesSchedule, TakesSnapshot, BeginsRestoration, BeginsClone, Sends, Acks, Unsends, Moves, Removes, Prunes, Restarts, If, unless, refused, decided, refusal_in}
 use Rattle.model.specs.Changed.{next_namespace, next_table}
 use Rattle.model.specs.Changes.{change, planned, create_namespace, drop_namespace, create_table, add_column, add_column_checks, drop_column, column_of, found_column, unheld_checks, rename_table, rename_table_checks, drop_table, split, create_schedule, delete_schedule, take_snapshot, restore, list_tablets, judge_create_namespace, judge_drop_namespace, judge_create_table, judge_add_column, judge_drop_column, judge_rename_table, judge_drop_table, judge_split, judge_create_schedule, judge_delete_schedule, judge_take_snapshot, judge_restore}
@@ -18,14 +18,15 @@ use Rattle.model.specs.Cleanup.{prune, removed_of}
 use Rattle.model.specs.Coordination.{unfinished_snapshot, unfinished_restoration, unfinished_clone, acked_by}
 use Rattle.model.specs.Drawn.{SchemasDrawn}
 use Rattle.model.specs.Entries.{Entry, slots_of}
-use Rattle.model.specs.History.{outcome, told, master_effect, replay, journal_of, activity_of, with_changes, rows_made, with_either, with_restoration, Legal}
+use Rattle.model.specs.History.{outcome, told, master_effect, replay, journal_of, activity_of, with_changes, with_rows, with_either, with_restoration, Legal}
 use Rattle.model.specs.Looks.{plan_of, found_namespace, found_table}
-use Rattle.model.specs.Moves.{Progress, advance, advancing, moving, moved_of, progress_of, waits_for, with_own_snapshot, completed, restoration_moved}
+use Rattle.model.specs.Moves.{Progress, advance, advancing, moving, moved_of, progress_of, waits_for, completed, restoration_moved}
 use Rattle.law_invariants.specs.Invariant.{Inv, TablesStand}
 use Rattle.law_invariants.proofs.Cataloguing.{table_is}
 use Rattle.law_invariants.proofs.Judging.{and_found_is, checked_is}
 use Rattle.law_changes.proofs.Schemas.{column_found}
 use Rattle.row_values.specs.declared.value.Item.{Item}
+use Rattle.model.specs.Tablets.{Told}
 use Rattle.law_moves.proofs.Advancing.{no_restoration, no_clone}
 use Rattle.law_moves.proofs.Pending.{unfinished_restoration_is}
 use Rattle.law_moves.proofs.Serving.{floor_restores}
@@ -149,19 +150,15 @@ plain_left act n ps changes e h =
     (λ touched. subst (λ rs. SchemasStand rs changes) (sym (plain_tables (outcome act n ps).master n ps.master (act_none act n ps e).none)) h)
     (λ alone. h)
 
-written : (o : Outcome) (place : At) (version : ℕ) (batch : List Item) (n : ℕ) (ps : Parts) (rs : List TableRecord) (changes : List made.Change) → SchemasStand rs changes → SchemasStand rs (with_changes (Write place version batch) o n ps changes)
-written o place version batch n ps rs changes h =
-    cond_both (is_ok o.reply) (rows_made n (ps.tablet place.slot).table batch changes) changes (SchemasStand rs) (λ e. rows_changed batch rs changes n (ps.tablet place.slot).table h) (λ e. h)
+written : (told : List Told) (n : ℕ) (table : Id) (batch : List Item) (rs : List TableRecord) (changes : List made.Change) → SchemasStand rs changes → SchemasStand rs (with_rows told n table batch changes)
+written [] n table batch rs changes h = h
+written (one ∷ rest) n table batch rs changes h = rows_changed batch rs changes n table h
 
 -- Moves
 
-own_tables : (s : Option ScheduleRecord) (n : ℕ) (m : Master) → (with_own_snapshot s n m).catalog.tables ≡ m.catalog.tables
-own_tables None n m = refl
-own_tables (Some s) n m = refl
-
 state_go : (state : RestorationState) (r : RestorationRecord) (n : ℕ) (m : Master) (changes : List made.Change) → TablesStand m.catalog m.clock m.drawn.tables changes → (is_restored state ≡ false → kept_from m.catalog.kept_from r.namespace ≤ r.to) → Stand m changes
     → Stand (restoration_moved state r n m) (with_restoration state r changes)
-state_go Fencing r n m changes tables known h = subst (λ rs. SchemasStand rs changes) (sym (own_tables (schedule_with m.schedules r.schedule) n m)) h
+state_go Fencing r n m changes tables known h = h
 state_go (Snapshotting point own) r n m changes tables known h = h
 state_go (Switching point serving) r n m changes tables known h = tables_restored m changes r.namespace r.to point tables (known refl) h
 state_go (Restoring point serving) r n m changes tables known h = h
@@ -222,7 +219,7 @@ act_left (Advance operation) n ps activity changes covered inv h =
     (advancing_go (progress_of operation.kind ps.master operation) operation n ps changes h (kind_go operation.kind n ps activity changes operation refl covered inv h)).stand
 act_left Prune n ps activity changes covered inv h = tables_pruned ps.master n changes inv.master.tables h
 act_left (Write place version batch) n ps activity changes covered inv h =
-    written (outcome (Write place version batch) n ps) place version batch n ps _ changes (plain_left (Write place version batch) n ps changes refl h)
+    written (outcome (Write place version batch) n ps).tablets n (ps.tablet place.slot).table batch _ changes (plain_left (Write place version batch) n ps changes refl h)
 act_left (Look ask) n ps activity changes covered inv h = plain_left (Look ask) n ps changes refl h
 act_left (Read places version key at columns) n ps activity changes covered inv h = plain_left (Read places version key at columns) n ps changes refl h
 act_left (Cutoff slot) n ps activity changes covered inv h = plain_left (Cutoff slot) n ps changes refl h

@@ -6,7 +6,7 @@ use Rattle.std.proofs.lemmas.Bool.Decides.{nat_tests}
 use Rattle.row_values.specs.Ids.{Id, Kind, Namespace, Table, Tablet, Schedule, Snapshot, Restoration, Clone, same}
 use Rattle.row_values.specs.Elements.{In}
 use Rattle.row_values.specs.Slots.{has}
-use Rattle.model.specs.Records.{Schedule as ScheduleRecord, Listed, SnapshotRecord, RestorationRecord, RestorationState, Fencing, Snapshotting, Switching, Restoring, Releasing, Restored, CloneRecord, CloneState, Accepted, CloneSnapshot, Copying, CloneReleasing, CloneComplete, schedule_with, schedule_of}
+use Rattle.model.specs.Records.{Schedule as ScheduleRecord, Listed, SnapshotRecord, RestorationRecord, RestorationState, Fencing, Snapshotting, Switching, Restoring, Releasing, Restored, CloneRecord, CloneState, Accepted, CloneSnapshot, Copying, CloneReleasing, CloneComplete, schedule_of}
 use Rattle.model.specs.Parts.{Master, Parts, MasterAct, Ticks, MakesNamespace, DropsNamespace, MakesTable, AddsColumn, DropsColumn, RenamesTable, DropsTable, SplitsTablet, MakesSchedule, DeletesSchedule, TakesSnapshot, BeginsRestoration, BeginsClone, Sends, Acks, Unsends, Moves, Removes, Prunes, Restarts}
 use Rattle.model.specs.Cleanup.{removed_of}
 use Rattle.model.specs.Coordination.{acked_by, unfinished_snapshot, unfinished_restoration, unfinished_clone}
@@ -14,7 +14,7 @@ use Rattle.model.specs.Drawn.{IsAsTaken, SnapshotsAsTaken}
 use Rattle.model.specs.Entries.{Entry, slots_of}
 use Rattle.model.specs.History.{master_effect, next, outcome, replay, snapshots_since, snapshots_taken}
 use Rattle.model.specs.Lists.{new_snapshot, with_snapshot}
-use Rattle.model.specs.Moves.{begins_clone, clone_moved, completed, moved_of, restoration_moved, serving_clone, with_own_snapshot}
+use Rattle.model.specs.Moves.{begins_clone, clone_moved, completed, moved_of, restoration_moved, serving_clone, with_clones_snapshot}
 use Rattle.law_invariants.proofs.Finding.{filter_in, in_append, in_filter, in_first, in_mapped, in_second}
 
 -- a snapshot is one that was kept before, as it was but for its acks and whether it is complete
@@ -32,18 +32,18 @@ updated : (m : Master) (complete : SnapshotRecord → Bool) (listed : SnapshotRe
 updated m complete listed = in_mapped {A = SnapshotRecord} {B = SnapshotRecord} (λ x. record x { complete = complete x; listed = listed x }) (λ r. (m.drawn.snapshots < r.id.number) ⊎ WasKept m.snapshots r) m.snapshots
     (λ x isin. inr (record { snapshot = x; was_taken = isin; id_is = refl; schedule_is = refl; namespace_is = refl; after_is = refl; at_is = refl }))
 
-added : (m : Master) (s : ScheduleRecord) (n : ℕ) → Goes m (with_snapshot s n m).snapshots
-added m s n r isin = elim (in_append m.snapshots (new_snapshot m s n ∷ []) r isin) [
+added : (m : Master) (ns schedule : Id) (n : ℕ) → Goes m (with_snapshot ns schedule n m).snapshots
+added m ns schedule n r isin = elim (in_append m.snapshots (new_snapshot m ns schedule n ∷ []) r isin) [
   | inl old ↦ stays m r old
   | inr new ↦ (elim new [ inl e ↦ inl (subst (λ q. m.drawn.snapshots < q.id.number) e (omega arith)) | inr none ↦ absurd none ])
 ]
 
-own_goes : (s : Option ScheduleRecord) (n : ℕ) (m : Master) → Goes m (with_own_snapshot s n m).snapshots
-own_goes None n m = stays m
-own_goes (Some s) n m = added m s n
+clones_own_goes : (s : Option ScheduleRecord) (c : CloneRecord) (n : ℕ) (m : Master) → Goes m (with_clones_snapshot s c n m).snapshots
+clones_own_goes None c n m = stays m
+clones_own_goes (Some s) c n m = added m c.source s.id n
 
 restoration_goes : (state : RestorationState) (r : RestorationRecord) (n : ℕ) (m : Master) → Goes m (restoration_moved state r n m).snapshots
-restoration_goes Fencing r n m = own_goes (schedule_with m.schedules r.schedule) n m
+restoration_goes Fencing r n m = added m r.namespace r.schedule n
 restoration_goes (Snapshotting point own) r n m = stays m
 restoration_goes (Switching point serving) r n m = stays m
 restoration_goes (Restoring point serving) r n m = stays m
@@ -52,7 +52,7 @@ restoration_goes (Restored point serving) r n m = stays m
 
 begun_goes : (serving : Option SnapshotRecord) (c : CloneRecord) (n : ℕ) (m : Master) → Goes m (begins_clone serving c n m).snapshots
 begun_goes (Some s) c n m = stays m
-begun_goes None c n m = own_goes (schedule_of m.schedules c.source) n m
+begun_goes None c n m = clones_own_goes (schedule_of m.schedules c.source) c n m
 
 clone_goes : (state : CloneState) (c : CloneRecord) (n : ℕ) (m : Master) → Goes m (clone_moved state c n m).snapshots
 clone_goes Accepted c n m = begun_goes (serving_clone m c) c n m
@@ -109,7 +109,7 @@ told_goes (DropsTable table) n m = stays m
 told_goes (SplitsTablet parent code low_slot high_slot) n m = stays m
 told_goes (MakesSchedule namespace interval retention) n m = stays m
 told_goes (DeletesSchedule schedule) n m = stays m
-told_goes (TakesSnapshot schedule) n m = added m schedule n
+told_goes (TakesSnapshot schedule) n m = added m schedule.namespace schedule.id n
 told_goes (BeginsRestoration schedule to) n m = stays m
 told_goes (BeginsClone namespace source target to) n m = stays m
 told_goes (Sends operation slot) n m = stays m

@@ -81,10 +81,16 @@ with_own (Some l) n = omega arith
 pub has_low : (ss : List Schedule) (ns : Id) (n : ℕ) (s : Schedule) → In s ss → s.namespace ≡ ns → HasLow ss ns n (low s n)
 has_low [] ns n s isin is = absurd isin
 has_low (t ∷ ss) ns n s isin is = either_way (same t.namespace ns)
-    (λ b. (least_with (least_low ss ns n) (low t n), (ap (λ q. cond q (Some (least_with (least_low ss ns n) (low t n))) (least_low ss ns n)) b, elim isin [
-      | inl e ↦ subst (λ k. least_with (least_low ss ns n) (low t n) ≤ low k n) e (with_own (least_low ss ns n) (low t n))
-      | inr rest ↦ (let h = has_low ss ns n s rest is in with_less (least_low ss ns n) (low t n) h.0 (low s n) h.1.0 h.1.1)
-    ])))
+    (λ b. (
+      least_with (least_low ss ns n) (low t n),
+      (
+        ap (λ q. cond q (Some (least_with (least_low ss ns n) (low t n))) (least_low ss ns n)) b,
+        elim isin [
+          | inl e ↦ subst (λ k. least_with (least_low ss ns n) (low t n) ≤ low k n) e (with_own (least_low ss ns n) (low t n))
+          | inr rest ↦ (let h = has_low ss ns n s rest is in with_less (least_low ss ns n) (low t n) h.0 (low s n) h.1.0 h.1.1)
+        ],
+      ),
+    ))
     (λ b. elim isin [
       | inl e ↦ absurd (true≢false (sym (ap (λ k. same k.namespace ns) e ∙ ap (λ i. same i ns) is ∙ same_self ns) ∙ b))
       | inr rest ↦ (let h = has_low ss ns n s rest is in (h.0, (ap (λ q. cond q (Some (least_with (least_low ss ns n) (low t n))) (least_low ss ns n)) b ∙ h.1.0, h.1.1)))

@@ -135,8 +135,10 @@ taken_good ps activity changes n ns schedule before may inv =
       ];
       scheduled = λ unfinished. (let k = may.scheduled in (
         record k.0 { last = cond (same k.0.namespace ns) (Some n) k.0.last },
-        (map_in {A = ScheduledNamespace} {B = ScheduledNamespace} (λ k. record k { last = cond (same k.namespace ns) (Some n) k.last }) m.scheduled k.0 k.1.0,
-          (k.1.1, ap (λ i. cond (same i ns) (Some n) k.0.last) k.1.1 ∙ ap (λ b. cond b (Some n) k.0.last) (same_self ns))),
+        (
+          map_in {A = ScheduledNamespace} {B = ScheduledNamespace} (λ k. record k { last = cond (same k.namespace ns) (Some n) k.last }) m.scheduled k.0 k.1.0,
+          (k.1.1, ap (λ i. cond (same i ns) (Some n) k.0.last) k.1.1 ∙ ap (λ b. cond b (Some n) k.0.last) (same_self ns)),
+        ),
       ));
     }
   where

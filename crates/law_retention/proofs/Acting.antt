@@ -14,9 +14,8 @@ use Rattle.model.specs.Records.{Listed, Sent, SnapshotRecord}
 use Rattle.model.specs.Retained.{Retained}
 use Rattle.std.proofs.Common.{map}
 use Rattle.model.specs.Acts.{CutoffAt}
-use Rattle.model.specs.Schedules.{allowed_cutoff}
 use Rattle.model.specs.Tablets.{is_done, kind_of}
-use Rattle.model.specs.RowActs.{write, read, cutoff, compact, restart, stats, schedule_at}
+use Rattle.model.specs.RowActs.{write, read, cutoff, compact, restart, stats, allowed_of, scheduled_at}
 use Rattle.model.specs.Coordination.{ack, acked_by, acked_snapshot, acknowledging, command_for, send, sending, pending}
 use Rattle.model.specs.Tablets.{Tablet, TabletAct, Clock, RaiseCutoff, Compact as CompactTablet, Offer, Restart as RestartTablet, Write as WriteRows, act_for, effect}
 use Rattle.model.specs.Taking.{TakesNothingNeeded, names_at, untimed}
@@ -53,8 +52,8 @@ pub record MasterQuiet (m k : Master) : Type 0 where
   pub later : m.clock ≤ k.clock
   pub catalog : k.catalog ≡ m.catalog
   pub activity : k.activity ≡ m.activity
-  pub serving_like : (schedule : Id) (to : ℕ) → AreLike (serving k.snapshots schedule to) (serving m.snapshots schedule to)
-  pub left_like : (schedule : Id) → AreLike (unfinished k.snapshots schedule) (unfinished m.snapshots schedule)
+  pub serving_like : (ns : Id) (to : ℕ) → AreLike (serving k.snapshots ns to) (serving m.snapshots ns to)
+  pub left_like : (ns : Id) → AreLike (unfinished k.snapshots ns) (unfinished m.snapshots ns)
 
 -- such is a master whose clock and sent marks alone change
 quiet_clock : (m : Master) (n : ℕ) (sent : List Sent) → m.clock ≤ n → MasterQuiet m (record m { clock = n; sent = sent })
@@ -62,8 +61,8 @@ quiet_clock m n sent before = record {
   later = before;
   catalog = refl;
   activity = refl;
-  serving_like = λ schedule to. like_self _;
-  left_like = λ schedule. like_self _;
+  serving_like = λ ns to. like_self _;
+  left_like = λ ns. like_self _;
 }
 
 pub every_counts : (served : Option SnapshotRecord) → CountsIfAny Every served
@@ -109,8 +108,8 @@ told_takes_nothing act o n ps activity taken changes later inv master tablets re
       times = λ s to listed from. record {
         names = ap (λ c. names_at c.namespaces s.namespace to) quiet.catalog;
         tables = ap (λ c. map untimed (tables_at c.tables s.namespace to)) quiet.catalog;
-        serving_like = quiet.serving_like s.id to;
-        left_like = quiet.left_like s.id;
+        serving_like = quiet.serving_like s.namespace to;
+        left_like = quiet.left_like s.namespace;
         serving_counts = every_counts _;
         left_counts = every_counts _;
         places = λ table code there. ap (λ is. route is table code to) quiet.activity;
@@ -167,7 +166,7 @@ read_takes_nothing places version key at columns n ps activity taken changes lat
 pub cutoff_takes_nothing : (slot : ℕ) → IsHarmless (Cutoff slot) (cutoff slot)
 cutoff_takes_nothing slot n ps activity taken changes later inv =
     cutoff_by (TakesNothing (Cutoff slot) n ps activity taken) slot n ps (λ reply. answer_takes_nothing (Cutoff slot) reply n ps activity taken changes later inv)
-    (let to = allowed_cutoff (schedule_at ps.master slot) n in
+    (let to = allowed_of (scheduled_at ps.master slot) n in
     one_takes_nothing (Cutoff slot) slot (RaiseCutoff to) (CutoffAt (max (ps.tablet slot).cutoff to)) n ps activity taken changes later inv (λ i is. raised_stays (ps.tablet i) to n))
 
 pub compact_takes_nothing : (slot : ℕ) → IsHarmless (Compact slot) (compact slot)
@@ -208,24 +207,24 @@ like_both : (b : Bool) (q r : SnapshotRecord) (served was : Option SnapshotRecor
 like_both true q r served was here rest = here
 like_both false q r served was here rest = rest
 
-acked_serving : (rs : List SnapshotRecord) (operation : Id) (slot : ℕ) (schedule : Id) (to : ℕ) → AreLike (serving (acked_snapshot operation slot rs) schedule to) (serving rs schedule to)
-acked_serving [] operation slot schedule to = tt
-acked_serving (r ∷ rs) operation slot schedule to = like_both ((same r.schedule schedule && r.complete) && leb to r.at) _ r _ _ (record { id_is = refl; at_is = refl }) (acked_serving rs operation slot schedule to)
+acked_serving : (rs : List SnapshotRecord) (operation : Id) (slot : ℕ) (ns : Id) (to : ℕ) → AreLike (serving (acked_snapshot operation slot rs) ns to) (serving rs ns to)
+acked_serving [] operation slot ns to = tt
+acked_serving (r ∷ rs) operation slot ns to = like_both ((same r.namespace ns && r.complete) && leb to r.at) _ r _ _ (record { id_is = refl; at_is = refl }) (acked_serving rs operation slot ns to)
 
-acked_left : (rs : List SnapshotRecord) (operation : Id) (slot : ℕ) (schedule : Id) → AreLike (unfinished (acked_snapshot operation slot rs) schedule) (unfinished rs schedule)
-acked_left [] operation slot schedule = tt
-acked_left (r ∷ rs) operation slot schedule = like_both (same r.schedule schedule && not r.complete) _ r _ _ (record { id_is = refl; at_is = refl }) (acked_left rs operation slot schedule)
+acked_left : (rs : List SnapshotRecord) (operation : Id) (slot : ℕ) (ns : Id) → AreLike (unfinished (acked_snapshot operation slot rs) ns) (unfinished rs ns)
+acked_left [] operation slot ns = tt
+acked_left (r ∷ rs) operation slot ns = like_both (same r.namespace ns && not r.complete) _ r _ _ (record { id_is = refl; at_is = refl }) (acked_left rs operation slot ns)
 
 quiet_acked : (kind : Kind) (m : Master) (operation : Id) (slot n : ℕ) → m.clock ≤ n → MasterQuiet m (acked_by kind operation slot n m)
 quiet_acked Snapshot m operation slot n before = record {
   later = before;
   catalog = refl;
   activity = refl;
-  serving_like = λ schedule to. acked_serving m.snapshots operation slot schedule to;
-  left_like = λ schedule. acked_left m.snapshots operation slot schedule;
+  serving_like = λ ns to. acked_serving m.snapshots operation slot ns to;
+  left_like = λ ns. acked_left m.snapshots operation slot ns;
 }
-quiet_acked Restoration m operation slot n before = record { later = before; catalog = refl; activity = refl; serving_like = λ schedule to. like_self _; left_like = λ schedule. like_self _ }
-quiet_acked Clone m operation slot n before = record { later = before; catalog = refl; activity = refl; serving_like = λ schedule to. like_self _; left_like = λ schedule. like_self _ }
+quiet_acked Restoration m operation slot n before = record { later = before; catalog = refl; activity = refl; serving_like = λ ns to. like_self _; left_like = λ ns. like_self _ }
+quiet_acked Clone m operation slot n before = record { later = before; catalog = refl; activity = refl; serving_like = λ ns to. like_self _; left_like = λ ns. like_self _ }
 quiet_acked _ m operation slot n before = quiet_clock m n m.sent before
 
 acknowledging_nothing : (l : Option Listed) (operation : Id) (slot : ℕ) → IsHarmless (Ack operation slot) (λ n ps. acknowledging l operation slot (ps.tablet slot))

@@ -13,10 +13,10 @@ use Rattle.model.specs.History.{look}
 use Rattle.model.specs.Journal.{Change}
 use Rattle.std.specs.Option.{option_and_then}
 use Rattle.model.specs.Parts.{Master, Outcome, Parts}
-use Rattle.model.specs.Records.{Schedule, schedule_of}
+use Rattle.model.specs.Records.{ScheduledNamespace, scheduled_in}
 use Rattle.model.specs.Retained.{IsTabletOf}
-use Rattle.model.specs.RowActs.{write, read, cutoff, compact, restart, stats, schedule_at, table_in}
-use Rattle.model.specs.Schedules.{allowed_cutoff, complete_to}
+use Rattle.model.specs.RowActs.{write, read, cutoff, compact, restart, stats, allowed_of, scheduled_at, table_in}
+use Rattle.model.specs.Schedules.{complete_to}
 use Rattle.model.specs.Tablets.{RaiseCutoff, Compact as CompactTablet, Restart as RestartTablet, Write as WriteRows, effect, is_empty}
 use Rattle.law_store.proofs.Keys.{either_way}
 use Rattle.law_invariants.specs.Invariant.{Inv, Later}
@@ -74,19 +74,19 @@ known_table (j ∷ is) slot table i inside at each = either_way (eqb j.slot slot
       | inr later ↦ known_table is slot table i later at (λ k there. each k (inr there))
     ]))
 
--- a namespace's schedule is the one that is found
-schedule_is : (ss : List Schedule) (s : Schedule) → In s ss → ((q r : Schedule) → In q ss → In r ss → q.namespace ≡ r.namespace → q ≡ r) → schedule_of ss s.namespace ≡ Some s
-schedule_is [] s inside one = absurd inside
-schedule_is (q ∷ ss) s inside one = either_way (same q.namespace s.namespace)
+-- a scheduled namespace is found by its id
+scheduled_is : (ss : List ScheduledNamespace) (s : ScheduledNamespace) → In s ss → ((q r : ScheduledNamespace) → In q ss → In r ss → q.namespace ≡ r.namespace → q ≡ r) → scheduled_in ss s.namespace ≡ Some s
+scheduled_is [] s inside one = absurd inside
+scheduled_is (q ∷ ss) s inside one = either_way (same q.namespace s.namespace)
     (λ e. rw e (ap Some (one q s (inl refl) inside (same_equal q.namespace s.namespace e))))
     (λ e. rw e (elim inside [
       | inl here ↦ absurd (true≢false (sym (ap (λ k. same k.namespace s.namespace) here ∙ same_self s.namespace) ∙ e))
-      | inr later ↦ schedule_is ss s later (λ a b x y. one a b (inr x) (inr y))
+      | inr later ↦ scheduled_is ss s later (λ a b x y. one a b (inr x) (inr y))
     ]))
 
-schedule_known : (ps : Parts) (activity : List Interval) (changes : List Change) (slot : ℕ) (s : Schedule) (i : Interval) → Inv ps activity changes → is_empty (ps.tablet slot).presence ≡ false
-    → In s ps.master.schedules → last_of ps.master.activity (ps.tablet slot).tablet ≡ Some i → IsTabletOf ps.master s.namespace i → schedule_at ps.master slot ≡ Some s
-schedule_known ps activity changes slot s i inv here listed last owned =
+scheduled_known : (ps : Parts) (activity : List Interval) (changes : List Change) (slot : ℕ) (s : ScheduledNamespace) (i : Interval) → Inv ps activity changes → is_empty (ps.tablet slot).presence ≡ false
+    → In s ps.master.scheduled → last_of ps.master.activity (ps.tablet slot).tablet ≡ Some i → IsTabletOf ps.master s.namespace i → scheduled_at ps.master slot ≡ Some s
+scheduled_known ps activity changes slot s i inv here listed last owned =
     let m = ps.master in
     let t = ps.tablet slot in
     let h = inv.slots slot in
@@ -95,33 +95,33 @@ schedule_known ps activity changes slot s i inv here listed last owned =
     let table : table_in m.activity slot ≡ Some i.table = known_table m.activity slot i.table i found.0 at (λ j inside there. sym (h.each j inside there).table_is ∙ (h.each i found.0 at).table_is) in
     let owner : option_and_then (owner_of m.catalog.owners) (table_in m.activity slot) ≡ Some s.namespace =
     ap (option_and_then (owner_of m.catalog.owners)) table ∙ owned_is (owner_of m.catalog.owners i.table) s.namespace owned in
-    ap (option_and_then (schedule_of m.schedules)) owner ∙ schedule_is m.schedules s listed inv.operations.apart.one_schedule
+    ap (option_and_then (scheduled_in m.scheduled)) owner ∙ scheduled_is m.scheduled s listed inv.operations.apart.one_scheduled
 
-allowed_past : (s : Option Schedule) (m : Master) (n : ℕ) → m.clock ≤ n → ((k : Schedule) → s ≡ Some k → complete_to k.complete k + 1 ≤ m.clock) → allowed_cutoff s n ≤ n
+allowed_past : (s : Option ScheduledNamespace) (m : Master) (n : ℕ) → m.clock ≤ n → ((k : ScheduledNamespace) → s ≡ Some k → complete_to k + 1 ≤ m.clock) → allowed_of s n ≤ n
 allowed_past None m n le h = less n _
   where
     less : (a b : ℕ) → a - b ≤ a
     less a b = omega arith
 allowed_past (Some s) m n le h = le_trans (h s refl) le
 
-found_schedule : (ss : List Schedule) (ns : Id) (s : Schedule) → schedule_of ss ns ≡ Some s → In s ss
-found_schedule [] ns s e = cc
-found_schedule (q ∷ ss) ns s e = either_way (same q.namespace ns)
+found_scheduled : (ss : List ScheduledNamespace) (ns : Id) (s : ScheduledNamespace) → scheduled_in ss ns ≡ Some s → In s ss
+found_scheduled [] ns s e = cc
+found_scheduled (q ∷ ss) ns s e = either_way (same q.namespace ns)
     (λ b. inl (let first : Some q ≡ Some s = rw b at e in let is : q ≡ s = cc in is))
-    (λ b. inr (found_schedule ss ns s (rw b at e)))
+    (λ b. inr (found_scheduled ss ns s (rw b at e)))
 
-schedule_in : (ss : List Schedule) (ns : Option Id) (s : Schedule) → option_and_then (schedule_of ss) ns ≡ Some s → In s ss
-schedule_in ss None s e = cc
-schedule_in ss (Some ns) s e = found_schedule ss ns s e
+in_scheduled : (ss : List ScheduledNamespace) (ns : Option Id) (s : ScheduledNamespace) → option_and_then (scheduled_in ss) ns ≡ Some s → In s ss
+in_scheduled ss None s e = cc
+in_scheduled ss (Some ns) s e = found_scheduled ss ns s e
 
 pub cutoff_keeps_facts : (slot : ℕ) → KeepsFacts (Cutoff slot) (cutoff slot)
 cutoff_keeps_facts slot n ps activity changes later inv facts =
     let m = ps.master in
     let act = Cutoff slot in
-    let to = allowed_cutoff (schedule_at m slot) n in
+    let to = allowed_of (scheduled_at m slot) n in
     let reply = CutoffAt (max (ps.tablet slot).cutoff to) in
     let before = master_before (slots_of act) ps n later refl in
-    let past : to ≤ n = allowed_past (schedule_at m slot) m n before (λ k e. inv.master.complete k (schedule_in m.schedules _ k e)) in
+    let past : to ≤ n = allowed_past (scheduled_at m slot) m n before (λ k e. inv.master.complete k (in_scheduled m.scheduled _ k e)) in
     cutoff_by (HoldsFacts act n ps) slot n ps (λ r. answer_holds act r n ps later facts)
     (one_holds act slot (RaiseCutoff to) reply n ps later facts
     (λ i e is here.
@@ -131,9 +131,9 @@ cutoff_keeps_facts slot n ps activity changes later inv facts =
       there = here;
       tablet_is = refl;
       live = λ s j listed last owned.
-          let found : schedule_at m slot ≡ Some s = ap (schedule_at m) at ∙ schedule_known ps activity changes i s j inv here listed last owned in
-          let allowed : to ≡ complete_to s.complete s + 1 = ap (λ o. allowed_cutoff o n) found in
-          raised_to t.cutoff to (complete_to s.complete s + 1) allowed;
+          let found : scheduled_at m slot ≡ Some s = ap (scheduled_at m) at ∙ scheduled_known ps activity changes i s j inv here listed last owned in
+          let allowed : to ≡ complete_to s + 1 = ap (λ o. allowed_of o n) found in
+          raised_to t.cutoff to (complete_to s + 1) allowed;
       now = λ was. raised_past t.cutoff to n was past;
       sets = λ f held. held;
     }))

@@ -15,7 +15,7 @@ use Rattle.model.specs.Entries.{IsRemovable, slots_of}
 use Rattle.model.specs.History.{told}
 use Rattle.model.specs.Journal.{Change}
 use Rattle.model.specs.Parts.{Fault, If, Master, Outcome, Parts, Removes, refused}
-use Rattle.model.specs.Records.{Schedule, SnapshotRecord, snapshot_with}
+use Rattle.model.specs.Records.{ScheduledNamespace, SnapshotRecord, snapshot_with}
 use Rattle.model.specs.Retained.{IsPresent, Retained, unfinished}
 use Rattle.model.specs.Taking.{TakesNothingNeeded, names_at, untimed}
 use Rattle.law_store.proofs.Keys.{either_way}
@@ -164,50 +164,50 @@ unfrozen_stays : (t : Tablet) (target : Id) (n : ℕ) → TabletStays (λ snapsh
 unfrozen_stays t target n = record { sets = λ snapshot counts. other_set t.frozen target snapshot counts; rises = le_refl _; reads = λ key x above past. refl }
 
 -- the snapshot that serves a time is another one
-still_serving : (rs : List SnapshotRecord) (target schedule : Id) (to : ℕ) → ((r : SnapshotRecord) → In r rs → r.schedule ≡ schedule → to ≤ r.at → same r.id target ≡ false)
-    → serving (filter (λ r. not (same r.id target)) rs) schedule to ≡ serving rs schedule to
-still_serving [] target schedule to stays = refl
-still_serving (r ∷ rs) target schedule to stays =
-    let rest = still_serving rs target schedule to (λ q inside. stays q (inr inside)) in
-    let here = (same r.schedule schedule && r.complete) && leb to r.at in
+still_serving : (rs : List SnapshotRecord) (target ns : Id) (to : ℕ) → ((r : SnapshotRecord) → In r rs → r.namespace ≡ ns → to ≤ r.at → same r.id target ≡ false)
+    → serving (filter (λ r. not (same r.id target)) rs) ns to ≡ serving rs ns to
+still_serving [] target ns to stays = refl
+still_serving (r ∷ rs) target ns to stays =
+    let rest = still_serving rs target ns to (λ q inside. stays q (inr inside)) in
+    let here = (same r.namespace ns && r.complete) && leb to r.at in
     either_way here
     (λ yes_.
-    let both = both_pass (same r.schedule schedule && r.complete) (leb to r.at) yes_ in
-    let kept = stays r (inl refl) (same_equal r.schedule schedule (both_pass (same r.schedule schedule) r.complete both.0).0) (leb-true to r.at both.1) in
+    let both = both_pass (same r.namespace ns && r.complete) (leb to r.at) yes_ in
+    let kept = stays r (inl refl) (same_equal r.namespace ns (both_pass (same r.namespace ns) r.complete both.0).0) (leb-true to r.at both.1) in
     rw kept (rw yes_ refl))
     (λ no_. cond_both (not (same r.id target)) (r ∷ filter (λ q. not (same q.id target)) rs) (filter (λ q. not (same q.id target)) rs)
-    (λ qs. serving qs schedule to ≡ cond here (Some r) (serving rs schedule to)) (λ b. rw no_ rest) (λ b. rw no_ rest))
+    (λ qs. serving qs ns to ≡ cond here (Some r) (serving rs ns to)) (λ b. rw no_ rest) (λ b. rw no_ rest))
 
-still_unfinished : (rs : List SnapshotRecord) (target schedule : Id) → ((r : SnapshotRecord) → In r rs → r.complete ≡ false → same r.id target ≡ false)
-    → unfinished (filter (λ r. not (same r.id target)) rs) schedule ≡ unfinished rs schedule
-still_unfinished [] target schedule stays = refl
-still_unfinished (r ∷ rs) target schedule stays =
-    let rest = still_unfinished rs target schedule (λ q inside. stays q (inr inside)) in
-    let here = same r.schedule schedule && not r.complete in
+still_unfinished : (rs : List SnapshotRecord) (target ns : Id) → ((r : SnapshotRecord) → In r rs → r.complete ≡ false → same r.id target ≡ false)
+    → unfinished (filter (λ r. not (same r.id target)) rs) ns ≡ unfinished rs ns
+still_unfinished [] target ns stays = refl
+still_unfinished (r ∷ rs) target ns stays =
+    let rest = still_unfinished rs target ns (λ q inside. stays q (inr inside)) in
+    let here = same r.namespace ns && not r.complete in
     either_way here
     (λ yes_.
-    let kept = stays r (inl refl) (not_true r.complete (both_pass (same r.schedule schedule) (not r.complete) yes_).1) in
+    let kept = stays r (inl refl) (not_true r.complete (both_pass (same r.namespace ns) (not r.complete) yes_).1) in
     rw kept (rw yes_ refl))
     (λ no_. cond_both (not (same r.id target)) (r ∷ filter (λ q. not (same q.id target)) rs) (filter (λ q. not (same q.id target)) rs)
-    (λ qs. unfinished qs schedule ≡ cond here (Some r) (unfinished rs schedule)) (λ b. rw no_ rest) (λ b. rw no_ rest))
+    (λ qs. unfinished qs ns ≡ cond here (Some r) (unfinished rs ns)) (λ b. rw no_ rest) (λ b. rw no_ rest))
 
 -- what serves a time, and what is unfinished, isn't the removed snapshot
-serving_apart : (rs : List SnapshotRecord) (target schedule : Id) (to : ℕ) → ((r : SnapshotRecord) → In r rs → r.schedule ≡ schedule → to ≤ r.at → same r.id target ≡ false)
-    → CountsIfAny (λ snapshot. snapshot ≡ target → ⊥) (serving rs schedule to)
-serving_apart [] target schedule to stays = tt
-serving_apart (r ∷ rs) target schedule to stays = cond_both ((same r.schedule schedule && r.complete) && leb to r.at) (Some r) (serving rs schedule to) (CountsIfAny (λ snapshot. snapshot ≡ target → ⊥))
+serving_apart : (rs : List SnapshotRecord) (target ns : Id) (to : ℕ) → ((r : SnapshotRecord) → In r rs → r.namespace ≡ ns → to ≤ r.at → same r.id target ≡ false)
+    → CountsIfAny (λ snapshot. snapshot ≡ target → ⊥) (serving rs ns to)
+serving_apart [] target ns to stays = tt
+serving_apart (r ∷ rs) target ns to stays = cond_both ((same r.namespace ns && r.complete) && leb to r.at) (Some r) (serving rs ns to) (CountsIfAny (λ snapshot. snapshot ≡ target → ⊥))
     (λ yes_ is.
-    let both = both_pass (same r.schedule schedule && r.complete) (leb to r.at) yes_ in
-    let kept = stays r (inl refl) (same_equal r.schedule schedule (both_pass (same r.schedule schedule) r.complete both.0).0) (leb-true to r.at both.1) in
+    let both = both_pass (same r.namespace ns && r.complete) (leb to r.at) yes_ in
+    let kept = stays r (inl refl) (same_equal r.namespace ns (both_pass (same r.namespace ns) r.complete both.0).0) (leb-true to r.at both.1) in
     true≢false (sym (ap (λ id. same id target) is ∙ same_self target) ∙ kept))
-    (λ no_. serving_apart rs target schedule to (λ q inside. stays q (inr inside)))
+    (λ no_. serving_apart rs target ns to (λ q inside. stays q (inr inside)))
 
-unfinished_apart : (rs : List SnapshotRecord) (target schedule : Id) → ((r : SnapshotRecord) → In r rs → r.complete ≡ false → same r.id target ≡ false)
-    → CountsIfAny (λ snapshot. snapshot ≡ target → ⊥) (unfinished rs schedule)
-unfinished_apart [] target schedule stays = tt
-unfinished_apart (r ∷ rs) target schedule stays = cond_both (same r.schedule schedule && not r.complete) (Some r) (unfinished rs schedule) (CountsIfAny (λ snapshot. snapshot ≡ target → ⊥))
-    (λ yes_ is. true≢false (sym (ap (λ id. same id target) is ∙ same_self target) ∙ stays r (inl refl) (not_true r.complete (both_pass (same r.schedule schedule) (not r.complete) yes_).1)))
-    (λ no_. unfinished_apart rs target schedule (λ q inside. stays q (inr inside)))
+unfinished_apart : (rs : List SnapshotRecord) (target ns : Id) → ((r : SnapshotRecord) → In r rs → r.complete ≡ false → same r.id target ≡ false)
+    → CountsIfAny (λ snapshot. snapshot ≡ target → ⊥) (unfinished rs ns)
+unfinished_apart [] target ns stays = tt
+unfinished_apart (r ∷ rs) target ns stays = cond_both (same r.namespace ns && not r.complete) (Some r) (unfinished rs ns) (CountsIfAny (λ snapshot. snapshot ≡ target → ⊥))
+    (λ yes_ is. true≢false (sym (ap (λ id. same id target) is ∙ same_self target) ∙ stays r (inl refl) (not_true r.complete (both_pass (same r.namespace ns) (not r.complete) yes_).1)))
+    (λ no_. unfinished_apart rs target ns (λ q inside. stays q (inr inside)))
 
 discarded_takes_nothing : (ps : Parts) (after : ℕ → Tablet) (activity : List Interval) (taken : List SnapshotRecord) (changes : List Change) (n : ℕ) (target : Id) (slots : List ℕ) (r : SnapshotRecord)
     → Inv ps activity changes → IsDiscarded ps.master n target r
@@ -217,10 +217,10 @@ discarded_takes_nothing : (ps : Parts) (after : ℕ → Tablet) (activity : List
 discarded_takes_nothing ps after activity taken changes n target slots r inv d tablets retained =
     let m = ps.master in
     let left : Parts = record { master = discarding m n target; tablet = after } in
-    let young : (s : Schedule) (to : ℕ) → In s m.schedules → floor_of m s.namespace n ≤ to → (q : SnapshotRecord) → In q m.snapshots → q.schedule ≡ s.id → to ≤ q.at → same q.id target ≡ false = λ s to listed from q inside of late.
+    let young : (s : ScheduledNamespace) (to : ℕ) → In s m.scheduled → floor_of m s.namespace n ≤ to → (q : SnapshotRecord) → In q m.snapshots → q.namespace ≡ s.namespace → to ≤ q.at → same q.id target ≡ false = λ s to listed from q inside of late.
     not_passing (same q.id target) (λ e.
     let is : q ≡ r = d.alone q inside (same_equal q.id target e) in
-    let ns : s.namespace ≡ q.namespace = (inv.operations.snapshots q inside).of_schedule s listed (sym of) in
+    let ns : s.namespace ≡ q.namespace = sym of in
     let low : floor_of m r.namespace n ≤ to = subst (λ k. floor_of m k n ≤ to) (ns ∙ ap (λ x. x.namespace) is) from in
     let past : r.at < floor_of m r.namespace n = d.below in
     let there : to ≤ r.at = subst (λ x. to ≤ x.at) is late in
@@ -234,10 +234,10 @@ discarded_takes_nothing ps after activity taken changes n target slots r inv d t
       times = λ s to listed from. record {
         names = refl;
         tables = refl;
-        serving_like = subst (λ o. AreLike o (serving m.snapshots s.id to)) (sym (still_serving m.snapshots target s.id to (young s to listed from))) (like_self _);
-        left_like = subst (λ o. AreLike o (unfinished m.snapshots s.id)) (sym (still_unfinished m.snapshots target s.id open_)) (like_self _);
-        serving_counts = serving_apart m.snapshots target s.id to (young s to listed from);
-        left_counts = unfinished_apart m.snapshots target s.id open_;
+        serving_like = subst (λ o. AreLike o (serving m.snapshots s.namespace to)) (sym (still_serving m.snapshots target s.namespace to (young s to listed from))) (like_self _);
+        left_like = subst (λ o. AreLike o (unfinished m.snapshots s.namespace)) (sym (still_unfinished m.snapshots target s.namespace open_)) (like_self _);
+        serving_counts = serving_apart m.snapshots target s.namespace to (young s to listed from);
+        left_counts = unfinished_apart m.snapshots target s.namespace open_;
         places = λ table code there. refl;
       };
       active = λ i inside there. inside;

@@ -15,9 +15,9 @@ use Rattle.model.specs.History.{told}
 use Rattle.model.specs.Journal.{Change}
 use Rattle.model.specs.Operations.{clone_with, restoration_of}
 use Rattle.model.specs.Parts.{judged, Acks, Fault, If, Master, Outcome, Parts, Removes, Unsends, refused}
-use Rattle.model.specs.Records.{CloneRecord, Listed, RestorationRecord, SnapshotRecord, is_cloned, is_restored, schedule_of, snapshot_with}
+use Rattle.model.specs.Records.{CloneRecord, Listed, RestorationRecord, SnapshotRecord, is_cloned, is_restored, snapshot_with}
 use Rattle.model.specs.Retained.{floor_now}
-use Rattle.model.specs.Schedules.{floor}
+use Rattle.model.specs.Schedules.{floor, least_low}
 use Rattle.model.specs.Tablets.{Clear, Clock, DropFrozen, Empty, Offer, Tablet, effect, is_done, is_empty, kind_of, standing}
 use Rattle.law_store.proofs.Keys.{either_way}
 use Rattle.law_invariants.specs.Invariant.{Inv, Later}
@@ -58,21 +58,21 @@ acked_was (q ∷ rs) operation slot r (inl here) = record {
   snapshot = q;
   kept = inl refl;
   id_is = ap (λ x. x.id) here;
-  schedule_is = ap (λ x. x.schedule) here;
+  namespace_is = ap (λ x. x.namespace) here;
   complete_is = ap (λ x. x.complete) here;
   after_is = ap (λ x. x.after) here;
   at_is = ap (λ x. x.at) here;
 }
 acked_was (q ∷ rs) operation slot r (inr later) =
     let h = acked_was rs operation slot r later in
-    record { snapshot = h.snapshot; kept = inr h.kept; id_is = h.id_is; schedule_is = h.schedule_is; complete_is = h.complete_is; after_is = h.after_is; at_is = h.at_is }
+    record { snapshot = h.snapshot; kept = inr h.kept; id_is = h.id_is; namespace_is = h.namespace_is; complete_is = h.complete_is; after_is = h.after_is; at_is = h.at_is }
 
 acked_still : (rs : List SnapshotRecord) (operation : Id) (slot : ℕ) (q : SnapshotRecord) → In q rs → HasLike (acked_snapshot operation slot rs) q
 acked_still rs operation slot q inside = record {
   snapshot = _;
   kept = map_in _ rs q inside;
   id_is = refl;
-  schedule_is = refl;
+  namespace_is = refl;
   complete_is = refl;
   after_is = refl;
   at_is = refl;
@@ -91,7 +91,7 @@ cloned_time (c ∷ cs) operation slot ns = let rest = cloned_time cs operation s
 acked_on : (kind : Kind) (m : Master) (operation : Id) (slot n : ℕ) → m.clock ≤ n → MasterOn m (acked_by kind operation slot n m)
 acked_on Snapshot m operation slot n before = record {
   later = before;
-  schedules = refl;
+  scheduled = refl;
   owners = refl;
   inside = λ i there. there;
   last = λ tablet i is. is;
@@ -101,26 +101,26 @@ acked_on Snapshot m operation slot n before = record {
 }
 acked_on Restoration m operation slot n before = record {
   later = before;
-  schedules = refl;
+  scheduled = refl;
   owners = refl;
   inside = λ i there. there;
   last = λ tablet i is. is;
   was = λ r there. like_itself m.snapshots r there;
   still = λ q there. inl (like_itself m.snapshots q there);
   floors = λ ns.
-      let same_ = ap (λ t. floor (schedule_of m.schedules ns) (option_or t (option_map (λ c. c.to) (clone_with m.clones ns))) n) (restored_time m.restorations operation slot ns) in
+      let same_ = ap (λ t. floor (least_low m.schedules ns n) (option_or t (option_map (λ c. c.to) (clone_with m.clones ns))) n) (restored_time m.restorations operation slot ns) in
       subst (λ f. floor_now m ns ≤ f) (sym same_) (floor_rises m (record m { clock = n }) ns (record { clock = before; schedules = refl; restorations = refl; clones = refl }));
 }
 acked_on Clone m operation slot n before = record {
   later = before;
-  schedules = refl;
+  scheduled = refl;
   owners = refl;
   inside = λ i there. there;
   last = λ tablet i is. is;
   was = λ r there. like_itself m.snapshots r there;
   still = λ q there. inl (like_itself m.snapshots q there);
   floors = λ ns.
-      let same_ = ap (λ t. floor (schedule_of m.schedules ns) (option_or (option_map (λ r. r.to) (restoration_of m.restorations ns)) t) n) (cloned_time m.clones operation slot ns) in
+      let same_ = ap (λ t. floor (least_low m.schedules ns n) (option_or (option_map (λ r. r.to) (restoration_of m.restorations ns)) t) n) (cloned_time m.clones operation slot ns) in
       subst (λ f. floor_now m ns ≤ f) (sym same_) (floor_rises m (record m { clock = n }) ns (record { clock = before; schedules = refl; restorations = refl; clones = refl }));
 }
 acked_on _ m operation slot n before = on_clock m n m.sent m.catalog refl before
@@ -179,7 +179,7 @@ last_known is target tablet i e = either_way (same tablet target)
 forgotten_on : (m : Master) (n : ℕ) (target : Id) → m.clock ≤ n → MasterOn m (record m { clock = n; activity = forget target m.activity })
 forgotten_on m n target before = record {
   later = before;
-  schedules = refl;
+  scheduled = refl;
   owners = refl;
   inside = λ i there. (filter_in m.activity (λ j. not (same j.tablet target)) i there).0;
   last = λ tablet i is. last_known m.activity target tablet i is;
@@ -221,7 +221,7 @@ discarded_on ps activity changes n target r inv d =
     let k = discarding m n target in
     record {
       later = le_of_lt d.before;
-      schedules = refl;
+      scheduled = refl;
       owners = refl;
       inside = λ i there. there;
       last = λ tablet i is. is;
@@ -232,7 +232,7 @@ discarded_on ps activity changes n target r inv d =
           inr (record {
             complete = ap (λ x. x.complete) is ∙ d.complete;
             below = λ s listed of.
-                let ns : s.namespace ≡ q.namespace = (inv.operations.snapshots q there).of_schedule s listed (sym of) in
+                let ns : s.namespace ≡ q.namespace = sym of in
                 let past : r.at < floor_of m r.namespace n = d.below in
                 subst (λ x. x.at < floor_of m s.namespace n) (sym is) (subst (λ id. r.at < floor_of m id n) (sym (ns ∙ ap (λ x. x.namespace) is)) past);
           }))

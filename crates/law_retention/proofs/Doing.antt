@@ -40,7 +40,7 @@ use Rattle.law_retention.proofs.Acts.{KeepsFacts}
 -- a tablet that is like another goes back as far
 like_back : (m : Master) (t u : Tablet) → GoesBack m t → u.tablet ≡ t.tablet → u.cutoff ≡ t.cutoff → ((f : FrozenSet) → In f u.frozen → In f t.frozen) → GoesBack m u
 like_back m t u back tablet cutoff sets = record {
-  live = λ s i listed last owned. subst (λ c. c ≤ max (complete_to s.complete s + 1) i.from) (sym cutoff) (back.live s i listed (subst (λ id. last_of m.activity id ≡ Some i) tablet last) owned);
+  live = λ s i listed last owned. subst (λ c. c ≤ max (complete_to s + 1) i.from) (sym cutoff) (back.live s i listed (subst (λ id. last_of m.activity id ≡ Some i) tablet last) owned);
   now = subst (λ c. c ≤ m.clock) (sym cutoff) back.now;
   sets = λ f r i x held inside id_is listed of active after late. back.sets f r i x (sets f held) inside id_is listed (of ∙ tablet) active after late;
 }
@@ -55,7 +55,7 @@ cut_back ps t u i facts back tablet sets inside of cut begun =
           let last_too : last_of m.activity t.tablet ≡ Some j = subst (λ id. last_of m.activity id ≡ Some j) tablet last in
           let latest : i.from ≤ j.from = facts.latest i j inside (ap (last_of m.activity) of ∙ last_too) in
           let was = back.live s j listed last_too owned in
-          most u.cutoff t.cutoff i.from (complete_to s.complete s + 1) j.from cut was latest;
+          most u.cutoff t.cutoff i.from (complete_to s + 1) j.from cut was latest;
       now = let past = back.now in at_most u.cutoff t.cutoff i.from m.clock cut past begun;
       sets = λ f r k x held there id_is listed of_ active after late. back.sets f r k x (sets f held) there id_is listed (of_ ∙ tablet) active after late;
     }
@@ -107,10 +107,10 @@ frozen_back ps activity changes slot s l i x inv facts kept open_ listed at insi
     let owner = (good.listed_of l i listed inside (of ∙ home.tablet_is)).0 in
     let there : i.slot ≡ slot = (good.listed_of l i listed inside (of ∙ home.tablet_is)).1 ∙ at in
     let k = good.scheduled open_ in
-    let ns : k.0.namespace ≡ s.namespace = good.of_schedule k.0 k.1.0 k.1.1.0 in
+    let ns : k.0.namespace ≡ s.namespace = k.1.1.0 in
     let owned : IsTabletOf m k.0.namespace i = ap (λ o. is_owned_by o k.0.namespace) owner ∙ ap (λ id. same id k.0.namespace) (sym ns) ∙ same_self k.0.namespace in
     let last = (facts.times k.0 k.1.0).unfinished s kept (sym k.1.1.0) open_ in
-    let late : complete_to k.0.complete k.0 < x = subst (λ a. a < x) last after in
+    let late : complete_to k.0 < x = subst (λ a. a < x) last after in
     subst (λ z. (ps.tablet z).cutoff ≤ x) there (there_live ps changes activity k.0 i x (record { inv = inv; facts = facts; listed = k.1.0; inside = inside; owned = owned; active = active }) late)
 
 freeze_keeps : (snapshot : Id) (at : ℕ) → BodyKeeps (Freeze snapshot at)

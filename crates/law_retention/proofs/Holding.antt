@@ -11,7 +11,7 @@ use Rattle.model.specs.Catalog.{Catalog, owns}
 use Rattle.model.specs.Entries.{slots_of}
 use Rattle.model.specs.History.{master_effect, told}
 use Rattle.model.specs.Parts.{Master, Outcome, Parts, answered}
-use Rattle.model.specs.Records.{Schedule, SnapshotRecord, Sent}
+use Rattle.model.specs.Records.{ScheduledNamespace, SnapshotRecord, Sent}
 use Rattle.model.specs.Retained.{IsTabletOf, floor_now}
 use Rattle.model.specs.Schedules.{complete_to}
 use Rattle.model.specs.Tablets.{Clock, FrozenSet, Tablet, TabletAct, act_for, effect, is_empty}
@@ -26,22 +26,22 @@ pub record HasLike (rs : List SnapshotRecord) (r : SnapshotRecord) : Type 0 wher
   pub snapshot : SnapshotRecord
   pub kept : In snapshot rs
   pub id_is : snapshot.id ≡ r.id
-  pub schedule_is : snapshot.schedule ≡ r.schedule
+  pub namespace_is : snapshot.namespace ≡ r.namespace
   pub complete_is : snapshot.complete ≡ r.complete
   pub after_is : snapshot.after ≡ r.after
   pub at_is : snapshot.at ≡ r.at
 
 pub like_itself : (rs : List SnapshotRecord) (r : SnapshotRecord) → In r rs → HasLike rs r
-like_itself rs r inside = record { snapshot = r; kept = inside; id_is = refl; schedule_is = refl; complete_is = refl; after_is = refl; at_is = refl }
+like_itself rs r inside = record { snapshot = r; kept = inside; id_is = refl; namespace_is = refl; complete_is = refl; after_is = refl; at_is = refl }
 
 -- a complete snapshot that is below the floor
 pub record IsPassed (k : Master) (q : SnapshotRecord) : Type 0 where
   pub complete : q.complete ≡ true
-  pub below : (s : Schedule) → In s k.schedules → q.schedule ≡ s.id → q.at < floor_now k s.namespace
+  pub below : (s : ScheduledNamespace) → In s k.scheduled → q.namespace ≡ s.namespace → q.at < floor_now k s.namespace
 
 pub record MasterOn (m k : Master) : Type 0 where
   pub later : m.clock ≤ k.clock
-  pub schedules : k.schedules ≡ m.schedules
+  pub scheduled : k.scheduled ≡ m.scheduled
   pub owners : k.catalog.owners ≡ m.catalog.owners
   -- a tablet that the master knows has the intervals that it had
   pub inside : (i : Interval) → In i k.activity → In i m.activity
@@ -54,7 +54,7 @@ pub record MasterOn (m k : Master) : Type 0 where
 pub record TabletOn (k : Master) (t u : Tablet) : Type 0 where
   pub there : is_empty t.presence ≡ false
   pub tablet_is : u.tablet ≡ t.tablet
-  pub live : (s : Schedule) (i : Interval) → In s k.schedules → last_of k.activity u.tablet ≡ Some i → IsTabletOf k s.namespace i → u.cutoff ≤ max t.cutoff (complete_to s.complete s + 1)
+  pub live : (s : ScheduledNamespace) (i : Interval) → In s k.scheduled → last_of k.activity u.tablet ≡ Some i → IsTabletOf k s.namespace i → u.cutoff ≤ max t.cutoff (complete_to s + 1)
   pub now : t.cutoff ≤ k.clock → u.cutoff ≤ k.clock
   pub sets : (f : FrozenSet) → In f u.frozen → In f t.frozen
 
@@ -63,32 +63,32 @@ owned_before m k ns i on owned = subst (λ os. owns os ns i.table ≡ true) on.o
 
 since_on : (m k : Master) → MasterOn m k → LastSince m → LastSince k
 since_on m k on since s i j x listed inside owned active last late =
-    since s i j x (subst (In s) on.schedules listed) (on.inside i inside) (owned_before m k s.namespace i on owned) active (on.last i.tablet j last) late
+    since s i j x (subst (In s) on.scheduled listed) (on.inside i inside) (owned_before m k s.namespace i on owned) active (on.last i.tablet j last) late
 
 -- the last complete snapshot is kept, or it is below the floor
-kept_on : (m k : Master) (s : Schedule) (at : ℕ) → MasterOn m k → In s k.schedules → IsKeptAt m s at → (at < floor_now k s.namespace) ⊎ IsKeptAt k s at
+kept_on : (m k : Master) (s : ScheduledNamespace) (at : ℕ) → MasterOn m k → In s k.scheduled → IsKeptAt m s at → (at < floor_now k s.namespace) ⊎ IsKeptAt k s at
 kept_on m k s at on listed h = elim (on.still h.snapshot h.kept) [
   | inl there ↦ inr (record {
     snapshot = there.snapshot;
     kept = there.kept;
-    schedule_is = there.schedule_is ∙ h.schedule_is;
+    namespace_is = there.namespace_is ∙ h.namespace_is;
     complete = there.complete_is ∙ h.complete;
     at_is = there.at_is ∙ h.at_is;
   })
-  | inr gone ↦ inl (subst (λ x. x < floor_now k s.namespace) h.at_is (gone.below s listed h.schedule_is))
+  | inr gone ↦ inl (subst (λ x. x < floor_now k s.namespace) h.at_is (gone.below s listed h.namespace_is))
 ]
 
-times_on : (m k : Master) (s : Schedule) → MasterOn m k → In s k.schedules → TimesFollow m s → TimesFollow k s
+times_on : (m k : Master) (s : ScheduledNamespace) → MasterOn m k → In s k.scheduled → TimesFollow m s → TimesFollow k s
 times_on m k s on listed times = record {
-  complete = λ r inside of complete. let q = on.was r inside in subst (λ x. x ≤ complete_to s.complete s) q.at_is (times.complete q.snapshot q.kept (q.schedule_is ∙ of) (q.complete_is ∙ complete));
-  unfinished = λ r inside of open_. let q = on.was r inside in sym q.after_is ∙ times.unfinished q.snapshot q.kept (q.schedule_is ∙ of) (q.complete_is ∙ open_);
+  complete = λ r inside of complete. let q = on.was r inside in subst (λ x. x ≤ complete_to s) q.at_is (times.complete q.snapshot q.kept (q.namespace_is ∙ of) (q.complete_is ∙ complete));
+  unfinished = λ r inside of open_. let q = on.was r inside in sym q.after_is ∙ times.unfinished q.snapshot q.kept (q.namespace_is ∙ of) (q.complete_is ∙ open_);
   last = λ none. times.last (λ r inside of open_. elim (on.still r inside) [
-    | inl there ↦ none there.snapshot there.kept (there.schedule_is ∙ of) (there.complete_is ∙ open_)
+    | inl there ↦ none there.snapshot there.kept (there.namespace_is ∙ of) (there.complete_is ∙ open_)
     | inr gone ↦ true≢false (sym gone.complete ∙ open_)
   ]);
   kept = elim times.kept [
     | inl past ↦ inl (lt_of_lt_of_le past (on.floors s.namespace))
-    | inr h ↦ kept_on m k s (complete_to s.complete s) on listed h
+    | inr h ↦ kept_on m k s (complete_to s) on listed h
   ];
 }
 
@@ -96,9 +96,9 @@ pub back_on : (m k : Master) (t u : Tablet) → MasterOn m k → GoesBack m t �
 back_on m k t u on back tablet = record {
   live = λ s i listed last owned.
       let last_too : last_of m.activity t.tablet ≡ Some i = on.last t.tablet i (subst (λ id. last_of k.activity id ≡ Some i) tablet.tablet_is last) in
-      let was = back.live s i (subst (In s) on.schedules listed) last_too (owned_before m k s.namespace i on owned) in
+      let was = back.live s i (subst (In s) on.scheduled listed) last_too (owned_before m k s.namespace i on owned) in
       let is = tablet.live s i listed last owned in
-      both_most u.cutoff t.cutoff (complete_to s.complete s + 1) i.from is was;
+      both_most u.cutoff t.cutoff (complete_to s + 1) i.from is was;
   now = tablet.now (le_trans back.now on.later);
   sets = λ f r i x held inside id_is listed of active after late.
       let q = on.was r inside in
@@ -116,7 +116,7 @@ facts_by before after facts on tablets = record {
   tablets = tablets;
   last_since = since_on before.master after.master on facts.last_since;
   latest = λ i j inside last. facts.latest i j (on.inside i inside) (on.last i.tablet j last);
-  times = λ s listed. times_on before.master after.master s on listed (facts.times s (subst (In s) on.schedules listed));
+  times = λ s listed. times_on before.master after.master s on listed (facts.times s (subst (In s) on.scheduled listed));
 }
 
 pub facts_on : (before after : Parts) → Facts before → MasterOn before.master after.master
@@ -133,7 +133,7 @@ HoldsFacts act n ps o = Facts (told act o n ps)
 pub on_clock : (m : Master) (n : ℕ) (sent : List Sent) (catalog : Catalog) → catalog.owners ≡ m.catalog.owners → m.clock ≤ n → MasterOn m (record m { clock = n; sent = sent; catalog = catalog })
 on_clock m n sent catalog owners before = record {
   later = before;
-  schedules = refl;
+  scheduled = refl;
   owners = owners;
   inside = λ i there. there;
   last = λ tablet i is. is;
@@ -147,7 +147,7 @@ pub like_on : (k : Master) (t u : Tablet) → is_empty t.presence ≡ false → 
 like_on k t u there tablet cutoff frozen = record {
   there = there;
   tablet_is = tablet;
-  live = λ s i listed last owned. (let e = cutoff in first u.cutoff t.cutoff (complete_to s.complete s + 1) e);
+  live = λ s i listed last owned. (let e = cutoff in first u.cutoff t.cutoff (complete_to s + 1) e);
   now = λ past. subst (λ c. c ≤ k.clock) (sym cutoff) past;
   sets = λ f held. subst (In f) frozen held;
 }

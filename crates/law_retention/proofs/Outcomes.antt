@@ -14,8 +14,7 @@ use Rattle.model.specs.History.{look}
 use Rattle.model.specs.Lists.{by_range}
 use Rattle.model.specs.Looks.{active_in, first_code, found_at, holding, judge_keys, look_keys, look_plan, look_present, look_table, placed, plan_of}
 use Rattle.model.specs.Parts.{decided, Check, If, Names, Fault, Master, Outcome, Parts, Restarts, answered, judged, refused}
-use Rattle.model.specs.RowActs.{write, read, cutoff, compact, restart, stats, count_frozen, cut_rows, first_cutoff, first_fence, first_moved, has_moved, rows_of_places, schedule_at, serves_all, stale}
-use Rattle.model.specs.Schedules.{allowed_cutoff}
+use Rattle.model.specs.RowActs.{write, read, cutoff, compact, restart, stats, count_frozen, cut_rows, first_cutoff, first_fence, first_moved, has_moved, rows_of_places, allowed_of, scheduled_at, serves_all, stale}
 use Rattle.model.specs.Tablets.{Compact as CompactTablet, RaiseCutoff, Restart as RestartTablet, Write as WriteRows, is_empty}
 use Rattle.model.specs.Work.{next_work}
 use Rattle.law_invariants.specs.Invariant.{Passes}
@@ -73,11 +72,11 @@ read_by Q places version key at columns n ps each =
     (answered reply) (λ why. each (Refused why)) (λ passes. each reply)
 
 pub cutoff_by : (Q : Outcome → Type 0) (slot n : ℕ) (ps : Parts) → ((reply : Reply) → Q (answered reply))
-    → (let to = allowed_cutoff (schedule_at ps.master slot) n in Q (tells slot (RaiseCutoff to) (CutoffAt (max (ps.tablet slot).cutoff to)))) → Q (cutoff slot n ps)
+    → (let to = allowed_of (scheduled_at ps.master slot) n in Q (tells slot (RaiseCutoff to) (CutoffAt (max (ps.tablet slot).cutoff to)))) → Q (cutoff slot n ps)
 unfolding cutoff
 cutoff_by Q slot n ps each go =
     let t = ps.tablet slot in
-    let to = allowed_cutoff (schedule_at ps.master slot) n in
+    let to = allowed_of (scheduled_at ps.master slot) n in
     by_refusal Q (If (is_empty t.presence) (has_moved slot t) ∷ []) (tells slot (RaiseCutoff to) (CutoffAt (max t.cutoff to))) (λ why. each (Refused why)) (λ passes. go)
 
 pub compact_by : (Q : Outcome → Type 0) (slot n : ℕ) (ps : Parts) → ((reply : Reply) → Q (answered reply)) → ((reply : Reply) → Q (tells slot CompactTablet reply)) → Q (compact slot n ps)

@@ -12,7 +12,7 @@ use Rattle.model.specs.Catalog.{owner_of, owns}
 use Rattle.model.specs.Cleanup.{floor_of}
 use Rattle.model.specs.Journal.{Change}
 use Rattle.model.specs.Parts.{Master, Parts}
-use Rattle.model.specs.Records.{Listed, Schedule, SnapshotRecord, lists_tablet}
+use Rattle.model.specs.Records.{Listed, ScheduledNamespace, SnapshotRecord, lists_tablet}
 use Rattle.model.specs.Retained.{IsTabletOf, ReachesBack, WillServe, floor_now, from_set, live, source_at, source_for, unfinished}
 use Rattle.model.specs.Schedules.{complete_to, serving}
 use Rattle.model.specs.Tablets.{FrozenSet, Tablet, set_of}
@@ -28,76 +28,76 @@ use Rattle.law_retention.specs.Facts.{Facts, GoesBack, LastSince, TimesFollow}
 
 -- Which snapshot serves
 
-pub record Serves (rs : List SnapshotRecord) (schedule : Id) (to : ℕ) (r : SnapshotRecord) : Type 0 where
+pub record Serves (rs : List SnapshotRecord) (ns : Id) (to : ℕ) (r : SnapshotRecord) : Type 0 where
   pub kept : In r rs
-  pub schedule_is : r.schedule ≡ schedule
+  pub namespace_is : r.namespace ≡ ns
   pub complete : r.complete ≡ true
   pub late : to ≤ r.at
   -- each other one that is late enough is not earlier
-  pub first : (q : SnapshotRecord) → In q rs → q.schedule ≡ schedule → q.complete ≡ true → to ≤ q.at → r.at ≤ q.at
+  pub first : (q : SnapshotRecord) → In q rs → q.namespace ≡ ns → q.complete ≡ true → to ≤ q.at → r.at ≤ q.at
 
-passes_here : (r : SnapshotRecord) (schedule : Id) (to : ℕ) → r.schedule ≡ schedule → r.complete ≡ true → to ≤ r.at → ((same r.schedule schedule && r.complete) && leb to r.at) ≡ true
-passes_here r schedule to is complete late =
-    passes_both (same r.schedule schedule && r.complete) (leb to r.at)
-    (passes_both (same r.schedule schedule) r.complete (ap (λ id. same id schedule) is ∙ same_self schedule) complete)
+passes_here : (r : SnapshotRecord) (ns : Id) (to : ℕ) → r.namespace ≡ ns → r.complete ≡ true → to ≤ r.at → ((same r.namespace ns && r.complete) && leb to r.at) ≡ true
+passes_here r ns to is complete late =
+    passes_both (same r.namespace ns && r.complete) (leb to r.at)
+    (passes_both (same r.namespace ns) r.complete (ap (λ id. same id ns) is ∙ same_self ns) complete)
     (grind (arith, nat_tests))
 
-serving_is : (rs : List SnapshotRecord) (schedule : Id) (to : ℕ) (r : SnapshotRecord) → SnapshotsRise rs → serving rs schedule to ≡ Some r → Serves rs schedule to r
-serving_is [] schedule to r rise e = cc
-serving_is (p ∷ rs) schedule to r rise e =
-    let here = (same p.schedule schedule && p.complete) && leb to p.at in
+serving_is : (rs : List SnapshotRecord) (ns : Id) (to : ℕ) (r : SnapshotRecord) → SnapshotsRise rs → serving rs ns to ≡ Some r → Serves rs ns to r
+serving_is [] ns to r rise e = cc
+serving_is (p ∷ rs) ns to r rise e =
+    let here = (same p.namespace ns && p.complete) && leb to p.at in
     either_way here
     (λ yes_.
     let first : Some p ≡ Some r = rw yes_ at e in
     let is : p ≡ r = cc in
-    let both = both_pass (same p.schedule schedule && p.complete) (leb to p.at) yes_ in
-    let of = both_pass (same p.schedule schedule) p.complete both.0 in
-    subst (λ x. Serves (p ∷ rs) schedule to x) is (record {
+    let both = both_pass (same p.namespace ns && p.complete) (leb to p.at) yes_ in
+    let of = both_pass (same p.namespace ns) p.complete both.0 in
+    subst (λ x. Serves (p ∷ rs) ns to x) is (record {
       kept = inl refl;
-      schedule_is = same_equal p.schedule schedule of.0;
+      namespace_is = same_equal p.namespace ns of.0;
       complete = of.1;
       late = leb-true to p.at both.1;
       first = λ q inside of_ complete late. elim inside [ inl same_ ↦ subst (λ x. p.at ≤ x.at) same_ (le_refl p.at) | inr later ↦ le_of_lt (rise.0 q later).1 ];
     }))
     (λ no_.
-    let rest = serving_is rs schedule to r rise.1 (rw no_ at e) in record {
+    let rest = serving_is rs ns to r rise.1 (rw no_ at e) in record {
       kept = inr rest.kept;
-      schedule_is = rest.schedule_is;
+      namespace_is = rest.namespace_is;
       complete = rest.complete;
       late = rest.late;
       first = λ q inside of complete late. elim inside [
-        | inl same_ ↦ absurd (true≢false (sym (passes_here p schedule to (ap (λ x. x.schedule) same_ ∙ of) (ap (λ x. x.complete) same_ ∙ complete) (subst (λ x. to ≤ x.at) (sym same_) late)) ∙ no_))
+        | inl same_ ↦ absurd (true≢false (sym (passes_here p ns to (ap (λ x. x.namespace) same_ ∙ of) (ap (λ x. x.complete) same_ ∙ complete) (subst (λ x. to ≤ x.at) (sym same_) late)) ∙ no_))
         | inr later ↦ rest.first q later of complete late
       ];
     })
 
-none_serves : (rs : List SnapshotRecord) (schedule : Id) (to : ℕ) (q : SnapshotRecord) → serving rs schedule to ≡ None → In q rs → q.schedule ≡ schedule → q.complete ≡ true → to ≤ q.at → ⊥
-none_serves [] schedule to q e inside of complete late = inside
-none_serves (p ∷ rs) schedule to q e inside of complete late =
-    let here = (same p.schedule schedule && p.complete) && leb to p.at in
+none_serves : (rs : List SnapshotRecord) (ns : Id) (to : ℕ) (q : SnapshotRecord) → serving rs ns to ≡ None → In q rs → q.namespace ≡ ns → q.complete ≡ true → to ≤ q.at → ⊥
+none_serves [] ns to q e inside of complete late = inside
+none_serves (p ∷ rs) ns to q e inside of complete late =
+    let here = (same p.namespace ns && p.complete) && leb to p.at in
     either_way here
     (λ yes_. let none : Some p ≡ None = rw yes_ at e in cc)
     (λ no_. elim inside [
-      | inl same_ ↦ true≢false (sym (passes_here p schedule to (ap (λ x. x.schedule) same_ ∙ of) (ap (λ x. x.complete) same_ ∙ complete) (subst (λ x. to ≤ x.at) (sym same_) late)) ∙ no_)
-      | inr later ↦ none_serves rs schedule to q (rw no_ at e) later of complete late
+      | inl same_ ↦ true≢false (sym (passes_here p ns to (ap (λ x. x.namespace) same_ ∙ of) (ap (λ x. x.complete) same_ ∙ complete) (subst (λ x. to ≤ x.at) (sym same_) late)) ∙ no_)
+      | inr later ↦ none_serves rs ns to q (rw no_ at e) later of complete late
     ])
 
-pub record IsLeft (rs : List SnapshotRecord) (schedule : Id) (r : SnapshotRecord) : Type 0 where
+pub record IsLeft (rs : List SnapshotRecord) (ns : Id) (r : SnapshotRecord) : Type 0 where
   pub kept : In r rs
-  pub schedule_is : r.schedule ≡ schedule
+  pub namespace_is : r.namespace ≡ ns
   pub open_is : r.complete ≡ false
 
-pub unfinished_is : (rs : List SnapshotRecord) (schedule : Id) (r : SnapshotRecord) → unfinished rs schedule ≡ Some r → IsLeft rs schedule r
-unfinished_is [] schedule r e = cc
-unfinished_is (p ∷ rs) schedule r e =
-    let here = same p.schedule schedule && not p.complete in
+pub unfinished_is : (rs : List SnapshotRecord) (ns : Id) (r : SnapshotRecord) → unfinished rs ns ≡ Some r → IsLeft rs ns r
+unfinished_is [] ns r e = cc
+unfinished_is (p ∷ rs) ns r e =
+    let here = same p.namespace ns && not p.complete in
     either_way here
     (λ yes_.
     let first : Some p ≡ Some r = rw yes_ at e in
     let is : p ≡ r = cc in
-    let both = both_pass (same p.schedule schedule) (not p.complete) yes_ in
-    subst (λ x. IsLeft (p ∷ rs) schedule x) is (record { kept = inl refl; schedule_is = same_equal p.schedule schedule both.0; open_is = not_true p.complete both.1 }))
-    (λ no_. let rest = unfinished_is rs schedule r (rw no_ at e) in record { kept = inr rest.kept; schedule_is = rest.schedule_is; open_is = rest.open_is })
+    let both = both_pass (same p.namespace ns) (not p.complete) yes_ in
+    subst (λ x. IsLeft (p ∷ rs) ns x) is (record { kept = inl refl; namespace_is = same_equal p.namespace ns both.0; open_is = not_true p.complete both.1 }))
+    (λ no_. let rest = unfinished_is rs ns r (rw no_ at e) in record { kept = inr rest.kept; namespace_is = rest.namespace_is; open_is = rest.open_is })
 
 -- The tablets
 
@@ -116,10 +116,10 @@ is_listed : (ls : List Listed) (l : Listed) (tablet : Id) → In l ls → l.tabl
 is_listed ls l tablet inside is = any_in (λ k. same k.tablet tablet) ls l inside (ap (λ id. same id tablet) is ∙ same_self tablet)
 
 -- the snapshot before the one that serves is earlier than the time
-after_before : (m : Master) (changes : List Change) (s : Schedule) (r : SnapshotRecord) (to : ℕ) → OperationsGood m changes → In s m.schedules → Serves m.snapshots s.id to r → floor_now m s.namespace ≤ to → r.after < to
+after_before : (m : Master) (changes : List Change) (s : ScheduledNamespace) (r : SnapshotRecord) (to : ℕ) → OperationsGood m changes → In s m.scheduled → Serves m.snapshots s.namespace to r → floor_now m s.namespace ≤ to → r.after < to
 after_before m changes s r to ops listed serves low =
     let good = ops.snapshots r serves.kept in
-    let ns : s.namespace ≡ r.namespace = good.of_schedule s listed (sym serves.schedule_is) in
+    let ns : s.namespace ≡ r.namespace = sym serves.namespace_is in
     elim good.reached [
       | inl past ↦ (let low_too : floor_of m r.namespace m.clock ≤ to = subst (λ k. floor_of m k m.clock ≤ to) ns low in omega (arith, past, low_too))
       | inr h ↦ (
@@ -128,30 +128,30 @@ after_before m changes s r to ops listed serves low =
           either_way (leb to q.at)
           (λ e.
           let late : to ≤ q.at = leb-true to q.at e in
-          let first : r.at ≤ q.at = serves.first q h.1.0 (h.1.1.0 ∙ serves.schedule_is) h.1.1.1.1 late in
+          let first : r.at ≤ q.at = serves.first q h.1.0 (h.1.1.0 ∙ serves.namespace_is) h.1.1.1.1 late in
           let rises : r.after < r.at = good.rises in
           absurd (omega (arith, at_is, first, rises)))
           (λ e. let early : q.at < to = leb-false to q.at e in omega (arith, at_is, early)))
     ]
 
 -- what is past the last complete snapshot, where none serves a time from the floor on
-unserved_late : (m : Master) (s : Schedule) (to : ℕ) → TimesFollow m s → serving m.snapshots s.id to ≡ None → floor_now m s.namespace ≤ to → complete_to s.complete s < to
+unserved_late : (m : Master) (s : ScheduledNamespace) (to : ℕ) → TimesFollow m s → serving m.snapshots s.namespace to ≡ None → floor_now m s.namespace ≤ to → complete_to s < to
 unserved_late m s to times none low = elim times.kept [
   | inl past ↦ omega (arith, past, low)
-  | inr h ↦ either_way (leb to (complete_to s.complete s))
-      (λ e. let late : to ≤ complete_to s.complete s = leb-true _ _ e in
-      absurd (none_serves m.snapshots s.id to h.snapshot none h.kept h.schedule_is h.complete (subst (λ at. to ≤ at) (sym h.at_is) late)))
-      (λ e. leb-false to (complete_to s.complete s) e)
+  | inr h ↦ either_way (leb to (complete_to s))
+      (λ e. let late : to ≤ complete_to s = leb-true _ _ e in
+      absurd (none_serves m.snapshots s.namespace to h.snapshot none h.kept h.namespace_is h.complete (subst (λ at. to ≤ at) (sym h.at_is) late)))
+      (λ e. leb-false to (complete_to s) e)
 ]
 
 -- the live store of a tablet that is active at a time past the last complete snapshot
-live_reaches : (m : Master) (s : Schedule) (t : Tablet) (i j : Interval) (to : ℕ) → GoesBack m t → LastSince m → In s m.schedules → In i m.activity → i.tablet ≡ t.tablet → IsTabletOf m s.namespace i
-    → IsTabletOf m s.namespace j → last_of m.activity t.tablet ≡ Some j → active_at to i ≡ true → complete_to s.complete s < to → t.cutoff ≤ to
+live_reaches : (m : Master) (s : ScheduledNamespace) (t : Tablet) (i j : Interval) (to : ℕ) → GoesBack m t → LastSince m → In s m.scheduled → In i m.activity → i.tablet ≡ t.tablet → IsTabletOf m s.namespace i
+    → IsTabletOf m s.namespace j → last_of m.activity t.tablet ≡ Some j → active_at to i ≡ true → complete_to s < to → t.cutoff ≤ to
 live_reaches m s t i j to back since listed inside is owned owned_last last active late =
     let last_too : last_of m.activity i.tablet ≡ Some j = ap (last_of m.activity) is ∙ last in
     let begun : j.from ≤ to = since s i j to listed inside owned active last_too late in
     let cut = back.live s j listed last owned_last in
-    most t.cutoff (complete_to s.complete s) j.from to cut late begun
+    most t.cutoff (complete_to s) j.from to cut late begun
   where
     most : (c a b x : ℕ) → c ≤ max (a + 1) b → a < x → b ≤ x → c ≤ x
     most c a b x h l k = omega arith
@@ -176,22 +176,22 @@ no_last (j ∷ is) tablet i found (inl here) of e =
 no_last (j ∷ is) tablet i found (inr later) of e = no_last is tablet i _ later of e
 
 -- all that is known of a tablet that was active at a time
-pub record IsThere (ps : Parts) (changes : List Change) (activity : List Interval) (s : Schedule) (i : Interval) (to : ℕ) : Type 0 where
+pub record IsThere (ps : Parts) (changes : List Change) (activity : List Interval) (s : ScheduledNamespace) (i : Interval) (to : ℕ) : Type 0 where
   pub inv : Inv ps activity changes
   pub facts : Facts ps
-  pub listed : In s ps.master.schedules
+  pub listed : In s ps.master.scheduled
   pub inside : In i ps.master.activity
   pub owned : IsTabletOf ps.master s.namespace i
   pub active : active_at to i ≡ true
 
-there_listed : (ps : Parts) (changes : List Change) (activity : List Interval) (s : Schedule) (i : Interval) (to : ℕ) (r : SnapshotRecord) → IsThere ps changes activity s i to
-    → In r ps.master.snapshots → r.schedule ≡ s.id → r.after < to → to ≤ r.at → IsListed r.listed i
+there_listed : (ps : Parts) (changes : List Change) (activity : List Interval) (s : ScheduledNamespace) (i : Interval) (to : ℕ) (r : SnapshotRecord) → IsThere ps changes activity s i to
+    → In r ps.master.snapshots → r.namespace ≡ s.namespace → r.after < to → to ≤ r.at → IsListed r.listed i
 there_listed ps changes activity s i to r h kept of after late =
     let good = h.inv.operations.snapshots r kept in
-    let ns : s.namespace ≡ r.namespace = good.of_schedule s h.listed (sym of) in
+    let ns : s.namespace ≡ r.namespace = sym of in
     good.lists i h.inside (owned_is (owner_of ps.master.catalog.owners i.table) s.namespace h.owned ∙ ap Some ns) (within r i to h.active after late)
 
-pub there_live : (ps : Parts) (changes : List Change) (activity : List Interval) (s : Schedule) (i : Interval) (to : ℕ) → IsThere ps changes activity s i to → complete_to s.complete s < to
+pub there_live : (ps : Parts) (changes : List Change) (activity : List Interval) (s : ScheduledNamespace) (i : Interval) (to : ℕ) → IsThere ps changes activity s i to → complete_to s < to
     → (ps.tablet i.slot).cutoff ≤ to
 there_live ps changes activity s i to h late =
     let m = ps.master in
@@ -213,15 +213,15 @@ by_set_or_live : (o : Option FrozenSet) (t : Tablet) (to : ℕ) → t.cutoff ≤
 by_set_or_live None t to reaches of_set = reaches
 by_set_or_live (Some set) t to reaches of_set = of_set set refl
 
-reaches_with : (served left : Option SnapshotRecord) (ps : Parts) (changes : List Change) (activity : List Interval) (s : Schedule) (i : Interval) (to : ℕ) → IsThere ps changes activity s i to → floor_now ps.master s.namespace ≤ to
-    → serving ps.master.snapshots s.id to ≡ served → unfinished ps.master.snapshots s.id ≡ left
+reaches_with : (served left : Option SnapshotRecord) (ps : Parts) (changes : List Change) (activity : List Interval) (s : ScheduledNamespace) (i : Interval) (to : ℕ) → IsThere ps changes activity s i to → floor_now ps.master s.namespace ≤ to
+    → serving ps.master.snapshots s.namespace to ≡ served → unfinished ps.master.snapshots s.namespace ≡ left
     → ReachesBack (source_at served left (ps.tablet i.slot) to) to × WillServe served left i.tablet to
 reaches_with (Some r) left ps changes activity s i to h low e f =
     let m = ps.master in
     let t = ps.tablet i.slot in
-    let serves = serving_is m.snapshots s.id to r h.inv.operations.apart.snapshots_rise e in
+    let serves = serving_is m.snapshots s.namespace to r h.inv.operations.apart.snapshots_rise e in
     let after = after_before m changes s r to h.inv.operations h.listed serves low in
-    let lists = there_listed ps changes activity s i to r h serves.kept serves.schedule_is after serves.late in
+    let lists = there_listed ps changes activity s i to r h serves.kept serves.namespace_is after serves.late in
     let g = (h.inv.slots i.slot).each i h.inside refl in
     let w = h.inv.works i.slot in
     let did = w.obeyed.snapshots r lists.line serves.kept lists.listed lists.slot_is (ap (λ b. b || lists.line.acked) serves.complete) (g.tablet_is ∙ sym lists.tablet_is) g.present in
@@ -235,10 +235,10 @@ reaches_with None None ps changes activity s i to h low e f =
 reaches_with None (Some r) ps changes activity s i to h low e f =
     let m = ps.master in
     let t = ps.tablet i.slot in
-    let left = unfinished_is m.snapshots s.id r f in
+    let left = unfinished_is m.snapshots s.namespace r f in
     let times = h.facts.times s h.listed in
     let late = unserved_late m s to times e low in
-    let after_is = times.unfinished r left.kept left.schedule_is left.open_is in
+    let after_is = times.unfinished r left.kept left.namespace_is left.open_is in
     let after : r.after < to = subst (λ x. x < to) (sym after_is) late in
     let reaches = there_live ps changes activity s i to h late in
     let g = (h.inv.slots i.slot).each i h.inside refl in
@@ -247,13 +247,13 @@ reaches_with None (Some r) ps changes activity s i to h low e f =
       cond_both (leb to r.at) (unwrap_or (option_map from_set (set_of t.frozen r.id)) (live t)) (live t) (λ source. source.cutoff ≤ to)
           (λ b. by_set (λ set q. let there = set_is t.frozen r.id set q in back.sets set r i to there.0 left.kept (sym there.1) h.inside (sym g.tablet_is) h.active after (leb-true to r.at b)))
           (λ b. reaches),
-      λ soon. let lists = there_listed ps changes activity s i to r h left.kept left.schedule_is after soon in is_listed r.listed lists.line i.tablet lists.listed lists.tablet_is,
+      λ soon. let lists = there_listed ps changes activity s i to r h left.kept left.namespace_is after soon in is_listed r.listed lists.line i.tablet lists.listed lists.tablet_is,
     )
 
 -- the rows of a tablet at each time from the floor on at which it was active can be had
-pub rows_reached : (ps : Parts) (changes : List Change) (activity : List Interval) (s : Schedule) (i : Interval) (to : ℕ) → Inv ps activity changes → Facts ps → In s ps.master.schedules
+pub rows_reached : (ps : Parts) (changes : List Change) (activity : List Interval) (s : ScheduledNamespace) (i : Interval) (to : ℕ) → Inv ps activity changes → Facts ps → In s ps.master.scheduled
     → In i ps.master.activity → IsTabletOf ps.master s.namespace i → floor_now ps.master s.namespace ≤ to → active_at to i ≡ true
-    → ReachesBack (source_for ps s i.slot to) to × WillServe (serving ps.master.snapshots s.id to) (unfinished ps.master.snapshots s.id) i.tablet to
+    → ReachesBack (source_for ps s.namespace i.slot to) to × WillServe (serving ps.master.snapshots s.namespace to) (unfinished ps.master.snapshots s.namespace) i.tablet to
 rows_reached ps changes activity s i to inv facts listed inside owned low active =
-    reaches_with (serving ps.master.snapshots s.id to) (unfinished ps.master.snapshots s.id) ps changes activity s i to
+    reaches_with (serving ps.master.snapshots s.namespace to) (unfinished ps.master.snapshots s.namespace) ps changes activity s i to
     (record { inv = inv; facts = facts; listed = listed; inside = inside; owned = owned; active = active }) low refl refl

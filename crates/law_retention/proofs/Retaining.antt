@@ -1,20 +1,21 @@
 -- Retention holds where what holds after each entry does, and how far back tablets go, and how snapshots follow each other.
-use Rattle.std.proofs.Common.{◌<◌, ◌≤◌, ◌≡◌, ◌∷◌, ◌∙◌, ℕ, List, [], true, false, Option, Some, None, refl, sym, ap, subst, inl, inr, arith, leb, leb-true, ltb-true, ◌-◌}
+use Rattle.std.proofs.Common.{◌<◌, ◌≤◌, ◌≡◌, ◌∷◌, ◌∙◌, ℕ, List, [], true, false, Option, Some, None, refl, sym, ap, subst, inl, inr, arith, leb, leb-true, ltb-true, ◌-◌, ◌*◌, max}
 use Rattle.std.proofs.lemmas.Bool.{true≢false}
 use Rattle.std.specs.Option.{option_map_or}
 use Rattle.row_values.specs.Ids.{Id}
 use Rattle.row_values.specs.Elements.{In}
-use Rattle.model.specs.Times.{before_end, ended_by}
+use Rattle.model.specs.Times.{before_end, ended_by, minute}
 use Rattle.model.specs.Activity.{Interval, active_at}
 use Rattle.model.specs.Catalog.{owner_of}
 use Rattle.model.specs.Cleanup.{floor_of, floor_of_table}
 use Rattle.model.specs.Journal.{Change}
 use Rattle.model.specs.Parts.{Master, Parts}
-use Rattle.model.specs.Records.{Schedule, SnapshotRecord}
+use Rattle.model.specs.Records.{Schedule, ScheduledNamespace, SnapshotRecord}
 use Rattle.model.specs.Retained.{IsPresent, IsTabletOf, OneUnfinished, Retained, TimesRise, floor_now, unfinished}
+use Rattle.model.specs.Schedules.{low}
 use Rattle.model.specs.Tablets.{is_empty}
 use Rattle.law_invariants.specs.Invariant.{Inv}
-use Rattle.law_invariants.specs.Operations.{SnapshotsRise}
+use Rattle.law_invariants.specs.Operations.{OperationsGood, SnapshotsRise}
 use Rattle.law_invariants.specs.Remembered.{IsForgotten}
 use Rattle.law_invariants.proofs.Finding.{both_pass, none_or_some, same_equal}
 use Rattle.law_invariants.proofs.Undoing.{owned_is}
@@ -51,28 +52,39 @@ there_at ps activity changes i slot tablet inv inside at is =
 
 -- one unfinished snapshot
 
-later_apart : (rs : List SnapshotRecord) (r : SnapshotRecord) (schedule : Id) → SnapshotsRise (r ∷ rs) → ((q : SnapshotRecord) → In q rs → q.complete ≡ false → q.schedule ≡ schedule → q ≡ r) → unfinished rs schedule ≡ None
-later_apart rs r schedule rise one = none_or_some (unfinished rs schedule)
+later_apart : (rs : List SnapshotRecord) (r : SnapshotRecord) (ns : Id) → SnapshotsRise (r ∷ rs) → ((q : SnapshotRecord) → In q rs → q.complete ≡ false → q.namespace ≡ ns → q ≡ r) → unfinished rs ns ≡ None
+later_apart rs r ns rise one = none_or_some (unfinished rs ns)
     (λ none. none)
     (λ q some.
-    let left = unfinished_is rs schedule q some in
-    let is : q ≡ r = one q left.kept left.open_is left.schedule_is in
+    let left = unfinished_is rs ns q some in
+    let is : q ≡ r = one q left.kept left.open_is left.namespace_is in
     let rises = (rise.0 q left.kept).0 in
     absurd (let k : q.id.number ≡ r.id.number = ap (λ x. x.id.number) is in omega arith))
 
-one_left : (rs : List SnapshotRecord) (schedule : Id) → SnapshotsRise rs
-    → ((q r : SnapshotRecord) → In q rs → In r rs → q.complete ≡ false → r.complete ≡ false → q.schedule ≡ r.schedule → q ≡ r) → OneUnfinished rs schedule
-one_left [] schedule rise one = tt
-one_left (r ∷ rs) schedule rise one = (
-  λ is open_. later_apart rs r schedule rise (λ q inside left of. one q r (inr inside) (inl refl) left open_ (of ∙ sym (same_equal r.schedule schedule is))),
-  one_left rs schedule rise.1 (λ q r a b. one q r (inr a) (inr b)),
+one_left : (rs : List SnapshotRecord) (ns : Id) → SnapshotsRise rs
+    → ((q r : SnapshotRecord) → In q rs → In r rs → q.complete ≡ false → r.complete ≡ false → q.namespace ≡ r.namespace → q ≡ r) → OneUnfinished rs ns
+one_left [] ns rise one = tt
+one_left (r ∷ rs) ns rise one = (
+  λ is open_. later_apart rs r ns rise (λ q inside left of. one q r (inr inside) (inl refl) left open_ (of ∙ sym (same_equal r.namespace ns is))),
+  one_left rs ns rise.1 (λ q r a b. one q r (inr a) (inr b)),
 )
 
+-- the window of a schedule begins since its namespace is scheduled
+since_before : (ps : Parts) (changes : List Change) (s : ScheduledNamespace) (t : Schedule) → OperationsGood ps.master changes → In s ps.master.scheduled → In t ps.master.schedules → t.namespace ≡ s.namespace
+    → s.since ≤ low t ps.master.clock
+since_before ps changes s t ops listed inside is =
+    let h = (ops.schedules t inside).scheduled in
+    let one : h.0 ≡ s = ops.apart.one_scheduled h.0 s h.1.0 listed (h.1.1.0 ∙ is) in
+    most s.since t.kept_low (ps.master.clock - t.retention * minute) (subst (λ k. k.since ≤ t.kept_low) one h.1.1.1)
+  where
+    most : (a b c : ℕ) → a ≤ b → a ≤ max b c
+    most a b c le = omega arith
+
 pub facts_retain : (ps : Parts) (activity : List Interval) (changes : List Change) (taken : List SnapshotRecord) → Inv ps activity changes → Facts ps
-    → ((s : Schedule) → In s ps.master.schedules → TimesRise taken s.id (s.kept_low - 1)) → Retained ps activity taken
+    → ((s : ScheduledNamespace) → In s ps.master.scheduled → TimesRise taken s.namespace s.since 0) → Retained ps activity taken
 facts_retain ps activity changes taken inv facts rise =
     let m = ps.master in
-    let kept : (s : Schedule) (i : Interval) (x : ℕ) → In i activity → IsTabletOf m s.namespace i → floor_now m s.namespace ≤ x → active_at x i ≡ true → In i m.activity = λ s i x ever owned low active.
+    let kept : (s : ScheduledNamespace) (i : Interval) (x : ℕ) → In i activity → IsTabletOf m s.namespace i → floor_now m s.namespace ≤ x → active_at x i ≡ true → In i m.activity = λ s i x ever owned low active.
     elim (inv.remembered.each i ever) [ inl here ↦ here | inr gone ↦ absurd (never_forgotten m s.namespace i x gone owned low active) ] in
     record {
       scheduled = λ s listed. record {
@@ -80,7 +92,8 @@ facts_retain ps activity changes taken inv facts rise =
         reaches = λ i to ever owned low past active. rows_reached ps changes activity s i to inv facts listed (kept s i to ever owned low active) owned low active;
         cutoffs = λ slot i here last owned. let back = facts.tablets slot here in (back.live s i listed last owned, back.now);
         times = rise s listed;
-        unfinished_one = one_left m.snapshots s.id inv.operations.apart.snapshots_rise inv.operations.apart.one_snapshot;
+        unfinished_one = one_left m.snapshots s.namespace inv.operations.apart.snapshots_rise inv.operations.apart.one_snapshot;
+        since = λ t inside is. since_before ps changes s t inv.operations listed inside is;
         catalog = inv.operations.kept s.namespace;
       };
       listed = record {

@@ -9,20 +9,20 @@ use Rattle.model.specs.Activity.{Interval, active_at, route}
 use Rattle.model.specs.Catalog.{owns, tables_at}
 use Rattle.model.specs.Looks.{place_of}
 use Rattle.model.specs.Parts.{Parts}
-use Rattle.model.specs.Records.{Schedule, SnapshotRecord}
+use Rattle.model.specs.Records.{ScheduledNamespace, SnapshotRecord}
 use Rattle.model.specs.Schedules.{serving}
 use Rattle.model.specs.Retained.{IsPresent, IsTabletOf, Retained, ReachesBack, floor_now, source_at, source_for, unfinished}
 use Rattle.model.specs.Taking.{SetKept, StillServes, TabletKept, TakesNothingNeeded, names_at, read_from, untimed}
 use Rattle.law_retention.proofs.Sources.{AreLike, CountsIfAny, TabletStays, source_alike, source_reads}
 
--- what a time of a schedule's namespace needs is as before
-pub record TimeStays (Counts : Id → Type 0) (before after : Parts) (s : Schedule) (to : ℕ) : Type 0 where
+-- what a time of a scheduled namespace needs is as before
+pub record TimeStays (Counts : Id → Type 0) (before after : Parts) (s : ScheduledNamespace) (to : ℕ) : Type 0 where
   pub names : names_at after.master.catalog.namespaces s.namespace to ≡ names_at before.master.catalog.namespaces s.namespace to
   pub tables : map untimed (tables_at after.master.catalog.tables s.namespace to) ≡ map untimed (tables_at before.master.catalog.tables s.namespace to)
-  pub serving_like : AreLike (serving after.master.snapshots s.id to) (serving before.master.snapshots s.id to)
-  pub left_like : AreLike (unfinished after.master.snapshots s.id) (unfinished before.master.snapshots s.id)
-  pub serving_counts : CountsIfAny Counts (serving before.master.snapshots s.id to)
-  pub left_counts : CountsIfAny Counts (unfinished before.master.snapshots s.id)
+  pub serving_like : AreLike (serving after.master.snapshots s.namespace to) (serving before.master.snapshots s.namespace to)
+  pub left_like : AreLike (unfinished after.master.snapshots s.namespace) (unfinished before.master.snapshots s.namespace)
+  pub serving_counts : CountsIfAny Counts (serving before.master.snapshots s.namespace to)
+  pub left_counts : CountsIfAny Counts (unfinished before.master.snapshots s.namespace)
   -- where each tablet that was active is present
   pub places : (table : Id) (code : ℕ) → ((i : Interval) → In i before.master.activity → i.table ≡ table → active_at to i ≡ true → IsPresent after i.slot i.tablet)
       → route after.master.activity table code to ≡ route before.master.activity table code to
@@ -32,7 +32,7 @@ pub record Stays (Counts : Id → Type 0) (before after : Parts) (activity : Lis
   pub later : before.master.clock ≤ after.master.clock
   pub owners : after.master.catalog.owners ≡ before.master.catalog.owners
   pub known : (i : Interval) → In i before.master.activity → In i activity
-  pub times : (s : Schedule) (to : ℕ) → In s after.master.schedules → floor_now after.master s.namespace ≤ to → TimeStays Counts before after s to
+  pub times : (s : ScheduledNamespace) (to : ℕ) → In s after.master.scheduled → floor_now after.master s.namespace ≤ to → TimeStays Counts before after s to
   pub active : (i : Interval) → In i before.master.activity → IsPresent after i.slot i.tablet → In i after.master.activity
   pub tablets : (i : Interval) → In i before.master.activity → IsPresent after i.slot i.tablet → TabletStays Counts (before.tablet i.slot) (after.tablet i.slot)
   pub cutoffs : (slot : ℕ) → (before.tablet slot).cutoff ≤ (before.tablet slot).clock
@@ -55,9 +55,9 @@ above_cutoff to cutoff clock past above = omega arith
 by_clock : (to clock : ℕ) → min to clock ≤ clock
 by_clock to clock = omega arith
 
-tablet_kept : (Counts : Id → Type 0) (before after : Parts) (activity : List Interval) (taken : List SnapshotRecord) (s : Schedule) (to : ℕ) (i : Interval) → Retained after activity taken
-    → Stays Counts before after activity → In s after.master.schedules → floor_now after.master s.namespace ≤ to → to ≤ before.master.clock
-    → In i before.master.activity → IsTabletOf before.master s.namespace i → active_at to i ≡ true → TabletKept before after s to i
+tablet_kept : (Counts : Id → Type 0) (before after : Parts) (activity : List Interval) (taken : List SnapshotRecord) (s : ScheduledNamespace) (to : ℕ) (i : Interval) → Retained after activity taken
+    → Stays Counts before after activity → In s after.master.scheduled → floor_now after.master s.namespace ≤ to → to ≤ before.master.clock
+    → In i before.master.activity → IsTabletOf before.master s.namespace i → active_at to i ≡ true → TabletKept before after s.namespace to i
 tablet_kept Counts before after activity taken s to i retained stays listed from past inside owned active =
     let r = retained.scheduled s listed in
     let m = before.master in
@@ -69,17 +69,17 @@ tablet_kept Counts before after activity taken s to i retained stays listed from
     let owned_now : IsTabletOf k s.namespace i = subst (λ os. owns os s.namespace i.table ≡ true) (sym stays.owners) owned in
     let present = r.active_present i to known owned_now from active in
     let tablet = stays.tablets i inside present in
-    let reaches : ReachesBack (source_for after s i.slot to) to = (r.reaches i to known owned_now from (le_trans past stays.later) active).0 in
-    let same : source_for after s i.slot to ≡ source_at (serving m.snapshots s.id to) (unfinished m.snapshots s.id) u to
-    = source_alike (serving k.snapshots s.id to) (serving m.snapshots s.id to) (unfinished k.snapshots s.id) (unfinished m.snapshots s.id) u to time.serving_like time.left_like in
+    let reaches : ReachesBack (source_for after s.namespace i.slot to) to = (r.reaches i to known owned_now from (le_trans past stays.later) active).0 in
+    let same : source_for after s.namespace i.slot to ≡ source_at (serving m.snapshots s.namespace to) (unfinished m.snapshots s.namespace) u to
+    = source_alike (serving k.snapshots s.namespace to) (serving m.snapshots s.namespace to) (unfinished k.snapshots s.namespace) (unfinished m.snapshots s.namespace) u to time.serving_like time.left_like in
     record {
       present = present;
       active = record { interval = i; listed = stays.active i inside present; place = refl; table = refl; active = active };
-      set = set_kept Counts (serving m.snapshots s.id to) i.slot before after time.serving_counts tablet;
+      set = set_kept Counts (serving m.snapshots s.namespace to) i.slot before after time.serving_counts tablet;
       reaches = reaches;
       reads = λ key.
           ap (λ source. read_from source key (min to t.clock)) same
-          ∙ source_reads Counts (serving m.snapshots s.id to) (unfinished m.snapshots s.id) t u to (min to t.clock) key tablet time.serving_counts time.left_counts
+          ∙ source_reads Counts (serving m.snapshots s.namespace to) (unfinished m.snapshots s.namespace) t u to (min to t.clock) key tablet time.serving_counts time.left_counts
           (by_clock to t.clock) (above_cutoff to t.cutoff t.clock (stays.cutoffs i.slot)) (subst (λ source. ReachesBack source to) same reaches);
     }
 
@@ -95,6 +95,6 @@ staying_takes_nothing Counts act before after activity taken retained stays s to
           (λ i inside is active.
           let owned_now : IsTabletOf after.master s.namespace i = subst (λ os. owns os s.namespace i.table ≡ true) (sym stays.owners) (subst (λ id. owns before.master.catalog.owners s.namespace id ≡ true) (sym is) owned) in
           r.active_present i to (stays.known i inside) owned_now from active));
-      serves = still_serves (serving after.master.snapshots s.id to) (serving before.master.snapshots s.id to) time.serving_like;
+      serves = still_serves (serving after.master.snapshots s.namespace to) (serving before.master.snapshots s.namespace to) time.serving_like;
       tablets = λ i inside owned active. tablet_kept Counts before after activity taken s to i retained stays listed from past inside owned active;
     }

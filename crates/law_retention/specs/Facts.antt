@@ -4,7 +4,7 @@ use Rattle.std.specs.Prelude.{◌≡◌, ℕ, ◌≤◌, ◌<◌, true, false, S
 use Rattle.row_values.specs.Elements.{In}
 use Rattle.model.specs.Activity.{Interval, active_at, last_of}
 use Rattle.model.specs.Parts.{Master, Parts}
-use Rattle.model.specs.Records.{Schedule, SnapshotRecord}
+use Rattle.model.specs.Records.{ScheduledNamespace, SnapshotRecord}
 use Rattle.model.specs.Retained.{IsTabletOf, floor_now}
 use Rattle.model.specs.Schedules.{after_of, complete_to}
 use Rattle.model.specs.Tablets.{FrozenSet, Tablet, is_empty}
@@ -12,8 +12,8 @@ use Rattle.model.specs.Tablets.{FrozenSet, Tablet, is_empty}
 -- how far back a tablet goes
 pub record GoesBack (m : Master) (t : Tablet) : Type 0 where
   -- its live store: past the last complete snapshot by one at most, or to the start of the tablet's last activity
-  pub live : (s : Schedule) (i : Interval) → In s m.schedules → last_of m.activity t.tablet ≡ Some i
-      → IsTabletOf m s.namespace i → t.cutoff ≤ max (complete_to s.complete s + 1) i.from
+  pub live : (k : ScheduledNamespace) (i : Interval) → In k m.scheduled → last_of m.activity t.tablet ≡ Some i
+      → IsTabletOf m k.namespace i → t.cutoff ≤ max (complete_to k + 1) i.from
   pub now : t.cutoff ≤ m.clock
   -- a frozen set: to each time after the snapshot before at which the tablet was active
   pub sets : (f : FrozenSet) (r : SnapshotRecord) (i : Interval) (x : ℕ) → In f t.frozen → In r m.snapshots
@@ -22,36 +22,36 @@ pub record GoesBack (m : Master) (t : Tablet) : Type 0 where
 
 -- after the last complete snapshot a tablet is active in its last interval alone
 abbrev pub LastSince : Master → Type 0
-LastSince m = (s : Schedule) (i j : Interval) (x : ℕ) → In s m.schedules → In i m.activity → IsTabletOf m s.namespace i
-    → active_at x i ≡ true → last_of m.activity i.tablet ≡ Some j → complete_to s.complete s < x → j.from ≤ x
+LastSince m = (k : ScheduledNamespace) (i j : Interval) (x : ℕ) → In k m.scheduled → In i m.activity
+    → IsTabletOf m k.namespace i → active_at x i ≡ true → last_of m.activity i.tablet ≡ Some j → complete_to k < x → j.from ≤ x
 
 -- of a tablet's intervals none begins after the last
 abbrev pub LastIsLatest : Master → Type 0
 LastIsLatest m = (i j : Interval) → In i m.activity → last_of m.activity i.tablet ≡ Some j → i.from ≤ j.from
 
--- the snapshot of a time is complete and kept
-pub record IsKeptAt (m : Master) (s : Schedule) (at : ℕ) : Type 0 where
+-- the namespace's snapshot of a time is complete and kept
+pub record IsKeptAt (m : Master) (k : ScheduledNamespace) (at : ℕ) : Type 0 where
   pub snapshot : SnapshotRecord
   pub kept : In snapshot m.snapshots
-  pub schedule_is : snapshot.schedule ≡ s.id
+  pub namespace_is : snapshot.namespace ≡ k.namespace
   pub complete : snapshot.complete ≡ true
   pub at_is : snapshot.at ≡ at
 
--- how the times of a schedule's snapshots follow each other
-pub record TimesFollow (m : Master) (s : Schedule) : Type 0 where
-  pub complete : (r : SnapshotRecord) → In r m.snapshots → r.schedule ≡ s.id → r.complete ≡ true
-      → r.at ≤ complete_to s.complete s
+-- how the times of a namespace's snapshots follow each other
+pub record TimesFollow (m : Master) (k : ScheduledNamespace) : Type 0 where
+  pub complete : (r : SnapshotRecord) → In r m.snapshots → r.namespace ≡ k.namespace → r.complete ≡ true
+      → r.at ≤ complete_to k
   -- an unfinished one is the next after the last complete one
-  pub unfinished : (r : SnapshotRecord) → In r m.snapshots → r.schedule ≡ s.id → r.complete ≡ false
-      → r.after ≡ complete_to s.complete s
+  pub unfinished : (r : SnapshotRecord) → In r m.snapshots → r.namespace ≡ k.namespace → r.complete ≡ false
+      → r.after ≡ complete_to k
   -- where none is unfinished, the last one is complete
-  pub last : ((r : SnapshotRecord) → In r m.snapshots → r.schedule ≡ s.id → r.complete ≡ false → ⊥)
-      → after_of s.last s ≡ complete_to s.complete s
+  pub last : ((r : SnapshotRecord) → In r m.snapshots → r.namespace ≡ k.namespace → r.complete ≡ false → ⊥)
+      → after_of k ≡ complete_to k
   -- the last complete one is kept, unless it is below the floor
-  pub kept : (complete_to s.complete s < floor_now m s.namespace) ⊎ IsKeptAt m s (complete_to s.complete s)
+  pub kept : (complete_to k < floor_now m k.namespace) ⊎ IsKeptAt m k (complete_to k)
 
 pub record Facts (ps : Parts) : Type 0 where
   pub tablets : (slot : ℕ) → is_empty (ps.tablet slot).presence ≡ false → GoesBack ps.master (ps.tablet slot)
   pub last_since : LastSince ps.master
   pub latest : LastIsLatest ps.master
-  pub times : (s : Schedule) → In s ps.master.schedules → TimesFollow ps.master s
+  pub times : (k : ScheduledNamespace) → In k ps.master.scheduled → TimesFollow ps.master k

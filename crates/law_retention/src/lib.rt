@@ -2,7 +2,7 @@
 //! here does anything.
 #![tactic(auto)]
 
-ghost use Rattle.std.specs.Prelude.{◌≡◌, ℕ, ◌-◌, List, None};
+ghost use Rattle.std.specs.Prelude.{◌≡◌, ℕ, List, None};
 ghost use Rattle.row_values.specs.Elements.{In};
 ghost use Rattle.row_values.specs.Ids.{Id};
 ghost use Rattle.model.specs.Activity.{Interval};
@@ -13,7 +13,7 @@ ghost use Rattle.model.specs.Entries.{ActAsked, slots_of};
 ghost use Rattle.model.specs.History.{outcome, told};
 ghost use Rattle.model.specs.Journal.{Change};
 ghost use Rattle.model.specs.Parts.{Master, Parts, refusal_in, start};
-ghost use Rattle.model.specs.Records.{Schedule, SnapshotRecord};
+ghost use Rattle.model.specs.Records.{ScheduledNamespace, SnapshotRecord};
 ghost use Rattle.model.specs.Retained.{Retained, TimesRise};
 ghost use Rattle.model.specs.Tablets.{Command};
 ghost use Rattle.model.specs.Taking.{MarkRaised, TakesNothingNeeded};
@@ -23,9 +23,9 @@ ghost use Rattle.law_retention.specs.Facts.{Facts};
 
 /// Retention follows from what holds after each entry, and from facts of its own: how far back each
 /// tablet's live store and its frozen sets go, that after the last complete snapshot a tablet is active
-/// in its last interval alone, and how the times of a schedule's snapshots follow each other.
+/// in its last interval alone, and how the times of a namespace's snapshots follow each other.
 pub fn retention_follows()
-    ensures retained { (ps : Parts) (activity : List Interval) (changes : List Change) (taken : List SnapshotRecord) → Inv ps activity changes → Facts ps → ((s : Schedule) → In s ps.master.schedules → TimesRise taken s.id (s.kept_low - 1)) → Retained ps activity taken }
+    ensures retained { (ps : Parts) (activity : List Interval) (changes : List Change) (taken : List SnapshotRecord) → Inv ps activity changes → Facts ps → ((k : ScheduledNamespace) → In k ps.master.scheduled → TimesRise taken k.namespace k.since 0) → Retained ps activity taken }
 {}
 
 /// Where the invariants and the facts hold, a command that lies in an inbox finds its rows: what a

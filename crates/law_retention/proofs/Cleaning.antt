@@ -15,7 +15,7 @@ use Rattle.model.specs.Entries.{IsRemovable, slots_of}
 use Rattle.model.specs.History.{told}
 use Rattle.model.specs.Journal.{Change}
 use Rattle.model.specs.Parts.{Fault, If, Master, Outcome, Parts, Removes, refused}
-use Rattle.model.specs.Records.{ScheduledNamespace, SnapshotRecord, snapshot_with}
+use Rattle.model.specs.Records.{SnapshotRecord, snapshot_with}
 use Rattle.model.specs.Retained.{IsPresent, Retained, unfinished}
 use Rattle.model.specs.Taking.{TakesNothingNeeded, names_at, untimed}
 use Rattle.law_store.proofs.Keys.{either_way}
@@ -217,11 +217,10 @@ discarded_takes_nothing : (ps : Parts) (after : ℕ → Tablet) (activity : List
 discarded_takes_nothing ps after activity taken changes n target slots r inv d tablets retained =
     let m = ps.master in
     let left : Parts = record { master = discarding m n target; tablet = after } in
-    let young : (s : ScheduledNamespace) (to : ℕ) → In s m.scheduled → floor_of m s.namespace n ≤ to → (q : SnapshotRecord) → In q m.snapshots → q.namespace ≡ s.namespace → to ≤ q.at → same q.id target ≡ false = λ s to listed from q inside of late.
+    let young : (ns : Id) (to : ℕ) → floor_of m ns n ≤ to → (q : SnapshotRecord) → In q m.snapshots → q.namespace ≡ ns → to ≤ q.at → same q.id target ≡ false = λ ns to from q inside of late.
     not_passing (same q.id target) (λ e.
     let is : q ≡ r = d.alone q inside (same_equal q.id target e) in
-    let ns : s.namespace ≡ q.namespace = sym of in
-    let low : floor_of m r.namespace n ≤ to = subst (λ k. floor_of m k n ≤ to) (ns ∙ ap (λ x. x.namespace) is) from in
+    let low : floor_of m r.namespace n ≤ to = subst (λ k. floor_of m k n ≤ to) (sym of ∙ ap (λ x. x.namespace) is) from in
     let past : r.at < floor_of m r.namespace n = d.below in
     let there : to ≤ r.at = subst (λ x. to ≤ x.at) is late in
     omega arith) in
@@ -234,9 +233,9 @@ discarded_takes_nothing ps after activity taken changes n target slots r inv d t
       times = λ s to listed from. record {
         names = refl;
         tables = refl;
-        serving_like = subst (λ o. AreLike o (serving m.snapshots s.namespace to)) (sym (still_serving m.snapshots target s.namespace to (young s to listed from))) (like_self _);
+        serving_like = subst (λ o. AreLike o (serving m.snapshots s.namespace to)) (sym (still_serving m.snapshots target s.namespace to (young s.namespace to from))) (like_self _);
         left_like = subst (λ o. AreLike o (unfinished m.snapshots s.namespace)) (sym (still_unfinished m.snapshots target s.namespace open_)) (like_self _);
-        serving_counts = serving_apart m.snapshots target s.namespace to (young s to listed from);
+        serving_counts = serving_apart m.snapshots target s.namespace to (young s.namespace to from);
         left_counts = unfinished_apart m.snapshots target s.namespace open_;
         places = λ table code there. refl;
       };

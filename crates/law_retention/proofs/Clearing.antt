@@ -231,10 +231,7 @@ discarded_on ps activity changes n target r inv d =
           let is : q ≡ r = d.alone q there (same_equal q.id target e) in
           inr (record {
             complete = ap (λ x. x.complete) is ∙ d.complete;
-            below = λ s listed of.
-                let ns : s.namespace ≡ q.namespace = sym of in
-                let past : r.at < floor_of m r.namespace n = d.below in
-                subst (λ x. x.at < floor_of m s.namespace n) (sym is) (subst (λ id. r.at < floor_of m id n) (sym (ns ∙ ap (λ x. x.namespace) is)) past);
+            below = subst (λ x. x.at < floor_of m x.namespace n) (sym is) d.below;
           }))
           (λ e. inl (like_itself k.snapshots q (kept_record target m.snapshots q there (λ is. true≢false (sym (ap (λ id. same id target) is ∙ same_self target) ∙ e)))));
       floors = λ ns. floor_rises m k ns (record { clock = le_of_lt d.before; schedules = refl; restorations = refl; clones = refl });

@@ -1,4 +1,4 @@
--- How far back tablets go, and how snapshots follow each other, holds on where the master keeps its schedules, its snapshots
+-- How far back tablets go, and how snapshots follow each other, holds on where the master keeps its scheduled namespaces, its snapshots
 -- and its activity, and each tablet that is present goes back as far as before, or to where a cutoff may go.
 use Rattle.std.proofs.Common.{◌≤◌, ◌≡◌, ◌∙◌, ◌+◌, ℕ, true, false, Some, max, refl, sym, subst, inl, inr, arith, le_trans, le_refl, lt_of_lt_of_le, eqb, List, true≢false, ◌<◌, ◌⊎◌}
 use Rattle.std.proofs.lemmas.Bool.{cond_both}
@@ -37,7 +37,7 @@ like_itself rs r inside = record { snapshot = r; kept = inside; id_is = refl; na
 -- a complete snapshot that is below the floor
 pub record IsPassed (k : Master) (q : SnapshotRecord) : Type 0 where
   pub complete : q.complete ≡ true
-  pub below : (s : ScheduledNamespace) → In s k.scheduled → q.namespace ≡ s.namespace → q.at < floor_now k s.namespace
+  pub below : q.at < floor_now k q.namespace
 
 pub record MasterOn (m k : Master) : Type 0 where
   pub later : m.clock ≤ k.clock
@@ -66,8 +66,8 @@ since_on m k on since s i j x listed inside owned active last late =
     since s i j x (subst (In s) on.scheduled listed) (on.inside i inside) (owned_before m k s.namespace i on owned) active (on.last i.tablet j last) late
 
 -- the last complete snapshot is kept, or it is below the floor
-kept_on : (m k : Master) (s : ScheduledNamespace) (at : ℕ) → MasterOn m k → In s k.scheduled → IsKeptAt m s at → (at < floor_now k s.namespace) ⊎ IsKeptAt k s at
-kept_on m k s at on listed h = elim (on.still h.snapshot h.kept) [
+kept_on : (m k : Master) (s : ScheduledNamespace) (at : ℕ) → MasterOn m k → IsKeptAt m s at → (at < floor_now k s.namespace) ⊎ IsKeptAt k s at
+kept_on m k s at on h = elim (on.still h.snapshot h.kept) [
   | inl there ↦ inr (record {
     snapshot = there.snapshot;
     kept = there.kept;
@@ -75,11 +75,11 @@ kept_on m k s at on listed h = elim (on.still h.snapshot h.kept) [
     complete = there.complete_is ∙ h.complete;
     at_is = there.at_is ∙ h.at_is;
   })
-  | inr gone ↦ inl (subst (λ x. x < floor_now k s.namespace) h.at_is (gone.below s listed h.namespace_is))
+  | inr gone ↦ inl (subst (λ x. x < floor_now k s.namespace) h.at_is (subst (λ ns. h.snapshot.at < floor_now k ns) h.namespace_is gone.below))
 ]
 
-times_on : (m k : Master) (s : ScheduledNamespace) → MasterOn m k → In s k.scheduled → TimesFollow m s → TimesFollow k s
-times_on m k s on listed times = record {
+times_on : (m k : Master) (s : ScheduledNamespace) → MasterOn m k → TimesFollow m s → TimesFollow k s
+times_on m k s on times = record {
   complete = λ r inside of complete. let q = on.was r inside in subst (λ x. x ≤ complete_to s) q.at_is (times.complete q.snapshot q.kept (q.namespace_is ∙ of) (q.complete_is ∙ complete));
   unfinished = λ r inside of open_. let q = on.was r inside in sym q.after_is ∙ times.unfinished q.snapshot q.kept (q.namespace_is ∙ of) (q.complete_is ∙ open_);
   last = λ none. times.last (λ r inside of open_. elim (on.still r inside) [
@@ -88,7 +88,7 @@ times_on m k s on listed times = record {
   ]);
   kept = elim times.kept [
     | inl past ↦ inl (lt_of_lt_of_le past (on.floors s.namespace))
-    | inr h ↦ kept_on m k s (complete_to s) on listed h
+    | inr h ↦ kept_on m k s (complete_to s) on h
   ];
 }
 
@@ -116,7 +116,7 @@ facts_by before after facts on tablets = record {
   tablets = tablets;
   last_since = since_on before.master after.master on facts.last_since;
   latest = λ i j inside last. facts.latest i j (on.inside i inside) (on.last i.tablet j last);
-  times = λ s listed. times_on before.master after.master s on listed (facts.times s (subst (In s) on.scheduled listed));
+  times = λ s listed. times_on before.master after.master s on (facts.times s (subst (In s) on.scheduled listed));
 }
 
 pub facts_on : (before after : Parts) → Facts before → MasterOn before.master after.master

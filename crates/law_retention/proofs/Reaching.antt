@@ -116,8 +116,8 @@ is_listed : (ls : List Listed) (l : Listed) (tablet : Id) → In l ls → l.tabl
 is_listed ls l tablet inside is = any_in (λ k. same k.tablet tablet) ls l inside (ap (λ id. same id tablet) is ∙ same_self tablet)
 
 -- the snapshot before the one that serves is earlier than the time
-after_before : (m : Master) (changes : List Change) (s : ScheduledNamespace) (r : SnapshotRecord) (to : ℕ) → OperationsGood m changes → In s m.scheduled → Serves m.snapshots s.namespace to r → floor_now m s.namespace ≤ to → r.after < to
-after_before m changes s r to ops listed serves low =
+after_before : (m : Master) (changes : List Change) (s : ScheduledNamespace) (r : SnapshotRecord) (to : ℕ) → OperationsGood m changes → Serves m.snapshots s.namespace to r → floor_now m s.namespace ≤ to → r.after < to
+after_before m changes s r to ops serves low =
     let good = ops.snapshots r serves.kept in
     let ns : s.namespace ≡ r.namespace = sym serves.namespace_is in
     elim good.reached [
@@ -220,7 +220,7 @@ reaches_with (Some r) left ps changes activity s i to h low e f =
     let m = ps.master in
     let t = ps.tablet i.slot in
     let serves = serving_is m.snapshots s.namespace to r h.inv.operations.apart.snapshots_rise e in
-    let after = after_before m changes s r to h.inv.operations h.listed serves low in
+    let after = after_before m changes s r to h.inv.operations serves low in
     let lists = there_listed ps changes activity s i to r h serves.kept serves.namespace_is after serves.late in
     let g = (h.inv.slots i.slot).each i h.inside refl in
     let w = h.inv.works i.slot in

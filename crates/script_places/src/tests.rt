@@ -1,4 +1,5 @@
 use super::*;
+use commands::NamedOp;
 use row_values::{Bytes, Records, Value};
 use script_words::{Cause, LineError, words_of_line};
 use std::alloc::Global;

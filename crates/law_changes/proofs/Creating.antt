@@ -59,7 +59,7 @@ awaited_none (Restoring point serving) r tablet done apart =
 awaited_none _ r tablet done apart = refl
 
 -- a tablet that no restoration lists awaits no rows
-none_awaited : (rs : List RestorationRecord) (tablet : Id) (done : List Mark) → ((r : RestorationRecord) (l : Listed) → In r rs → In l r.listed → same l.tablet tablet ≡ false) → awaited_in rs tablet done ≡ None
+pub none_awaited : (rs : List RestorationRecord) (tablet : Id) (done : List Mark) → ((r : RestorationRecord) (l : Listed) → In r rs → In l r.listed → same l.tablet tablet ≡ false) → awaited_in rs tablet done ≡ None
 none_awaited [] tablet done apart = refl
 none_awaited (r ∷ rs) tablet done apart =
     ap (λ o. first_of_two o (awaited_in rs tablet done)) (awaited_none r.state r tablet done (λ l isin. apart r l (inl refl) isin))

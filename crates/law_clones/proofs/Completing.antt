@@ -4,7 +4,7 @@ use Rattle.std.proofs.lemmas.Bool.{true≢false}
 use Rattle.row_values.specs.Ids.{Id}
 use Rattle.model.specs.Activity.{Interval}
 use Rattle.model.specs.Journal.{Change as Made}
-use Rattle.model.specs.Records.{CloneRecord, CloneReleasing, CloneComplete, Copying, is_visible}
+use Rattle.model.specs.Records.{CloneRecord, CloneReleasing, CloneComplete, Copying}
 use Rattle.model.specs.Stands.{copied_at}
 use Rattle.model.specs.Parts.{Parts}
 use Rattle.law_invariants.specs.Orders.{ClonePlace, CloneSlot, stage_of_clone}
@@ -19,14 +19,17 @@ released_moves ps activity changes n r serving at before e may inv =
     let v : Step = record { clone = r; state = CloneComplete serving at; listed = [] } in
     let h = ticked_keeps ps activity changes n (le_of_lt before) inv in
     let w : Enters q changes v = record {
-      kept = may.kept;
-      unfinished = may.unfinished;
-      acked = may.acked;
-      seen = sym (ap is_visible e);
+      steps = record {
+        kept = may.kept;
+        kind_is = (inv.operations.clones r may.kept).kind_is;
+        unfinished = may.unfinished;
+        acked = may.acked;
+        seen = λ dark. absurd (true≢false dark);
+        stage = subst (λ s. stage_of_clone s ≤ 2) (sym e) (le_refl _);
+        copied = λ x is. inl (ap copied_at e ∙ is);
+        released = λ l x isin body. absurd isin;
+      };
       still = λ s x is. (let k : CloneReleasing serving at ≡ Copying s x = sym e ∙ is in grind arith);
-      stage = subst (λ s. stage_of_clone s ≤ 2) (sym e) (le_refl _);
-      copied = λ x is. inl (ap copied_at e ∙ is);
-      released = λ l x isin body. isin;
       drawn_listed = λ l isin. absurd isin;
       in_state = refl;
       slots = λ slot. tt;

@@ -90,14 +90,17 @@ copying_keeps ps activity changes n r s before early may served inv =
     let c = inv.operations.clones r may.kept in
     let serves = clone_served m changes r s inv.operations may.kept may.unfinished served in
     let w : Enters q changes v = record {
-      kept = may.kept;
-      unfinished = may.unfinished;
-      acked = may.acked;
-      seen = early_dark r.state early;
+      steps = record {
+        kept = may.kept;
+        kind_is = c.kind_is;
+        unfinished = may.unfinished;
+        acked = may.acked;
+        seen = λ dark. sym (early_dark r.state early);
+        stage = subst (λ x. x ≤ 1) (sym (early_stage r.state early)) (omega arith);
+        copied = λ at is. inr (early_stage r.state early);
+        released = λ l at. copies_of r s.id n (λ l. l.body ≡ Release at → stage_of_clone r.state ≤ 1) (λ p paired body. absurd (let k = body in grind arith)) l;
+      };
       still = λ serving at is. early_still r.state serving at early is;
-      stage = subst (λ x. x ≤ 1) (sym (early_stage r.state early)) (omega arith);
-      copied = λ at is. inr (early_stage r.state early);
-      released = λ l at. copies_of r s.id n (λ l. l.body ≡ Release at → ⊥) (λ p paired body. let k = body in grind arith) l;
       drawn_listed = copies_of r s.id n (λ l. l.tablet.number ≤ m.drawn.tablets) (λ p paired. (c.pairs p paired).drawn);
       in_state = record {
         begun = le_refl _;
@@ -147,14 +150,17 @@ own_keeps ps activity changes n r s before e may there of calm inv =
     let q : Parts = record { master = recorded m own; tablet = ps.tablet } in
     let v : Step = record { clone = r; state = CloneSnapshot (next_snapshot m); listed = [] } in
     let w : Enters q changes v = record {
-      kept = may.kept;
-      unfinished = may.unfinished;
-      acked = may.acked;
-      seen = sym (ap is_visible e);
+      steps = record {
+        kept = may.kept;
+        kind_is = c.kind_is;
+        unfinished = may.unfinished;
+        acked = may.acked;
+        seen = λ dark. ap is_visible e;
+        stage = subst (λ x. x ≤ 0) (sym (early_stage r.state (ap is_early e))) (le_refl _);
+        copied = λ at is. (let k : None ≡ Some at = is in grind arith);
+        released = λ l at isin body. absurd isin;
+      };
       still = λ serving at is. early_still r.state serving at (ap is_early e) is;
-      stage = subst (λ x. x ≤ 0) (sym (early_stage r.state (ap is_early e))) (le_refl _);
-      copied = λ at is. (let k : None ≡ Some at = is in grind arith);
-      released = λ l at isin body. isin;
       drawn_listed = λ l isin. absurd isin;
       in_state = record {
         empty = refl;

@@ -11,3 +11,9 @@ pub mod Pairing
 pub mod Taking
 pub mod Accepting
 pub mod Commanding
+pub mod Viewing
+pub mod Counting
+pub mod Cataloguing
+pub mod Growing
+pub mod Becoming
+pub mod Moves

@@ -143,28 +143,35 @@ pub name_before : (rs : List NamespaceRecord) (r : NamespaceRecord) (id : Id) (n
 name_before [] r id name e = cc
 name_before (s ∷ rs) r id name e = either_way (is_namespace id s) (λ p. rw p (rw p at e)) (λ n. rw n (name_before rs r id name (rw n at e)))
 
--- a namespace is made, under a fresh identifier and a name that none has; others may be drawn besides
-pub names_made : (rs : List NamespaceRecord) (time drawn more n : ℕ) (id : Id) (name : List ℕ) (changes : List Change) → time ≤ n → drawn < id.number → id.number ≤ more → namespace_named rs name ≡ None
-    → NamespacesStand rs time drawn changes → NamespacesStand (rs ++ new_namespace id name n ∷ []) n more (record { stamp = n; act = NamespaceMade id name } ∷ changes)
-names_made rs time drawn more n id name changes le fresh drawn_by free h =
+-- a namespace begins under an identifier that no record has and a name that none has, by a change that gives it the name; others may be
+-- drawn besides
+pub names_begun : (rs : List NamespaceRecord) (time drawn more n : ℕ) (id : Id) (name : List ℕ) (act : ChangeAct) (changes : List Change) → time ≤ n → drawn ≤ more → id.number ≤ more → namespace_named rs name ≡ None
+    → name_of rs id ≡ None → ((k : Id) (before : Option (List ℕ)) → name_after act k before ≡ cond (same id k) (Some name) before)
+    → NamespacesStand rs time drawn changes → NamespacesStand (rs ++ new_namespace id name n ∷ []) n more (record { stamp = n; act = act } ∷ changes)
+names_begun rs time drawn more n id name act changes le further drawn_by free unknown gives h =
     let r = new_namespace id name n in
-    let c : Change = record { stamp = n; act = NamespaceMade id name } in
-    let unknown = name_fresh rs drawn id h.drawn_before fresh in
+    let c : Change = record { stamp = n; act = act } in
     record {
       past = in_added (λ s. IsPast n s.from s.to) rs r (λ s isin. past_later s.from time n s.to le (h.past s isin)) (record { begun = le_refl n; ended = tt });
-      drawn_before = in_added (λ s. s.id.number ≤ more) rs r (λ s isin. let b = h.drawn_before s isin in omega arith) drawn_by;
+      drawn_before = in_added (λ s. s.id.number ≤ more) rs r (λ s isin. le_trans (h.drawn_before s isin) further) drawn_by;
       unique = in_added (λ s. is_open s.to ≡ true → namespace_named (rs ++ r ∷ []) s.name ≡ Some s.id) rs r
           (λ s isin current. named_before rs r s.name s.id (h.unique s isin current))
           (λ current. named_added rs r name free (key_self name));
       found = in_added (λ s. is_open s.to ≡ true → name_of (rs ++ r ∷ []) s.id ≡ Some s.name) rs r
           (λ s isin current. name_before rs r s.id s.name (h.found s isin current))
           (λ current. name_added rs r id unknown (same_self id));
-      viewed = λ k x after. name_then c changes x k after ∙ either_way (same id k)
+      viewed = λ k x after. name_then c changes x k after ∙ gives k (namespace_at changes x k) ∙ either_way (same id k)
           (λ e. let is : id ≡ k = same_equal id k e in
           let P : Id → Type 0 = λ j. name_of (rs ++ r ∷ []) j ≡ Some name in
           rw e (sym (subst P is (name_added rs r id unknown (same_self id)))))
           (λ e. rw e (h.viewed k x (le_trans le after) ∙ sym (name_beside rs r k e)));
     }
+
+-- a namespace is made, under a fresh identifier and a name that none has
+pub names_made : (rs : List NamespaceRecord) (time drawn more n : ℕ) (id : Id) (name : List ℕ) (changes : List Change) → time ≤ n → drawn < id.number → id.number ≤ more → namespace_named rs name ≡ None
+    → NamespacesStand rs time drawn changes → NamespacesStand (rs ++ new_namespace id name n ∷ []) n more (record { stamp = n; act = NamespaceMade id name } ∷ changes)
+names_made rs time drawn more n id name changes le fresh drawn_by free h =
+    names_begun rs time drawn more n id name (NamespaceMade id name) changes le (omega arith) drawn_by free (name_fresh rs drawn id h.drawn_before fresh) (λ k before. refl) h
 
 -- A namespace that ends
 

@@ -30,7 +30,7 @@ find_only test (x ∷ xs) a isin t only = either_way (test x)
     let rest : In a xs = elim isin [ inl e ↦ absurd (true≢false (sym t ∙ ap test (sym e) ∙ b)) | inr rest ↦ rest ] in
     ap (λ c. cond c (Some x) (find test xs)) b ∙ find_only test xs a rest t (λ y h. only y (inr h)))
 
-find_in_first : {A : Type 0} (test : A → Bool) (xs ys : List A) → ((a : A) → In a ys → test a ≡ false) → find test (xs ++ ys) ≡ find test xs
+pub find_in_first : {A : Type 0} (test : A → Bool) (xs ys : List A) → ((a : A) → In a ys → test a ≡ false) → find test (xs ++ ys) ≡ find test xs
 find_in_first test [] ys none = none_found test ys none
 find_in_first test (x ∷ xs) ys none = ap (cond (test x) (Some x)) (find_in_first test xs ys none)
 
@@ -113,7 +113,7 @@ latest_most (r ∷ rs) found q rise (inl e) =
     (k.0, (ap (λ c. latest_from rs q.id (cond c (Some r.schema) found)) here ∙ k.1.0, k.1.1))
 latest_most (r ∷ rs) found q rise (inr isin) = latest_most rs (cond (same r.id q.id) (Some r.schema) found) q rise.1 isin
 
-newest_most : (rs : List TableRecord) (q r : TableRecord) → RecordsRise rs → In q rs → q.id ≡ r.id → q.schema.next ≤ (newest rs r).next
+pub newest_most : (rs : List TableRecord) (q r : TableRecord) → RecordsRise rs → In q rs → q.id ≡ r.id → q.schema.next ≤ (newest rs r).next
 newest_most rs q r rise isin e =
     let k = latest_most rs None q rise isin in
     let is : latest rs r.id ≡ Some k.0 = ap (latest rs) (sym e) ∙ k.1.0 in
@@ -160,14 +160,14 @@ new_is P rs ns to point old back a isin = elim (in_append (end_tables ns point r
 ]
 
 -- of one table, or of one name in one namespace
-abbrev Alike : TableRecord → TableRecord → Type 0
+abbrev pub Alike : TableRecord → TableRecord → Type 0
 Alike a b = (a.id ≡ b.id) ⊎ ((a.namespace ≡ b.namespace) × (a.name ≡ b.name))
 
 alike_back : (a b : TableRecord) → Alike a b → Alike b a
 alike_back a b (inl e) = inl (sym e)
 alike_back a b (inr e) = inr (sym e.0, sym e.1)
 
-old_one : (c : Catalog) (time drawn : ℕ) (changes : List Change) (x : ℕ) (a b : TableRecord) → TablesStand c time drawn changes → In a c.tables → In b c.tables → holds_at x a.from a.to ≡ true → holds_at x b.from b.to ≡ true → Alike a b → a ≡ b
+pub old_one : (c : Catalog) (time drawn : ℕ) (changes : List Change) (x : ℕ) (a b : TableRecord) → TablesStand c time drawn changes → In a c.tables → In b c.tables → holds_at x a.from a.to ≡ true → holds_at x b.from b.to ≡ true → Alike a b → a ≡ b
 old_one c time drawn changes x a b h in_a in_b held_a held_b (inl e) =
     let q : Some a ≡ Some b = sym (h.found x a in_a held_a) ∙ ap (λ i. record_at c.tables i x) e ∙ h.found x b in_b held_b in cc
 old_one c time drawn changes x a b h in_a in_b held_a held_b (inr e) =
@@ -212,7 +212,7 @@ rise_over (r ∷ rs) ns point h = (
     ended_stays true n x (Some e) h = h
     ended_stays false n x (Some e) h = h
 
-rise_append : (xs ys : List TableRecord) → RecordsRise xs → RecordsRise ys → ((x y : TableRecord) → In x xs → In y ys → y.id ≡ x.id → (x.schema.next ≤ y.schema.next) × (ended_by y.from x.to ≡ true)) → RecordsRise (xs ++ ys)
+pub rise_append : (xs ys : List TableRecord) → RecordsRise xs → RecordsRise ys → ((x y : TableRecord) → In x xs → In y ys → y.id ≡ x.id → (x.schema.next ≤ y.schema.next) × (ended_by y.from x.to ≡ true)) → RecordsRise (xs ++ ys)
 rise_append [] ys h g between = g
 rise_append (x ∷ xs) ys h g between = (
   (λ q isin e. elim (in_append xs ys q isin) [ inl old ↦ h.0 q old e | inr new ↦ between x q (inl refl) new e ]),

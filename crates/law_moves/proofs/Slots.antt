@@ -47,7 +47,7 @@ good_on ps changes w slot i o g =
       sets = g.sets;
     }
 
-serving_present : (p : Presence) → is_serving p ≡ true → is_empty p ≡ false
+pub serving_present : (p : Presence) → is_serving p ≡ true → is_empty p ≡ false
 serving_present EmptyPart e = absurd (true≢false (sym e))
 serving_present ServingPart e = refl
 serving_present (HiddenPart at) e = refl

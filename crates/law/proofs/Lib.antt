@@ -1,7 +1,6 @@
 pub mod Starting
 pub mod Standing
 pub mod Law
-pub mod Naming
 pub mod Recording
 pub mod Slots
 pub mod Following

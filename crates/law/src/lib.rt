@@ -4,17 +4,15 @@
 #![tactic(auto)]
 
 ghost use Rattle.std.specs.Prelude.{ℕ, List, ◌++◌};
-ghost use Rattle.model.specs.Acts.{Act};
 ghost use Rattle.model.specs.Scripts.{Numbered, ScriptAsked};
 ghost use Rattle.model.specs.Running.{run_of};
-ghost use Rattle.model.specs.Entries.{ActAsked, Entry};
+ghost use Rattle.model.specs.Entries.{Entry};
 ghost use Rattle.row_values.specs.Elements.{AllOf};
 ghost use Rattle.model.specs.History.{Legal, replay, journal_of, activity_of};
 ghost use Rattle.model.specs.Drawn.{DrawnBelow, DrawnWithin, DrawsInTurn, SchemasDrawn, SnapshotsAsTaken};
 ghost use Rattle.model.specs.Replies.{Right};
 ghost use Rattle.model.specs.Strict.{FixedStays, Divides};
 ghost use Rattle.model.specs.Stands.{RecordFacts, Stands};
-ghost use Rattle.law_local.specs.Agreeing.{PlanNames};
 ghost use Rattle.law_invariants.specs.Invariant.{Inv};
 ghost use Rattle.law.specs.Covering.{Covered};
 ghost use Rattle.law.specs.Scripts.{ScriptCovered};
@@ -33,12 +31,6 @@ pub fn legal_is_right()
     ensures facts { (slots : ℕ) (history : List Entry) → Legal slots history → Covered history → RecordFacts (replay slots history) (journal_of slots history) }
     ensures cover { (slots : ℕ) (history : List Entry) → Legal slots history → Covered history → Divides (activity_of slots history) (journal_of slots history) }
     ensures fixed { (slots : ℕ) (history : List Entry) → Legal slots history → Covered history → FixedStays (journal_of slots history) }
-{}
-
-/// A step on what a legal history leaves depends on its touched parts alone: what that asks of the
-/// master's plans is so.
-pub fn plans_are_named()
-    ensures named { (slots : ℕ) (history : List Entry) (act : Act) → Legal slots history → Covered history → ActAsked slots act → PlanNames act (replay slots history).master }
 {}
 
 /// Each entry of a legal history of covered acts draws as many identifiers of each kind as its act

@@ -1,5 +1,5 @@
 -- What parts that agree have alike: the clocks of the slots, and so the stamp of an event.
-use Rattle.std.proofs.Common.{ℕ, ◌≡◌, ◌≤◌, List, [], ◌∷◌, map, Bool, true, false, ◌||◌, refl, ap, ◌∙◌, arith, eqb}
+use Rattle.std.proofs.Common.{ℕ, ◌≡◌, List, [], ◌∷◌, map, Bool, true, false, ◌||◌, refl, ap, ◌∙◌, arith, eqb}
 use Rattle.std.proofs.lemmas.Bool.{cond_both}
 use Rattle.std.proofs.lemmas.Bool.Decides.{nat_tests}
 use Rattle.row_values.specs.Stamps as rule
@@ -26,13 +26,13 @@ has_rest first slot slots h = or_second (eqb first slot) (has slots slot) h
 pub agree_rest : (slot : ℕ) (slots : List ℕ) (p q : Parts) → Agree (slot ∷ slots) p q → Agree slots p q
 agree_rest slot slots p q a = record {
   master = λ h. a.master (has_rest slot 0 slots h);
-  tablets = λ s least h. a.tablets s least (has_rest slot s slots h);
+  tablets = λ s h. a.tablets s (has_rest slot s slots h);
 }
 
 clock_same : (slot : ℕ) (slots : List ℕ) (p q : Parts) → Agree (slot ∷ slots) p q → clock_at p slot ≡ clock_at q slot
 clock_same slot slots p q a = by_test (eqb slot 0)
     (λ e. let m : p.master ≡ q.master = a.master (ap (λ b. b || has slots 0) e) in rw e (ap (λ m. m.clock) m))
-    (λ e. let least : 1 ≤ slot = grind (arith, nat_tests) in rw e (ap (λ t. t.clock) (a.tablets slot least (has_first slot slots))))
+    (λ e. rw e (ap (λ t. t.clock) (a.tablets slot (has_first slot slots))))
 
 clocks_same : (slots : List ℕ) (p q : Parts) → Agree slots p q → map (clock_at p) slots ≡ map (clock_at q) slots
 clocks_same [] p q a = refl

@@ -1,14 +1,14 @@
 -- A command reads the master; a split reads its parent's part too, which its plan names.
-use Rattle.std.proofs.Common.{ℕ, ◌≡◌, ◌≤◌, List, [], ◌∷◌, Option, Some, None, Bool, true, false, not, refl, sym, ap, subst, ◌∙◌}
+use Rattle.std.proofs.Common.{ℕ, ◌≡◌, List, [], ◌∷◌, Option, Some, None, Bool, true, false, not, refl, ap, subst, ◌∙◌}
 use Rattle.std.specs.Prelude.{Result, Ok, Err, length}
 use Rattle.std.specs.Option.{ok_or}
 use Rattle.row_values.specs.Slots.{same_slots, has}
 use Rattle.model.specs.Tablets.{Tablet}
-use Rattle.model.specs.Acts.{Command, CreateNamespace, DropNamespace, CreateTable, AddColumn, DropColumn, RenameTable, DropTable, Split, CreateSchedule, DeleteSchedule, TakeSnapshot, Restore, CloneNamespace, ListSchedules, ListSnapshots, ListRestorations, ListClones, ListTablets, Change, Refusal, SlotsFull, StalePlan}
+use Rattle.model.specs.Acts.{Command, CreateNamespace, DropNamespace, CreateTable, AddColumn, DropColumn, RenameTable, DropTable, Split, CreateSchedule, DeleteSchedule, TakeSnapshot, Restore, CloneNamespace, ListSchedules, ListSnapshots, ListRestorations, ListClones, ListTablets, Refusal, SlotsFull, StalePlan}
 use Rattle.model.specs.Parts.{Master, Parts, Outcome, Check, If, refusal_in, either, checked, decided}
 use Rattle.model.specs.Looks.{free_slots, Parent, found_parent, Family, family, found_family, slots_for, plan_of}
 use Rattle.model.specs.Changes.{judge_split, splitting, split, planned, change}
-use Rattle.law_local.specs.Agreeing.{Agree, PlanNames}
+use Rattle.law_local.specs.Agreeing.{Agree}
 use Rattle.law_local.proofs.Agreement.{has_first, has_rest}
 use Rattle.law_local.proofs.Judging.{judged_same, same_has}
 
@@ -25,12 +25,6 @@ family_found (Ok p) checks m f e = (p, (refl, passed (refusal_in (checks p)) e))
     passed : (r : Option Refusal) → found_family (either r p) m ≡ Ok f → family p (free_slots m) ≡ Some f
     passed (Some why) e = cc
     passed None e = found (family p (free_slots m)) (SlotsFull (length (free_slots m)) 2) e
-
--- a parent stands in its family
-parent_in : (p : Parent) (free : List ℕ) (f : Family) → family p free ≡ Some f → f.parent ≡ p
-parent_in p [] f e = cc
-parent_in p (slot ∷ []) f e = cc
-parent_in p (low ∷ high ∷ free) f e = cc
 
 -- what a command reads of the tablets' parts is equal
 abbrev ReadsAlike : Command → Master → (ℕ → Tablet) → (ℕ → Tablet) → Type 0
@@ -69,38 +63,35 @@ planned_same ListClones slots n m f g alike = refl
 planned_same (ListTablets namespace) slots n m f g alike = refl
 
 -- tablets' parts that are equal in the slots of the plan are equal where the command reads them
-reads_alike : (command : Command) (slots : List ℕ) (m : Master) (f g : ℕ → Tablet) → PlanNames (Change command slots) m → same_slots slots (plan_of command m) ≡ true
-    → ((slot : ℕ) → 1 ≤ slot → has slots slot ≡ true → f slot ≡ g slot) → ReadsAlike command m f g
+reads_alike : (command : Command) (slots : List ℕ) (m : Master) (f g : ℕ → Tablet) → same_slots slots (plan_of command m) ≡ true
+    → ((slot : ℕ) → has slots slot ≡ true → f slot ≡ g slot) → ReadsAlike command m f g
 unfolding plan_of
-reads_alike (Split namespace table code) slots m f g named kept same = λ one is.
+reads_alike (Split namespace table code) slots m f g kept same = λ one is.
     let found = family_found (found_parent m namespace table code) _ m one is in
-    let p = found.0 in
-    let here : one.parent ≡ p = parent_in p (free_slots m) one found.1.1 in
     let slots_are : List ℕ = one.parent.tablet.slot ∷ one.low_slot ∷ one.high_slot ∷ [] in
     let planned : plan_of (Split namespace table code) m ≡ slots_are =
     ap (λ j. slots_for (found_family j m) (λ f. f.parent.tablet.slot ∷ f.low_slot ∷ f.high_slot ∷ [])) found.1.0
     ∙ ap (λ o. slots_for (ok_or o (SlotsFull (length (free_slots m)) 2)) (λ f. f.parent.tablet.slot ∷ f.low_slot ∷ f.high_slot ∷ [])) found.1.1 in
-    let least : 1 ≤ one.parent.tablet.slot = subst (λ q. 1 ≤ q.tablet.slot) (sym here) (named p found.1.0) in
-    same one.parent.tablet.slot least
+    same one.parent.tablet.slot
     (same_has slots slots_are one.parent.tablet.slot (subst (λ plan. same_slots slots plan ≡ true) planned kept) (has_first one.parent.tablet.slot (one.low_slot ∷ one.high_slot ∷ [])))
-reads_alike _ slots m f g named kept same = tt
+reads_alike _ slots m f g kept same = tt
 
-tablets_alike : (command : Command) (slots : List ℕ) (n : ℕ) (m : Master) (f g : ℕ → Tablet) → PlanNames (Change command slots) m
-    → ((slot : ℕ) → 1 ≤ slot → has slots slot ≡ true → f slot ≡ g slot) → change command slots n (record { master = m; tablet = f }) ≡ change command slots n (record { master = m; tablet = g })
+tablets_alike : (command : Command) (slots : List ℕ) (n : ℕ) (m : Master) (f g : ℕ → Tablet)
+    → ((slot : ℕ) → has slots slot ≡ true → f slot ≡ g slot) → change command slots n (record { master = m; tablet = f }) ≡ change command slots n (record { master = m; tablet = g })
 unfolding change
-tablets_alike command slots n m f g named same =
+tablets_alike command slots n m f g same =
     judged_same (If (not (same_slots slots (plan_of command m))) (StalePlan (plan_of command m)) ∷ [])
     (planned command slots n (record { master = m; tablet = f }))
     (planned command slots n (record { master = m; tablet = g }))
-    (λ passes. planned_same command slots n m f g (reads_alike command slots m f g named (kept (same_slots slots (plan_of command m)) passes.0) same))
+    (λ passes. planned_same command slots n m f g (reads_alike command slots m f g (kept (same_slots slots (plan_of command m)) passes.0) same))
   where
     kept : (b : Bool) → not b ≡ false → b ≡ true
     kept true e = refl
     kept false e = cc
 
-pub change_same : (command : Command) (slots : List ℕ) (n : ℕ) (p q : Parts) → PlanNames (Change command slots) p.master → Agree (0 ∷ slots) p q
+pub change_same : (command : Command) (slots : List ℕ) (n : ℕ) (p q : Parts) → Agree (0 ∷ slots) p q
     → change command slots n p ≡ change command slots n q
-change_same command slots n p q named a =
+change_same command slots n p q a =
     let e : p.master ≡ q.master = a.master refl in
     ap (λ m. change command slots n (record { master = m; tablet = p.tablet })) e
-    ∙ tablets_alike command slots n q.master p.tablet q.tablet (subst (PlanNames (Change command slots)) e named) (λ slot least h. a.tablets slot least (has_rest 0 slot slots h))
+    ∙ tablets_alike command slots n q.master p.tablet q.tablet (λ slot h. a.tablets slot (has_rest 0 slot slots h))

@@ -9,7 +9,6 @@ use Rattle.model.specs.Tablets.{Tablet, serves}
 use Rattle.model.specs.Acts.{At, Refusal, Future, Fenced, StaleSchema, TooOld, Rows}
 use Rattle.model.specs.Parts.{Parts, Outcome, If, judged, answered, Names, Fault}
 use Rattle.row_values.specs.Elements.{AllOf, in_order}
-use Rattle.model.specs.Entries.{IsSlot}
 use Rattle.model.specs.RowActs.{read, has_moved, covers, none_left, goes_on, moved_from_key, moved_from_scan, first_moved, first_fence, other_version, stale, first_cutoff, rows_in, rows_of_places, cut_rows}
 use Rattle.law_local.specs.Agreeing.{Agree}
 use Rattle.law_local.proofs.Agreement.{has_first, agree_rest}
@@ -18,11 +17,11 @@ use Rattle.law_local.proofs.Agreement.{has_first, agree_rest}
 abbrev AtPlaces : List At → (ℕ → Tablet) → (ℕ → Tablet) → Type 0
 AtPlaces places f g = AllOf (λ place. f place.slot ≡ g place.slot) places
 
-places_same : (places : List At) (slots : ℕ) (p q : Parts) → AllOf (λ place. IsSlot slots place.slot) places → Agree (map (λ place. place.slot) places) p q → AtPlaces places p.tablet q.tablet
-places_same [] slots p q asked a = tt
-places_same (place ∷ places) slots p q asked a =
+places_same : (places : List At) (p q : Parts) → Agree (map (λ place. place.slot) places) p q → AtPlaces places p.tablet q.tablet
+places_same [] p q a = tt
+places_same (place ∷ places) p q a =
     let rest : Agree (map (λ place. place.slot) places) p q = agree_rest place.slot (map (λ place. place.slot) places) p q a in
-    (a.tablets place.slot asked.0.0 (has_first place.slot (map (λ place. place.slot) places)), places_same places slots p q asked.1 rest)
+    (a.tablets place.slot (has_first place.slot (map (λ place. place.slot) places)), places_same places p q rest)
 
 key_same : (places : List At) (key : List ℕ) (f g : ℕ → Tablet) → AtPlaces places f g → moved_from_key places key f ≡ moved_from_key places key g
 key_same [] key f g same = refl
@@ -77,11 +76,11 @@ read_by at columns n away fence other cutoff rows = judged
     ∷ [])
     (answered (Rows (cut_rows columns (in_order (λ r s. precedes r.key s.key) rows))))
 
-pub read_same : (slots : ℕ) (places : List At) (version : ℕ) (key : Option (List ℕ)) (at : Option ℕ) (columns : List ℕ) (n : ℕ) (p q : Parts)
-    → AllOf (λ place. IsSlot slots place.slot) places → Agree (map (λ place. place.slot) places) p q → read places version key at columns n p ≡ read places version key at columns n q
+pub read_same : (places : List At) (version : ℕ) (key : Option (List ℕ)) (at : Option ℕ) (columns : List ℕ) (n : ℕ) (p q : Parts)
+    → Agree (map (λ place. place.slot) places) p q → read places version key at columns n p ≡ read places version key at columns n q
 unfolding read
-read_same slots places version key at columns n p q asked a =
-    let same = places_same places slots p q asked a in
+read_same places version key at columns n p q a =
+    let same = places_same places p q a in
     let f = p.tablet in
     let g = q.tablet in
     ap (λ away. read_by at columns n away (first_fence places f) (stale at places version f) (first_cutoff places at f) (rows_of_places places key (time_of at n) f)) (moved_same key places f g same)

@@ -6,19 +6,17 @@ ghost use Rattle.std.specs.Prelude.{◌≡◌, ◌==◌, ◌&&◌, ℕ, true, fa
 ghost use Rattle.row_values.specs.Slots.{has};
 ghost use Rattle.model.specs.Acts.{Act, Event};
 ghost use Rattle.model.specs.Parts.{Parts};
-ghost use Rattle.model.specs.Entries.{ActAsked, slots_of, stamp_of};
+ghost use Rattle.model.specs.Entries.{slots_of, stamp_of};
 ghost use Rattle.model.specs.History.{outcome, told};
-ghost use Rattle.law_local.specs.Agreeing.{Agree, PlanNames};
+ghost use Rattle.law_local.specs.Agreeing.{Agree};
 
 /// On parts that agree on the slots which an act touches, its event has the same stamp, the act the
 /// same outcome, and the touched parts agree after it. No other part changes: neither that of
-/// another slot, nor the master's where the act doesn't touch it. What the law asks of the master
-/// is that a split's code is in an active tablet of the table, in a slot from 1 on, and that the
-/// tablet of a removal is in such a slot.
+/// another slot, nor the master's where the act doesn't touch it.
 pub fn step_is_local()
     ensures stamp { (event : Event) (p q : Parts) → Agree (slots_of event.act) p q → stamp_of event p ≡ stamp_of event q }
-    ensures outcome { (act : Act) (slots n : ℕ) (p q : Parts) → ActAsked slots act → PlanNames act p.master → Agree (slots_of act) p q → outcome act n p ≡ outcome act n q }
-    ensures touched { (act : Act) (slots n : ℕ) (p q : Parts) → ActAsked slots act → PlanNames act p.master → Agree (slots_of act) p q → Agree (slots_of act) (told act (outcome act n p) n p) (told act (outcome act n q) n q) }
+    ensures outcome { (act : Act) (n : ℕ) (p q : Parts) → Agree (slots_of act) p q → outcome act n p ≡ outcome act n q }
+    ensures touched { (act : Act) (n : ℕ) (p q : Parts) → Agree (slots_of act) p q → Agree (slots_of act) (told act (outcome act n p) n p) (told act (outcome act n q) n q) }
     ensures others { (act : Act) (n slot : ℕ) (p : Parts) → (has (slots_of act) slot && not (slot == 0)) ≡ false → (told act (outcome act n p) n p).tablet slot ≡ p.tablet slot }
     ensures master { (act : Act) (n : ℕ) (p : Parts) → has (slots_of act) 0 ≡ false → (told act (outcome act n p) n p).master ≡ p.master }
 {}

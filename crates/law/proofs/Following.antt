@@ -22,7 +22,8 @@ use Rattle.model.specs.Left.{left}
 use Rattle.model.specs.Settling.{coordinated}
 use Rattle.model.specs.Replies.{ReplyRight}
 use Rattle.model.specs.Right.{IsActivePlace, PlacesRight, holds_keys}
-use Rattle.model.specs.Scripts.{ScriptCommand, Tick, Lag, CreateNamespace, DropNamespace, CreateTable, AddColumn, DropColumn, RenameTable, DropTable, WriteRows, ReadRow, ReadTable, Split, CreateSchedule, DeleteSchedule, TakeSnapshot, Restore, CloneNamespace, ListSchedules, ListSnapshots, ListRestorations, ListClones, ListTablets, RaiseCutoffs, CompactTablets, CleanUp, Coordinate, Settle, RestartMaster, RestartTablet, ShowStats, ShowHistory, Found, found_by, Course, SetReading, SetLag, Perform, LookFor, WorkOff, ShowEntries, tell, plan_and_tell, course_of, time_at, asked_at, key_alone, at_place, cell_by_id, op_by_id, item_by_id, write_at, write_into, change_under, read_from, at_each, CourseAsked}
+use Rattle.model.specs.Scripts.{ScriptCommand, Tick, Lag, CreateNamespace, DropNamespace, CreateTable, AddColumn, DropColumn, RenameTable, DropTable, WriteRows, ReadRow, ReadTable, Split, CreateSchedule, DeleteSchedule, TakeSnapshot, Restore, CloneNamespace, ListSchedules, ListSnapshots, ListRestorations, ListClones, ListTablets, RaiseCutoffs, CompactTablets, CleanUp, Coordinate, Settle, RestartMaster, RestartTablet, ShowStats, ShowHistory, time_at, asked_at}
+use Rattle.model_runs.specs.Courses.{Found, found_by, Course, SetReading, SetLag, Perform, LookFor, WorkOff, ShowEntries, tell, plan_and_tell, course_of, key_alone, at_place, cell_by_id, op_by_id, item_by_id, write_at, write_into, change_under, read_from, at_each, CourseAsked}
 use Rattle.law_invariants.specs.Invariant.{Inv}
 use Rattle.law_invariants.proofs.Finding.{both_pass, passes_both, same_equal, in_mapped}
 use Rattle.law_invariants.proofs.Overlap.{code_below, holder_there}

@@ -7,8 +7,9 @@ use Rattle.model.specs.Entries.{Entry, touches}
 use Rattle.model.specs.History.{Legal, entry_of, replay}
 use Rattle.model.specs.Replies.{Right}
 use Rattle.model.specs.Settling.{event_of}
-use Rattle.model.specs.Scripts.{ScriptCommand, Numbered, Course, SetReading, SetLag, Perform, LookFor, WorkOff, ShowEntries, course_of}
-use Rattle.model.specs.Running.{Run, may_follow, with_event, reading_for, performed, performed_all, worked_off, after_look, followed, taken, made_by, with_text, text_of, ran, run_from, run_of, begun}
+use Rattle.model.specs.Scripts.{ScriptCommand, Numbered}
+use Rattle.model_runs.specs.Courses.{Course, SetReading, SetLag, Perform, LookFor, WorkOff, ShowEntries, course_of}
+use Rattle.model_runs.specs.Running.{Run, may_follow, with_event, reading_for, performed, performed_all, worked_off, after_look, followed, taken, made_by, with_text, text_of, ran, run_from, run_of, begun}
 
 -- commands and then more
 pub run_append : (xs ys : List Numbered) (slots : ℕ) (r : Run) → run_from slots (xs ++ ys) r ≡ run_from slots ys (run_from slots xs r)

@@ -9,8 +9,9 @@ use Rattle.model.specs.Entries.{Asked, log_of, stamp_of, touches, Entry}
 use Rattle.model.specs.History.{IsStep, Legal, entry_of, held, journal_of, activity_of, most_entries, replay}
 use Rattle.model.specs.Settling.{event_of, after_act, coordinated}
 use Rattle.model.specs.Work.{next_act}
-use Rattle.model.specs.Scripts.{ScriptCommand, Numbered, Found, found_by, Course, SetReading, SetLag, Perform, LookFor, WorkOff, ShowEntries, course_of, ScriptAsked}
-use Rattle.model.specs.Running.{Run, may_follow, with_event, reading_for, performed, performed_all, worked_off, after_look, followed, taken, made_by, with_text, text_of, ran, run_from, run_of, begun}
+use Rattle.model.specs.Scripts.{ScriptCommand, Numbered}
+use Rattle.model_runs.specs.Courses.{Found, found_by, Course, SetReading, SetLag, Perform, LookFor, WorkOff, ShowEntries, course_of, ScriptAsked}
+use Rattle.model_runs.specs.Running.{Run, may_follow, with_event, reading_for, performed, performed_all, worked_off, after_look, followed, taken, made_by, with_text, text_of, ran, run_from, run_of, begun}
 use Rattle.law_invariants.proofs.Finding.{both_pass}
 use Rattle.law.specs.Covering.{Covered}
 use Rattle.law.proofs.Law.{legal_holds}

@@ -4,8 +4,9 @@
 #![tactic(auto)]
 
 ghost use Rattle.std.specs.Prelude.{ℕ, List, ◌++◌};
-ghost use Rattle.model.specs.Scripts.{Numbered, ScriptAsked};
-ghost use Rattle.model.specs.Running.{run_of};
+ghost use Rattle.model.specs.Scripts.{Numbered};
+ghost use Rattle.model_runs.specs.Courses.{ScriptAsked};
+ghost use Rattle.model_runs.specs.Running.{run_of};
 ghost use Rattle.model.specs.Entries.{Entry};
 ghost use Rattle.row_values.specs.Elements.{AllOf};
 ghost use Rattle.model.specs.History.{Legal, replay, journal_of, activity_of};

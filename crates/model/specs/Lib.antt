@@ -35,6 +35,3 @@ pub mod Taking
 pub mod Left
 pub mod Settling
 pub mod Scripts
-pub mod Texts
-pub mod HistoryTexts
-pub mod Running

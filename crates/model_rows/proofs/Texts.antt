@@ -7,8 +7,8 @@ use Rattle.model.specs.Tablets.{Empty, Serving, Hidden, FenceKind, FreezeKind, R
 use Rattle.model.specs.Records.{IsCreating, IsComplete, IsFencing, IsSnapshot, IsSwitching, IsRestoring, IsReleasing, IsRestored, IsAccepted, IsCopying}
 use Rattle.model.specs.Acts as acts
 use Rattle.model.specs.Acts.{NamedUpsert, NamedDelete, AskPlan, AskKeys, AskTable, AskWork, AskRemovable, AskPresent, Look, Act, Command, Refusal, Reply, SendWork, CollectWork, AdvanceWork}
-use Rattle.model.specs.Texts.{refusal_text, reply_text, history_gap, line_gap}
-use Rattle.model.specs.HistoryTexts.{command_text, act_text}
+use Rattle.model_runs.specs.Texts.{refusal_text, reply_text, history_gap, line_gap}
+use Rattle.model_runs.specs.HistoryTexts.{command_text, act_text}
 use Rattle.model_rows.specs.Computed.{the_book}
 use Rattle.model_rows.specs.Scripts.{B, K, N, P, R, S, T, a, b, cell, early, new_int, new_text, int_column, number, q, row, set, t, text_column, u, v, w, x, zz}
 use Rattle.model_rows.specs.ScriptLines.{uuid}

@@ -4,7 +4,7 @@ use Rattle.model.specs.Acts.{Look, AskPresent, Present}
 use Rattle.model.specs.Entries.{Entry}
 use Rattle.model.specs.Settling.{event_of}
 use Rattle.model.specs.Scripts.{CloneNamespace, CreateNamespace, ListClones, Micros, MinusMinutes, MinusSeconds, ReadRow, Restore, Tick}
-use Rattle.model.specs.Running.{Run, begun, run_from}
+use Rattle.model_runs.specs.Running.{Run, begun, run_from}
 use Rattle.model_rows.specs.Computed.{the_book}
 use Rattle.model_rows.specs.Scripts.{K, S, a, b, c, t, v_is, x}
 use Rattle.model_rows.specs.ScriptLines.{get, get_at, lines, numbered_from, prelude, prelude_written, put, uuid, written_by}

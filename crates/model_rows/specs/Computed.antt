@@ -9,7 +9,7 @@ use Rattle.model.specs.Moves.{advance}
 use Rattle.model.specs.Once.{restores_asked, clones_asked, changes_by, obeyed}
 use Rattle.model.specs.RowActs.{write, read, cutoff, compact, restart, stats}
 use Rattle.row_values.specs.Store.{kept_of}
-use Rattle.model.specs.Running.{may_follow, made_by, text_of, run_of}
+use Rattle.model_runs.specs.Running.{may_follow, made_by, text_of, run_of}
 use Rattle.std.specs.Fmt.{digits}
 
 unfoldable pub the_book : Type 0

@@ -4,7 +4,7 @@ use Rattle.std.specs.Fmt.{decimal}
 use Rattle.row_values.specs.Ids.{Id, kind_digit}
 use Rattle.model.specs.Acts.{NamedCell, NamedUpsert, NamedDelete}
 use Rattle.model.specs.Scripts.{ScriptCommand, Numbered, Exact, Tick, CreateNamespace, CreateTable, CreateSchedule, TakeSnapshot, Restore, WriteRows, ReadRow}
-use Rattle.model.specs.Running.{run_of}
+use Rattle.model_runs.specs.Running.{run_of}
 use Rattle.model_rows.specs.Scripts.{N, T, S, a, t, v, new_int}
 
 -- the commands of lines that follow each other, from a line on

@@ -7,8 +7,9 @@ use Rattle.model.specs.Entries.{Entry}
 use Rattle.row_values.specs.Elements.{AllOf}
 use Rattle.model.specs.History.{Legal}
 use Rattle.model.specs.Replies.{Right}
-use Rattle.model.specs.Scripts.{Numbered, ScriptAsked}
-use Rattle.model.specs.Running.{run_of}
+use Rattle.model.specs.Scripts.{Numbered}
+use Rattle.model_runs.specs.Courses.{ScriptAsked}
+use Rattle.model_runs.specs.Running.{run_of}
 use Rattle.law.specs.Scripts.{ScriptCovered}
 use Rattle.yb_script.specs.Script.{read_script, no_names}
 use Rattle.yb_script.specs.Seen.{slot_count, numbered_of}

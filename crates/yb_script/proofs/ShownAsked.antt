@@ -5,7 +5,7 @@ use Rattle.row_values.specs.Elements.{AllOf}
 use Rattle.row_values.specs.Batches.{IsKey}
 use Rattle.model.specs.Entries.{IsName, IsNamedBatch}
 use Rattle.model.specs.Scripts as scripts
-use Rattle.model.specs.Scripts.{ScriptAsked, key_alone}
+use Rattle.model_runs.specs.Courses.{ScriptAsked, key_alone}
 use Rattle.yb_script.specs.Seen.{slot_count, spoken, numbered_from, numbered_of}
 use Rattle.yb_script.specs.Script.{no_names, heard}
 use Rattle.yb_script.specs.Ordered.{InOrder, IsAsked, is_later}

@@ -6,12 +6,13 @@ use Rattle.row_values.specs.declared.value.Value.TheVariants.{Int}
 use Rattle.model.specs.Acts as acts
 use Rattle.model.specs.Looks.{cells_fault}
 use Rattle.model.specs.Parts.{Master}
-use Rattle.model.specs.Texts.{row_text}
+use Rattle.model_runs.specs.Texts.{row_text}
 use Rattle.row_values.specs.Store.{written}
 use Rattle.row_values.specs.Stamps as rule
-use Rattle.model.specs.Running.{Run, made_by, ran, with_text, text_of as text_told, performed, performed_all, followed, read_text, columns_before, columns_in}
+use Rattle.model_runs.specs.Running.{Run, made_by, ran, with_text, text_of as text_told, performed, performed_all, followed, read_text, columns_before, columns_in}
 use Rattle.model.specs.Scripts as scripts
-use Rattle.model.specs.Scripts.{Time, asked_at, found_by, change_under, write_into, read_from, key_alone}
+use Rattle.model.specs.Scripts.{Time, asked_at}
+use Rattle.model_runs.specs.Courses.{found_by, change_under, write_into, read_from, key_alone}
 use Rattle.model.specs.Tablets.{Tablet, emptied}
 use Rattle.yb_script.specs.Runs.{State, Catalog, done, named, tabled, looked, wrote, read, got, keyed, keys_ask, keys_answer, read_answer, placed, is_placed, at_tablet, number_batch, number_cell, master_stamp, tablet_stamp, table_command}
 use Rattle.yb_script.specs.Texts as texts

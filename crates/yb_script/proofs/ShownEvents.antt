@@ -9,7 +9,7 @@ use Rattle.model.specs.Entries.{log_of, stamp_of, touches}
 use Rattle.model.specs.History as history
 use Rattle.model.specs.History.{replay, held, most_entries, outcome, told}
 use Rattle.model.specs.Settling.{event_of}
-use Rattle.model.specs.Running.{Run, may_follow, with_event, reading_for, performed}
+use Rattle.model_runs.specs.Running.{Run, may_follow, with_event, reading_for, performed}
 use Rattle.model.specs.Tablets.{Tablet}
 use Rattle.model.specs.Times.{end_of_time}
 use Rattle.model.specs.Parts.{Master, Parts}

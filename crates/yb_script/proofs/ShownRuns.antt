@@ -5,7 +5,7 @@ use Rattle.std.proofs.lemmas.Bool.Decides.{nat_tests}
 use Rattle.std.proofs.lemmas.List.Elements.{All-head, All-tail, All-take}
 use Rattle.model.specs.History.{replay}
 use Rattle.model.specs.Parts.{Master}
-use Rattle.model.specs.Running.{Run, begun, ran, run_from, run_of}
+use Rattle.model_runs.specs.Running.{Run, begun, ran, run_from, run_of}
 use Rattle.model.specs.Scripts.{Exact}
 use Rattle.model.specs.Tablets.{Tablet, emptied}
 use Rattle.yb_script.specs.Runs.{State, empty_state, done, named, tabled, looked, wrote, read, got, keyed, ticked, keys_answer, is_placed, master_stamp}

@@ -7,8 +7,8 @@ use Rattle.row_values.specs.declared.value.Cell.{Cell}
 use Rattle.row_values.specs.declared.value.Value.{Value}
 use Rattle.row_values.specs.declared.value.Value.TheVariants.{Int, Text, Null}
 use Rattle.row_values.specs.Store.{present, read_of}
-use Rattle.model.specs.Texts as texts
-use Rattle.model.specs.Running.{read_text}
+use Rattle.model_runs.specs.Texts as texts
+use Rattle.model_runs.specs.Running.{read_text}
 use Rattle.yb_script.specs.Runs.{State, rows_answer, read_answer}
 use Rattle.yb_script.specs.Texts.{time_text, value_text, rows_text, reply_text, last_text, entry_text}
 use Rattle.yb_script.specs.Seen.{reply_of, columns_of}

@@ -11,7 +11,7 @@ use Rattle.yb_script.specs.declared.run.Stop.{Stop}
 use Rattle.yb_script.specs.declared.run.Stop.TheVariants.{WriteFault, NoMemory}
 use Rattle.model.specs.History.{Legal}
 use Rattle.model.specs.Replies.{Right}
-use Rattle.model.specs.Running.{run_of}
+use Rattle.model_runs.specs.Running.{run_of}
 use Rattle.yb_script.specs.Seen.{slot_count, entry_of, numbered_of}
 use Rattle.yb_script.specs.Runs.{State, done, looked_for}
 use Rattle.yb_script.specs.Script.{read_script}

@@ -1,6 +1,6 @@
 -- What a script makes is the book's run of its commands.
 use Rattle.std.specs.Prelude.{◌≡◌, false, List, map, reverse, length}
-use Rattle.model.specs.Running.{run_of}
+use Rattle.model_runs.specs.Running.{run_of}
 use Rattle.yb_script.specs.Seen.{slot_count, entry_of, numbered_of}
 use Rattle.yb_script.specs.Texts.{history_of, script_text}
 use Rattle.yb_script.specs.declared.script.ScriptCommand.{ScriptCommand}

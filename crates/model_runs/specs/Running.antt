@@ -8,9 +8,10 @@ use Rattle.model.specs.Acts.{Act, Look, Event, Reply}
 use Rattle.model.specs.Entries.{Entry, touches, log_of, stamp_of}
 use Rattle.model.specs.History.{replay, held, most_entries, entry_of}
 use Rattle.model.specs.Settling.{event_of}
-use Rattle.model.specs.Scripts.{ScriptCommand, Numbered, Found, FoundSlots, FoundPlaces, FoundTargets, FoundRows, FoundNothing, found_by, Showing, ShowReply, ShowRow, ShowTable, ShowCount, Course, SetReading, SetLag, Perform, LookFor, WorkOff, ShowEntries, course_of}
-use Rattle.model.specs.Texts.{told_text, row_text, rows_text}
-use Rattle.model.specs.HistoryTexts.{history_text}
+use Rattle.model.specs.Scripts.{ScriptCommand, Numbered}
+use Rattle.model_runs.specs.Courses.{Found, FoundSlots, FoundPlaces, FoundTargets, FoundRows, FoundNothing, found_by, Showing, ShowReply, ShowRow, ShowTable, ShowCount, Course, SetReading, SetLag, Perform, LookFor, WorkOff, ShowEntries, course_of}
+use Rattle.model_runs.specs.Texts.{told_text, row_text, rows_text}
+use Rattle.model_runs.specs.HistoryTexts.{history_text}
 
 -- the script's reading, how far each slot's lags behind it, the entries so far, the newest first, the text of the
 -- commands that were done, and how many these are. A run stops where an event would be stamped at the end of time or

@@ -5,10 +5,11 @@ use Rattle.std.specs.List.{join_by}
 use Rattle.row_values.specs.declared.value.RowOp.{RowOp}
 use Rattle.row_values.specs.declared.value.RowOp.TheVariants.{Upsert, Delete}
 use Rattle.row_values.specs.declared.value.Item.{Item}
+use Rattle.row_values.specs.Ids.{id_text}
 use Rattle.row_values.specs.Schema.{ColumnKind, NewColumn}
 use Rattle.model.specs.Acts.{NamedCell, NamedOp, NamedUpsert, NamedDelete, NamedItem, Command, CreateNamespace, DropNamespace, CreateTable, AddColumn, DropColumn, RenameTable, DropTable, Split, CreateSchedule, DeleteSchedule, TakeSnapshot, Restore, CloneNamespace, ListSchedules, ListSnapshots, ListRestorations, ListClones, ListTablets, Ask, AskPlan, AskKeys, AskTable, AskWork, AskRemovable, AskPresent, At, Act, Look, Change, Write, Read, Cutoff, Compact, Send, Process, Ack, Advance, Remove, Prune, Restart, Stats}
 use Rattle.model.specs.Entries.{Entry}
-use Rattle.model.specs.Texts.{word, number_word, id_text, id_word, time_word, numbers_text, slots_word, version_word, value_text, cell_words, column_kind_text, history_gap, reply_text}
+use Rattle.model_runs.specs.Texts.{word, number_word, id_word, time_word, numbers_text, slots_word, version_word, value_text, cell_words, column_kind_text, history_gap, reply_text}
 
 -- Commands, as a script writes them, with whole times
 

@@ -1,13 +1,13 @@
 -- The texts of replies, on the line of a command and in a history. Further lines of a command begin with two spaces; a
 -- history has what they say behind ` | `.
-use Rattle.std.specs.Prelude.{ℕ, zero, suc, ◌+◌, ◌/◌, ◌%◌, nat_lt, if◌then◌else◌, List, [], ◌∷◌, ◌++◌, length, Option, Some, None, codes, flat_map}
+use Rattle.std.specs.Prelude.{ℕ, ◌/◌, ◌%◌, nat_lt, if◌then◌else◌, List, [], ◌∷◌, ◌++◌, length, Option, Some, None, codes, flat_map}
 use Rattle.std.specs.Fmt.{decimal, signed_decimal}
 use Rattle.std.specs.List.{join_by}
 use Rattle.row_values.specs.declared.rows.KeyedRow.{KeyedRow}
 use Rattle.row_values.specs.declared.value.Value.{Value}
 use Rattle.row_values.specs.declared.value.Value.TheVariants.{Int, Text, Null}
 use Rattle.row_values.specs.declared.value.Cell.{Cell}
-use Rattle.row_values.specs.Ids.{Id, kind_digit}
+use Rattle.row_values.specs.Ids.{Id, id_text}
 use Rattle.row_values.specs.Schema.{Column, ColumnKind, IntColumn, TextColumn}
 use Rattle.model.specs.Tablets.{Standing, Empty, Serving, Hidden, BodyKind, FenceKind, FreezeKind, RestoreFromKind, HideKind, CopyKind, ReleaseKind}
 use Rattle.model.specs.Records.{State, IsCreating, IsComplete, IsFencing, IsSnapshot, IsSwitching, IsRestoring, IsReleasing, IsRestored, IsAccepted, IsCopying}
@@ -22,18 +22,6 @@ word text = codes " " ++ text
 
 abbrev pub number_word : ℕ → List ℕ
 number_word n = word (decimal n)
-
-abbrev pub hex_digit : ℕ → ℕ
-hex_digit d = if nat_lt d 10 then 48 + d else 87 + d
-
--- the last so many hexadecimal digits of a number
-abbrev pub hex_digits : ℕ → ℕ → List ℕ
-hex_digits zero n = []
-hex_digits (suc count) n = hex_digits count (n / 16) ++ hex_digit (n % 16) ∷ []
-
--- an identifier as a UUID: its kind stands in the first field, its number in the last
-abbrev pub id_text : Id → List ℕ
-id_text id = hex_digits 8 (kind_digit id.kind) ++ codes "-0000-4000-8000-" ++ hex_digits 12 id.number
 
 abbrev pub id_word : Id → List ℕ
 id_word id = word (id_text id)

@@ -1,0 +1,4 @@
+pub mod Courses
+pub mod Texts
+pub mod HistoryTexts
+pub mod Running

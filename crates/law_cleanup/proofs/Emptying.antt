@@ -159,7 +159,7 @@ fence_beside m n tablet table slot other done operation g apart (inr h) = inr (r
 after_still : (m : Master) (n : ℕ) (tablet : Id) (clock : ℕ) (operation : Id) (kind : BodyKind) → IsAfter m clock operation kind → IsAfter (forgetting m n tablet) clock operation kind
 after_still m n tablet clock operation kind h = record { snapshot = h.snapshot; restoration = h.restoration; point = h.point; copied = h.copied; released = h.released }
 
-pending_still : (kind : Kind) (m : Master) (n : ℕ) (tablet operation : Id) (slot : ℕ) → pending_of kind (forgetting m n tablet) operation slot ≡ pending_of kind m operation slot
+pending_still : (kind : Kind) (m : Master) (n : ℕ) (tablet operation : Id) (slot : ℕ) → pending_of kind (forgetting m n tablet).snapshots (forgetting m n tablet).restorations (forgetting m n tablet).clones operation slot ≡ pending_of kind m.snapshots m.restorations m.clones operation slot
 pending_still Snapshot m n tablet operation slot = refl
 pending_still Restoration m n tablet operation slot = refl
 pending_still Clone m n tablet operation slot = refl

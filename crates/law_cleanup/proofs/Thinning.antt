@@ -124,7 +124,7 @@ unfinished_beside (q ∷ rs) target id complete = cond_both (not (same q.id targ
     let skipped : (same q.id id && not q.complete) ≡ false = second_fails (same q.id id) (not q.complete) (ap not over) in
     unfinished_beside rs target id (λ p isin. complete p (inr isin)) ∙ sym (ap (λ b. cond b (Some q) (unfinished_snapshot rs id)) skipped))
 
-pending_thin : (kind : Kind) (m : Master) (n : ℕ) (target operation : Id) (slot : ℕ) → ((q : SnapshotRecord) → In q m.snapshots → q.id ≡ target → q.complete ≡ true) → pending_of kind (discarding m n target) operation slot ≡ pending_of kind m operation slot
+pending_thin : (kind : Kind) (m : Master) (n : ℕ) (target operation : Id) (slot : ℕ) → ((q : SnapshotRecord) → In q m.snapshots → q.id ≡ target → q.complete ≡ true) → pending_of kind (discarding m n target).snapshots (discarding m n target).restorations (discarding m n target).clones operation slot ≡ pending_of kind m.snapshots m.restorations m.clones operation slot
 pending_thin Snapshot m n target operation slot complete = ap (λ o. option_and_then (λ r. unacked_at r.listed slot) o) (unfinished_beside m.snapshots target operation complete)
 pending_thin Restoration m n target operation slot complete = refl
 pending_thin Clone m n target operation slot complete = refl

@@ -91,7 +91,7 @@ found_then : {A : Type 0} {P : Type 0} (o : Option A) (f : A → Option Listed) 
 found_then None f l e go = absurd (let q = e in grind arith)
 found_then (Some a) f l e go = go a refl e
 
-pending_by : (kind : Kind) (m : Master) (c : CloneRecord) (operation : Id) (slot : ℕ) (l : Listed) → pending_of kind m operation slot ≡ Some l → pending_of kind (adding m c) operation slot ≡ Some l
+pending_by : (kind : Kind) (m : Master) (c : CloneRecord) (operation : Id) (slot : ℕ) (l : Listed) → pending_of kind m.snapshots m.restorations m.clones operation slot ≡ Some l → pending_of kind (adding m c).snapshots (adding m c).restorations (adding m c).clones operation slot ≡ Some l
 pending_by Snapshot m c operation slot l e = e
 pending_by Restoration m c operation slot l e = e
 pending_by Clone m c operation slot l e = found_then (unfinished_clone m.clones operation) (λ r. unacked_at r.listed slot) l e

@@ -211,7 +211,7 @@ module _ (m : Master) (v : Step) (w : Steps m.clones v) (a : OperationsApart m.s
       absurd (true≢false (sym (w.acked l (subst (λ x. In l x.listed) one u.0)) ∙ u.1)))
       (λ b. b)
 
-  pending_by : (kind : Kind) (operation : Id) (slot : ℕ) (l : Listed) → pending_of kind m operation slot ≡ Some l → pending_of kind (stepped m v) operation slot ≡ Some l
+  pending_by : (kind : Kind) (operation : Id) (slot : ℕ) (l : Listed) → pending_of kind m.snapshots m.restorations m.clones operation slot ≡ Some l → pending_of kind (stepped m v).snapshots (stepped m v).restorations (stepped m v).clones operation slot ≡ Some l
   pending_by Snapshot operation slot l e = e
   pending_by Restoration operation slot l e = e
   pending_by Clone operation slot l e = found_then (unfinished_clone m.clones operation) (λ r. unacked_at r.listed slot) l e
@@ -224,7 +224,7 @@ module _ (m : Master) (v : Step) (w : Steps m.clones v) (a : OperationsApart m.s
   pending_by TabletKind operation slot l e = e
   pending_by ScheduleKind operation slot l e = e
 
-  unmoved_by : (kind : Kind) (operation : Id) (slot : ℕ) (l : Listed) → kind ≡ Clone → pending_of kind m operation slot ≡ Some l → v.clone.id ≡ operation → ⊥
+  unmoved_by : (kind : Kind) (operation : Id) (slot : ℕ) (l : Listed) → kind ≡ Clone → pending_of kind m.snapshots m.restorations m.clones operation slot ≡ Some l → v.clone.id ≡ operation → ⊥
   unmoved_by Clone operation slot l kind e is = found_then (unfinished_clone m.clones operation) (λ r. unacked_at r.listed slot) l e
       (λ r found at.
       let k = unfinished_clone_is m.clones operation r found in

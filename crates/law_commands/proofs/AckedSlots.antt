@@ -210,7 +210,7 @@ pending_clones (r ∷ rs) id operation slot other l apart e = either_way (same r
     (λ b. let rest : option_and_then (λ q. unacked_at q.listed other) (unfinished_clone rs operation) ≡ Some l = rw b at e in rw b (pending_clones rs id operation slot other l apart rest))
 
 -- a command that is pending stays so, but for the one that is acked
-pending_acked : (kind : Kind) (m : Master) (id operation : Id) (slot other : ℕ) (l : Listed) → (same operation id ≡ true → eqb other slot ≡ false) → pending_of kind m operation other ≡ Some l → pending_of kind (acked_all id slot m) operation other ≡ Some l
+pending_acked : (kind : Kind) (m : Master) (id operation : Id) (slot other : ℕ) (l : Listed) → (same operation id ≡ true → eqb other slot ≡ false) → pending_of kind m.snapshots m.restorations m.clones operation other ≡ Some l → pending_of kind (acked_all id slot m).snapshots (acked_all id slot m).restorations (acked_all id slot m).clones operation other ≡ Some l
 pending_acked Snapshot m id operation slot other l apart e = pending_snapshots m.snapshots id operation slot other l apart e
 pending_acked Restoration m id operation slot other l apart e = pending_restorations m.restorations id operation slot other l apart e
 pending_acked Clone m id operation slot other l apart e = pending_clones m.clones id operation slot other l apart e

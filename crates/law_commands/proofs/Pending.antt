@@ -84,7 +84,7 @@ by_clone (r ∷ rs) id slot l e = either_way (same r.id id && not (is_cloned r.s
     (λ b. let q : option_and_then (λ k. unacked_at k.listed slot) (unfinished_clone rs id) ≡ Some l = rw b at e in
     let k = by_clone rs id slot l q in (k.0, (inr k.1.0, k.1.1)))
 
-pending_by : (kind : Kind) (m : Master) (operation : Id) (slot : ℕ) (l : Listed) → pending_of kind m operation slot ≡ Some l → IsPending m operation slot l
+pending_by : (kind : Kind) (m : Master) (operation : Id) (slot : ℕ) (l : Listed) → pending_of kind m.snapshots m.restorations m.clones operation slot ≡ Some l → IsPending m operation slot l
 pending_by Snapshot m operation slot l e =
     let k = by_snapshot m.snapshots operation slot l e in
     BySnapshot (record { snapshot = k.0; kept = k.1.0; id_is = k.1.1.0; unfinished = k.1.1.1.0; line = unacked_is k.0.listed slot l k.1.1.1.1 })

@@ -50,7 +50,7 @@ fence_on m n c a d s changes new slot table done operation o (inr h) = inr (reco
 pub after_on : (m : Master) (n : ℕ) (c : Catalog) (a : List Interval) (d : Drawn) (s : List Sent) (clock : ℕ) (operation : Id) (kind : BodyKind) → IsAfter m clock operation kind → IsAfter (going m n c a d s) clock operation kind
 after_on m n c a d s clock operation kind h = record { snapshot = h.snapshot; restoration = h.restoration; point = h.point; copied = h.copied; released = h.released }
 
-pub pending_on : (kind : Kind) (m : Master) (n : ℕ) (c : Catalog) (a : List Interval) (d : Drawn) (s : List Sent) (operation : Id) (slot : ℕ) → pending_of kind (going m n c a d s) operation slot ≡ pending_of kind m operation slot
+pub pending_on : (kind : Kind) (m : Master) (n : ℕ) (c : Catalog) (a : List Interval) (d : Drawn) (s : List Sent) (operation : Id) (slot : ℕ) → pending_of kind (going m n c a d s).snapshots (going m n c a d s).restorations (going m n c a d s).clones operation slot ≡ pending_of kind m.snapshots m.restorations m.clones operation slot
 pending_on Snapshot m n c a d s operation slot = refl
 pending_on Restoration m n c a d s operation slot = refl
 pending_on Clone m n c a d s operation slot = refl

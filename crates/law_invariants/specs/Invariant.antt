@@ -29,7 +29,7 @@ use Rattle.model.specs.Parts.{Master, Parts, Check, If, Names, Fault, Outcome}
 use Rattle.law_store.specs.Sorted.{Sorted, EachKey}
 use Rattle.law_invariants.specs.Remembered.{Remembered}
 use Rattle.law_invariants.specs.Operations.{is_switched, OperationsGood, JournalGood}
-use Rattle.law_invariants.specs.Orders.{OrdersGood, ObeyedGood, RowsPast}
+use Rattle.law_invariants.specs.Orders.{Directory, directory, OrdersIn, ObeyedIn, RowsPast}
 
 -- an end comes at or after the start, and at or before the time
 abbrev pub EndsBy : ℕ → ℕ → Option ℕ → Type 0
@@ -70,11 +70,13 @@ pub record NamespacesStand (rs : List NamespaceRecord) (time drawn : ℕ) (chang
   -- from the clock on the view names a namespace as the records do
   pub viewed : (id : Id) (x : ℕ) → time ≤ x → namespace_at changes x id ≡ name_of rs id
 
--- of the records of one table, a later one has a greater next id, and an earlier one had ended when it began: so none comes after an open
--- one
+-- of the records of one table, a later one has a greater next id, and an earlier one had ended when it began: so none
+-- comes after an open one
 abbrev pub RecordsRise : List TableRecord → Type 0
 RecordsRise [] = Unit {0}
-RecordsRise (r ∷ rs) = ((q : TableRecord) → In q rs → q.id ≡ r.id → (r.schema.next ≤ q.schema.next) × (ended_by q.from r.to ≡ true)) × RecordsRise rs
+RecordsRise (r ∷ rs) =
+    ((q : TableRecord) → In q rs → q.id ≡ r.id → (r.schema.next ≤ q.schema.next) × (ended_by q.from r.to ≡ true))
+      × RecordsRise rs
 
 -- the records of tables: at each time a table has one record, and a name in a namespace is that of one table alone
 pub record TablesStand (c : Catalog) (time drawn : ℕ) (changes : List Change) : Type 0 where
@@ -82,15 +84,19 @@ pub record TablesStand (c : Catalog) (time drawn : ℕ) (changes : List Change) 
   pub drawn_before : (r : TableRecord) → In r c.tables → r.id.number ≤ drawn
   pub owned : (r : TableRecord) → In r c.tables → owner_of c.owners r.id ≡ Some r.namespace
   pub owners_drawn : (id : Id) → drawn < id.number → owner_of c.owners id ≡ None
-  pub unique : (x : ℕ) (r : TableRecord) → In r c.tables → holds_at x r.from r.to ≡ true → table_named c.tables r.namespace r.name x ≡ Some r
-  pub found : (x : ℕ) (r : TableRecord) → In r c.tables → holds_at x r.from r.to ≡ true → record_at c.tables r.id x ≡ Some r
+  pub unique : (x : ℕ) (r : TableRecord) → In r c.tables → holds_at x r.from r.to ≡ true
+      → table_named c.tables r.namespace r.name x ≡ Some r
+  pub found : (x : ℕ) (r : TableRecord) → In r c.tables → holds_at x r.from r.to ≡ true
+      → record_at c.tables r.id x ≡ Some r
   pub columns : (r : TableRecord) → In r c.tables → ColumnsStand r.schema
   pub rise : RecordsRise c.tables
   -- where the catalog of its namespace is kept, the view has a table as the records do
-  pub viewed : (id ns : Id) (x : ℕ) → owner_of c.owners id ≡ Some ns → kept_from c.kept_from ns ≤ x → table_at changes x id ≡ view_at c.tables x id
+  pub viewed : (id ns : Id) (x : ℕ) → owner_of c.owners id ≡ Some ns → kept_from c.kept_from ns ≤ x
+      → table_at changes x id ≡ view_at c.tables x id
   pub unmade : (id : Id) (x : ℕ) → owner_of c.owners id ≡ None → table_at changes x id ≡ None
   -- the view has a table in the namespace in which it was made
-  pub inside : (id : Id) (x : ℕ) (v : TableView) → table_at changes x id ≡ Some v → owner_of c.owners id ≡ Some v.namespace
+  pub inside : (id : Id) (x : ℕ) (v : TableView) → table_at changes x id ≡ Some v
+      → owner_of c.owners id ≡ Some v.namespace
   pub kept : (ns : Id) → kept_from c.kept_from ns ≤ time
 
 -- whether a namespace has a mark of how far its catalog is kept
@@ -104,7 +110,8 @@ pub record MarksStand (c : Catalog) : Type 0 where
 
 -- Tablets
 
--- a tablet's versions are in order, in its range, and stamped by its clock; so are its frozen sets, which are of earlier times
+-- a tablet's versions are in order, in its range, and stamped by its clock; so are its frozen sets, which are of
+-- earlier times
 pub record TabletGood (t : Tablet) : Type 0 where
   pub sorted : Sorted t.versions
   pub below : Below (t.clock + 1) t.versions
@@ -114,15 +121,17 @@ pub record TabletGood (t : Tablet) : Type 0 where
   pub set_sorted : (f : FrozenSet) → In f t.frozen → Sorted f.versions
   pub set_keys : (f : FrozenSet) → In f t.frozen → EachKey (λ key. in_range t.low t.high (code_of key)) f.versions
 
--- the reads of a tablet's live store from its cutoff on and before the end of an interval, where the view has the table, are those
--- of the view. A clone's copies have a stamp before the one at which the view has their tables
+-- the reads of a tablet's live store from its cutoff on and before the end of an interval, where the view has the
+-- table, are those of the view. A clone's copies have a stamp before the one at which the view has their tables
 abbrev pub StandsIn : Tablet → List Change → Interval → Type 0
-StandsIn t changes i = (key : List ℕ) (x : ℕ) → in_range i.low i.high (code_of key) ≡ true → t.cutoff ≤ x → before_end x i.to ≡ true
+StandsIn t changes i = (key : List ℕ) (x : ℕ) → in_range i.low i.high (code_of key) ≡ true → t.cutoff ≤ x
+      → before_end x i.to ≡ true
     → is_some (table_at changes x i.table) ≡ true → read_of t.versions key x ≡ row_at changes x i.table key
 
 -- the reads of a frozen set, from its cutoff to its time and within an interval, are those of the view
 abbrev pub SetStands : FrozenSet → List Change → Interval → Type 0
-SetStands f changes i = (key : List ℕ) (x : ℕ) → in_range i.low i.high (code_of key) ≡ true → f.cutoff ≤ x → x ≤ f.at → active_at x i ≡ true
+SetStands f changes i = (key : List ℕ) (x : ℕ) → in_range i.low i.high (code_of key) ≡ true → f.cutoff ≤ x → x ≤ f.at
+      → active_at x i ≡ true
     → read_of f.versions key x ≡ row_at changes x i.table key
 
 -- an open interval begins at the point, and one that has ended had ended by it
@@ -134,14 +143,17 @@ TurnsAt point from (Some to) = to ≤ point
 abbrev pub is_awaited : Option ℕ → Option ℕ → Bool
 is_awaited point to = is_open to && is_some point
 
--- where a tablet awaits rows, the view has from the point on those of the time to which its namespace is taken back, and they are those of
--- the view before the restore
+-- where a tablet awaits rows, the view has from the point on those of the time to which its namespace is taken back,
+-- and they are those of the view before the restore
 pub record ComesFrom (changes : List Change) (ns : Id) (i : Interval) (point to : ℕ) : Type 0 where
   pub switched : is_switched changes ns point ≡ true
-  pub rows : (key : List ℕ) (x : ℕ) → in_range i.low i.high (code_of key) ≡ true → point ≤ x → row_at changes x i.table key ≡ row_at changes to i.table key
-  pub before : (key : List ℕ) → in_range i.low i.high (code_of key) ≡ true → row_at (before_restore changes ns point changes) to i.table key ≡ row_at changes to i.table key
+  pub rows : (key : List ℕ) (x : ℕ) → in_range i.low i.high (code_of key) ≡ true → point ≤ x
+      → row_at changes x i.table key ≡ row_at changes to i.table key
+  pub before : (key : List ℕ) → in_range i.low i.high (code_of key) ≡ true
+      → row_at (before_restore changes ns point changes) to i.table key ≡ row_at changes to i.table key
 
--- an interval of a tablet: its slot's part holds the tablet, and stands for the journal unless the interval's rows are yet to come
+-- an interval of a tablet: its slot's part holds the tablet, and stands for the journal unless the interval's rows are
+-- yet to come
 pub record IsGood (m : Master) (changes : List Change) (t : Tablet) (i : Interval) : Type 0 where
   pub past : IsPast m.clock i.from i.to
   -- an interval that has ended is over for the tablet too
@@ -159,21 +171,27 @@ pub record IsGood (m : Master) (changes : List Change) (t : Tablet) (i : Interva
   pub viewed : (x : ℕ) → active_at x i ≡ true → is_some (table_at changes x i.table) ≡ true
   -- a tablet that awaits rows awaits those of its open interval
   pub waits : (point : ℕ) → awaited_in m.restorations t.tablet t.done ≡ Some point → TurnsAt point i.from i.to
-  pub comes : (r : RestorationRecord) (point : ℕ) → In r m.restorations → awaited_of r.state r t.tablet t.done ≡ Some point → i.to ≡ None → ComesFrom changes r.namespace i point r.to
+  pub comes : (r : RestorationRecord) (point : ℕ) → In r m.restorations
+      → awaited_of r.state r t.tablet t.done ≡ Some point → i.to ≡ None → ComesFrom changes r.namespace i point r.to
   -- a tablet whose rows came is in service while it is active, and is hidden only from the end of its activity on
   pub serves : i.to ≡ None → awaited_in m.restorations t.tablet t.done ≡ None → is_serving t.presence ≡ true
-  pub hidden : (at : ℕ) → t.presence ≡ HiddenPart at → is_awaited (awaited_in m.restorations t.tablet t.done) i.to ≡ false → ended_by at i.to ≡ true
+  pub hidden : (at : ℕ) → t.presence ≡ HiddenPart at
+      → is_awaited (awaited_in m.restorations t.tablet t.done) i.to ≡ false → ended_by at i.to ≡ true
   pub stands : is_awaited (awaited_in m.restorations t.tablet t.done) i.to ≡ false → StandsIn t changes i
   pub sets : (f : FrozenSet) → In f t.frozen → SetStands f changes i
 
 -- a tablet that takes writes has an open interval that began by its clock, and its rows are taken
-pub record IsOpen (m : Master) (slot : ℕ) (t : Tablet) : Type 0 where
+pub record TakesWritesIn (activity : List Interval) (restorations : List RestorationRecord) (slot : ℕ)
+    (t : Tablet) : Type 0 where
   pub interval : Interval
-  pub listed : In interval m.activity
+  pub listed : In interval activity
   pub slot_is : interval.slot ≡ slot
   pub opened : interval.to ≡ None
   pub begun : interval.from ≤ t.clock
-  pub settled : awaited_in m.restorations t.tablet t.done ≡ None
+  pub settled : awaited_in restorations t.tablet t.done ≡ None
+
+abbrev pub IsOpen : Master → ℕ → Tablet → Type 0
+IsOpen m slot t = TakesWritesIn m.activity m.restorations slot t
 
 -- what holds of a slot and the part in it
 pub record SlotGood (m : Master) (changes : List Change) (slot : ℕ) (t : Tablet) : Type 0 where
@@ -184,15 +202,18 @@ pub record SlotGood (m : Master) (changes : List Change) (slot : ℕ) (t : Table
   pub each : (i : Interval) → In i m.activity → i.slot ≡ slot → IsGood m changes t i
   pub opens : is_serving t.presence ≡ true → t.fence ≡ None → IsOpen m slot t
   -- the view has the table of a tablet that takes writes, from its cutoff on
-  pub shown : is_serving t.presence ≡ true → t.fence ≡ None → (x : ℕ) → t.cutoff ≤ x → is_some (table_at changes x t.table) ≡ true
+  pub shown : is_serving t.presence ≡ true → t.fence ≡ None → (x : ℕ) → t.cutoff ≤ x
+      → is_some (table_at changes x t.table) ≡ true
   -- a time to which its namespace was taken back, or cloned, is over for it: it stamps only later changes
   pub later : (ns : Id) (to : ℕ) → is_fixed changes ns to ≡ true → is_serving t.presence ≡ true → t.fence ≡ None
       → owner_of m.catalog.owners t.table ≡ Some ns → to ≤ t.clock
 
--- the tablets' ranges cover the codes of each table that the view has, no code twice, and no range ends beyond the codes
+-- the tablets' ranges cover the codes of each table that the view has, no code twice, and no range ends beyond the
+-- codes
 pub record Covered (activity : List Interval) (changes : List Change) : Type 0 where
   pub once : (table : Id) (code x : ℕ) → code < 65536 → holders activity table code x ≤ 1
-  pub whole : (table : Id) (code x : ℕ) → code < 65536 → is_some (table_at changes x table) ≡ true → holders activity table code x ≡ 1
+  pub whole : (table : Id) (code x : ℕ) → code < 65536 → is_some (table_at changes x table) ≡ true
+      → holders activity table code x ≡ 1
   pub ranges : (i : Interval) → In i activity → HasRange i
 
 -- what holds of the master
@@ -205,15 +226,20 @@ pub record MasterGood (m : Master) (changes : List Change) : Type 0 where
   -- the last complete snapshot of a namespace is over
   pub complete : (k : ScheduledNamespace) → In k m.scheduled → complete_to k + 1 ≤ m.clock
   -- a restoration lists no tablet that is yet to be made
-  pub listed : (r : RestorationRecord) (l : Listed) → In r m.restorations → In l r.listed → l.tablet.number ≤ m.drawn.tablets
+  pub listed : (r : RestorationRecord) (l : Listed) → In r m.restorations → In l r.listed
+      → l.tablet.number ≤ m.drawn.tablets
   -- and tablets of its namespace alone
-  pub listed_of : (r : RestorationRecord) (l : Listed) → In r m.restorations → In l r.listed → (i : Interval) → In i m.activity → i.tablet ≡ l.tablet
+  pub listed_of : (r : RestorationRecord) (l : Listed) → In r m.restorations → In l r.listed → (i : Interval)
+      → In i m.activity → i.tablet ≡ l.tablet
       → owner_of m.catalog.owners i.table ≡ Some r.namespace
 
 -- what holds of a slot and the operations that have its tablet do something
-pub record SlotWorks (m : Master) (changes : List Change) (slot : ℕ) (t : Tablet) : Type 0 where
-  pub orders : OrdersGood m slot t
-  pub obeyed : ObeyedGood m changes slot t
+pub record WorksIn (d : Directory) (changes : List Change) (slot : ℕ) (t : Tablet) : Type 0 where
+  pub orders : OrdersIn d slot t
+  pub obeyed : ObeyedIn d changes slot t
+
+abbrev pub SlotWorks : Master → List Change → ℕ → Tablet → Type 0
+SlotWorks m changes slot t = WorksIn (directory m) changes slot t
 
 -- what holds after each entry. `activity` has the intervals of all tablets that ever were
 pub record Inv (ps : Parts) (activity : List Interval) (changes : List Change) : Type 0 where
@@ -228,7 +254,8 @@ pub record Inv (ps : Parts) (activity : List Interval) (changes : List Change) :
   pub late : NothingLate changes
 
 -- an act keeps what holds, and its reply is right. `activity` is that of all tablets after it
-pub record Keeps (act : Act) (o : Outcome) (n : ℕ) (before after : Parts) (activity : List Interval) (changes : List Change) : Type 0 where
+pub record Keeps (act : Act) (o : Outcome) (n : ℕ) (before after : Parts) (activity : List Interval)
+    (changes : List Change) : Type 0 where
   pub right : ReplyRight act o.reply n before changes
   pub inv : Inv after activity (with_changes act o n before changes)
 

@@ -29,7 +29,7 @@ use Rattle.law_moves.proofs.Turned.{before_other, other_restore}
 -- What is pending
 
 pending_turned : (kind : Kind) (m : Master) (r : RestorationRecord) (point : ℕ) (serving_ : Id) (n : ℕ) (operation : Id) (slot : ℕ)
-    → pending_of kind (turned m r point serving_ n) operation slot ≡ pending_of kind (recorded m (enters r (Restoring point serving_) (listed_then m r point serving_) n m)) operation slot
+    → pending_of kind (turned m r point serving_ n).snapshots (turned m r point serving_ n).restorations (turned m r point serving_ n).clones operation slot ≡ pending_of kind (recorded m (enters r (Restoring point serving_) (listed_then m r point serving_) n m)).snapshots (recorded m (enters r (Restoring point serving_) (listed_then m r point serving_) n m)).restorations (recorded m (enters r (Restoring point serving_) (listed_then m r point serving_) n m)).clones operation slot
 pending_turned Snapshot m r point serving_ n operation slot = refl
 pending_turned Restoration m r point serving_ n operation slot = refl
 pending_turned Clone m r point serving_ n operation slot = refl

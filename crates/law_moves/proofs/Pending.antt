@@ -53,7 +53,7 @@ found_then (Some a) f l e go = go a refl e
 
 -- What is pending is of an operation that was drawn
 
-drawn_by : (kind : Kind) (m : Master) (changes : List Change) (operation : Id) (slot : ℕ) (l : Listed) → OperationsGood m changes → pending_of kind m operation slot ≡ Some l → operation.number ≤ drawn_of operation.kind m.drawn
+drawn_by : (kind : Kind) (m : Master) (changes : List Change) (operation : Id) (slot : ℕ) (l : Listed) → OperationsGood m changes → pending_of kind m.snapshots m.restorations m.clones operation slot ≡ Some l → operation.number ≤ drawn_of operation.kind m.drawn
 drawn_by Snapshot m changes operation slot l ops e = found_then (unfinished_snapshot m.snapshots operation) (λ r. unacked_at r.listed slot) l e
     (λ r found is. let h = unfinished_snapshot_is m.snapshots operation r found in let g = ops.snapshots r h.0 in
     subst (λ i. i.number ≤ drawn_of i.kind m.drawn) h.1.0 (subst (λ k. r.id.number ≤ drawn_of k m.drawn) (sym g.kind_is) g.drawn))
@@ -72,7 +72,7 @@ pub pending_drawn : (m : Master) (changes : List Change) (operation : Id) (slot 
 pending_drawn m changes operation slot l ops e = drawn_by operation.kind m changes operation slot l ops e
 
 -- and not of a restoration that listed only what was acked
-restoration_acked : (kind : Kind) (m : Master) (changes : List Change) (operation : Id) (slot : ℕ) (l : Listed) (r : RestorationRecord) → OperationsGood m changes → kind ≡ Restoration → pending_of kind m operation slot ≡ Some l
+restoration_acked : (kind : Kind) (m : Master) (changes : List Change) (operation : Id) (slot : ℕ) (l : Listed) (r : RestorationRecord) → OperationsGood m changes → kind ≡ Restoration → pending_of kind m.snapshots m.restorations m.clones operation slot ≡ Some l
     → In r m.restorations → r.id ≡ operation → ((k : Listed) → In k r.listed → k.acked ≡ true) → ⊥
 restoration_acked Restoration m changes operation slot l r ops is e isin named acked = found_then (unfinished_restoration m.restorations operation) (λ q. unacked_at q.listed slot) l e
     (λ q found at. let h = unfinished_restoration_is m.restorations operation q found in
@@ -96,7 +96,7 @@ pub record FindsOn (m : Master) (w : Records) : Type 0 where
   pub snapshot : (id : Id) (slot : ℕ) (l : Listed) (r : SnapshotRecord) → unfinished_snapshot m.snapshots id ≡ Some r → unacked_at r.listed slot ≡ Some l → unfinished_snapshot w.snapshots id ≡ Some r
   pub restoration : (id : Id) (slot : ℕ) (l : Listed) (r : RestorationRecord) → unfinished_restoration m.restorations id ≡ Some r → unacked_at r.listed slot ≡ Some l → unfinished_restoration w.restorations id ≡ Some r
 
-pending_by : (kind : Kind) (m : Master) (w : Records) (operation : Id) (slot : ℕ) (l : Listed) → FindsOn m w → pending_of kind m operation slot ≡ Some l → pending_of kind (recorded m w) operation slot ≡ Some l
+pending_by : (kind : Kind) (m : Master) (w : Records) (operation : Id) (slot : ℕ) (l : Listed) → FindsOn m w → pending_of kind m.snapshots m.restorations m.clones operation slot ≡ Some l → pending_of kind (recorded m w).snapshots (recorded m w).restorations (recorded m w).clones operation slot ≡ Some l
 pending_by Snapshot m w operation slot l f e = found_then (unfinished_snapshot m.snapshots operation) (λ r. unacked_at r.listed slot) l e
     (λ r found at. ap (option_and_then {T = SnapshotRecord} (λ q. unacked_at q.listed slot)) (f.snapshot operation slot l r found at) ∙ at)
 pending_by Restoration m w operation slot l f e = found_then (unfinished_restoration m.restorations operation) (λ r. unacked_at r.listed slot) l e

@@ -28,20 +28,24 @@ unfinished_clone (r ∷ rs) id =
     if same r.id id && not (is_cloned r.state) then Some r else unfinished_clone rs id
 
 -- the tablet of the slot that the unfinished record of an id lists without ack, with what it is to do
-abbrev pub pending_of : Kind → Master → Id → ℕ → Option Listed
-pending_of Snapshot m operation slot =
-    option_and_then (λ r. unacked_at r.listed slot) (unfinished_snapshot m.snapshots operation)
-pending_of Restoration m operation slot =
-    option_and_then (λ r. unacked_at r.listed slot) (unfinished_restoration m.restorations operation)
-pending_of Clone m operation slot =
-    option_and_then (λ r. unacked_at r.listed slot) (unfinished_clone m.clones operation)
-pending_of Namespace m operation slot = None
-pending_of Table m operation slot = None
-pending_of Tablet m operation slot = None
-pending_of Schedule m operation slot = None
+abbrev pub pending_of : Kind → List SnapshotRecord → List RestorationRecord → List CloneRecord → Id → ℕ → Option Listed
+pending_of Snapshot snapshots restorations clones operation slot =
+    option_and_then (λ r. unacked_at r.listed slot) (unfinished_snapshot snapshots operation)
+pending_of Restoration snapshots restorations clones operation slot =
+    option_and_then (λ r. unacked_at r.listed slot) (unfinished_restoration restorations operation)
+pending_of Clone snapshots restorations clones operation slot =
+    option_and_then (λ r. unacked_at r.listed slot) (unfinished_clone clones operation)
+pending_of Namespace snapshots restorations clones operation slot = None
+pending_of Table snapshots restorations clones operation slot = None
+pending_of Tablet snapshots restorations clones operation slot = None
+pending_of Schedule snapshots restorations clones operation slot = None
+
+abbrev pub pending_in : List SnapshotRecord → List RestorationRecord → List CloneRecord → Id → ℕ → Option Listed
+pending_in snapshots restorations clones operation slot =
+    pending_of operation.kind snapshots restorations clones operation slot
 
 abbrev pub pending : Master → Id → ℕ → Option Listed
-pending m operation slot = pending_of operation.kind m operation slot
+pending m operation slot = pending_in m.snapshots m.restorations m.clones operation slot
 
 -- the command of a listed tablet
 abbrev pub command_for : Id → Listed → Command

@@ -48,6 +48,7 @@ pub data ScriptCommand : Type 0 where
   ReadTable : (namespace table : List ℕ) (at : Option Time) → ScriptCommand
   Split : (namespace table : List ℕ) (code : ℕ) → ScriptCommand
   CreateSchedule : (interval retention : ℕ) (namespace : List ℕ) → ScriptCommand
+  EditSchedule : (schedule : Id) (interval retention : ℕ) → ScriptCommand
   DeleteSchedule : (schedule : Id) → ScriptCommand
   TakeSnapshot : (schedule : Id) → ScriptCommand
   Restore : (schedule : Id) (to : Time) → ScriptCommand
@@ -220,6 +221,8 @@ course_of reading (ReadTable namespace table at) =
 course_of reading (Split namespace table code) = plan_and_tell (acts.Split namespace table code)
 course_of reading (CreateSchedule interval retention namespace) =
     tell (acts.CreateSchedule interval retention namespace)
+course_of reading (EditSchedule schedule interval retention) =
+    tell (acts.EditSchedule schedule interval retention)
 course_of reading (DeleteSchedule schedule) = tell (acts.DeleteSchedule schedule)
 course_of reading (TakeSnapshot schedule) = tell (acts.TakeSnapshot schedule)
 course_of reading (Restore schedule to) = tell (acts.Restore schedule (time_at reading to))

@@ -30,6 +30,8 @@ script_command_of (line.ScanAt namespace table at) = book.ReadTable namespace ta
 script_command_of (line.Split namespace table code) = book.Split namespace table code
 script_command_of (line.CreateSnapshotSchedule interval retention namespace) =
     book.CreateSchedule interval retention namespace
+script_command_of (line.EditSnapshotSchedule schedule interval retention) =
+    book.EditSchedule schedule interval retention
 script_command_of (line.DeleteSnapshotSchedule schedule) = book.DeleteSchedule schedule
 script_command_of (line.TakeSnapshot schedule) = book.TakeSnapshot schedule
 script_command_of (line.RestoreSnapshotSchedule schedule to) = book.Restore schedule (script_time_of to)

@@ -17,6 +17,8 @@ command_of (command.DropTable namespace table) = book.DropTable namespace table
 command_of (command.Split namespace table code) = book.Split namespace table code
 command_of (command.CreateSnapshotSchedule interval retention namespace) =
     book.CreateSchedule interval retention namespace
+command_of (command.EditSnapshotSchedule schedule interval retention) =
+    book.EditSchedule schedule interval retention
 command_of (command.DeleteSnapshotSchedule schedule) = book.DeleteSchedule schedule
 command_of (command.TakeSnapshot schedule) = book.TakeSnapshot schedule
 command_of (command.RestoreSnapshotSchedule schedule to) = book.Restore schedule to

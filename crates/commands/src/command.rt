@@ -52,6 +52,12 @@ pub enum Command {
         retention: u64,
         namespace: Name,
     },
+    /// Gives the schedule another interval and another retention, in minutes.
+    EditSnapshotSchedule {
+        schedule: Ident,
+        interval: u64,
+        retention: u64,
+    },
     DeleteSnapshotSchedule {
         schedule: Ident,
     },
@@ -147,6 +153,15 @@ impl Copied for Command {
                 interval: *interval,
                 retention: *retention,
                 namespace: namespace.copy()?,
+            }),
+            Command::EditSnapshotSchedule {
+                schedule,
+                interval,
+                retention,
+            } => Ok(Command::EditSnapshotSchedule {
+                schedule: *schedule,
+                interval: *interval,
+                retention: *retention,
             }),
             Command::DeleteSnapshotSchedule { schedule } => Ok(Command::DeleteSnapshotSchedule {
                 schedule: *schedule,

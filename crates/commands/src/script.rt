@@ -99,6 +99,12 @@ pub enum ScriptCommand {
         retention: u64,
         namespace: Name,
     },
+    /// Gives the schedule another interval and another retention, in minutes.
+    EditSnapshotSchedule {
+        schedule: Ident,
+        interval: u64,
+        retention: u64,
+    },
     DeleteSnapshotSchedule {
         schedule: Ident,
     },

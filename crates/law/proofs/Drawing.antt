@@ -2,7 +2,7 @@
 use Rattle.std.proofs.Common.{sym, subst, ap, ◌∙◌, refl, cond, ◌≡◌, ℕ, ◌≤◌, ◌<◌, ◌+◌, ◌*◌, Bool, true, false, List, [], ◌∷◌, if◌then◌else◌, arith, min, fold, eqb, eqb-true, le_trans}
 use Rattle.row_values.specs.Ids.{Id, Kind, Namespace, Table, Tablet, Schedule, Snapshot, Restoration, Clone}
 use Rattle.row_values.specs.Slots.{has}
-use Rattle.model.specs.Acts.{Act, Look, Change, Write, Read, Cutoff, Compact, Send, Process, Ack, Advance, Remove, Prune, Restart, Stats, Command, CreateNamespace, DropNamespace, CreateTable, AddColumn, DropColumn, RenameTable, DropTable, Split, CreateSchedule, DeleteSchedule, TakeSnapshot, Restore, CloneNamespace, ListSchedules, ListSnapshots, ListRestorations, ListClones, ListTablets, Reply}
+use Rattle.model.specs.Acts.{Act, Look, Change, Write, Read, Cutoff, Compact, Send, Process, Ack, Advance, Remove, Prune, Restart, Stats, Command, CreateNamespace, DropNamespace, CreateTable, AddColumn, DropColumn, RenameTable, DropTable, Split, CreateSchedule, EditSchedule, DeleteSchedule, TakeSnapshot, Restore, CloneNamespace, ListSchedules, ListSnapshots, ListRestorations, ListClones, ListTablets, Reply}
 use Rattle.model.specs.Parts.{none_drawn, Drawn, Master}
 use Rattle.model.specs.Entries.{Entry, slots_of, log_of, least, ActAsked, CommandAsked}
 use Rattle.model.specs.History.{outcome, told, master_effect, replay, held, most_entries, Legal}
@@ -40,6 +40,7 @@ command_few (AddColumn namespace table name kind) n m asked covered = none_few
 command_few (DropColumn namespace table name) n m asked covered = none_few
 command_few (RenameTable namespace table name) n m asked covered = none_few
 command_few (DropTable namespace table) n m asked covered = none_few
+command_few (EditSchedule schedule interval retention) n m asked covered = none_few
 command_few (DeleteSchedule schedule) n m asked covered = none_few
 command_few ListSchedules n m asked covered = none_few
 command_few ListSnapshots n m asked covered = none_few

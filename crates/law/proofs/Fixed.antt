@@ -12,13 +12,13 @@ use Rattle.model.specs.Activity.{Interval}
 use Rattle.model.specs.Tablets.{Told, Tablet, Write as WriteRows, is_serving, serves}
 use Rattle.model.specs.Records.{RestorationRecord, RestorationState, Switching, CloneRecord, first_unacked}
 use Rattle.std.specs.Prelude.{Result, Ok, Err}
-use Rattle.model.specs.Acts.{ListSchedules, ListSnapshots, ListRestorations, ListClones, ListTablets, Split, CreateSchedule, DeleteSchedule, TakeSnapshot, Restore, CloneNamespace, StaleSchema, Fenced, At, Command, CreateNamespace, DropNamespace, CreateTable, AddColumn, DropColumn, RenameTable, DropTable, Act, Change, Write, Advance, Ok, Refusal, Ok as ReplyOk}
+use Rattle.model.specs.Acts.{ListSchedules, ListSnapshots, ListRestorations, ListClones, ListTablets, Split, CreateSchedule, EditSchedule, DeleteSchedule, TakeSnapshot, Restore, CloneNamespace, StaleSchema, Fenced, At, Command, CreateNamespace, DropNamespace, CreateTable, AddColumn, DropColumn, RenameTable, DropTable, Act, Change, Write, Advance, Ok, Refusal, Ok as ReplyOk}
 use Rattle.model.specs.Journal as made
 use Rattle.model.specs.Journal.{ChangeAct, TableView, table_at, owner_in}
 use Rattle.model.specs.Parts.{Master, Parts, MasterAct, MakesNamespace, DropsNamespace, MakesTable, AddsColumn, DropsColumn, RenamesTable, DropsTable, Moves, Ticks, Check, If, Names, Fault, Outcome, judged, decided, unless}
 use Rattle.model.specs.Looks.{found_namespace}
 use Rattle.model.specs.Changed.{next_table, clone_time}
-use Rattle.model.specs.Changes.{judge_create_namespace, judge_drop_namespace, judge_create_table, judge_add_column, judge_drop_column, judge_rename_table, judge_drop_table, judge_split, judge_create_schedule, judge_delete_schedule, judge_take_snapshot, judge_restore, judge_clone, create_namespace, drop_namespace, create_table, add_column, drop_column, rename_table, drop_table, split, create_schedule, delete_schedule, take_snapshot, restore, clone_namespace, list_tablets, planned, change}
+use Rattle.model.specs.Changes.{judge_create_namespace, judge_drop_namespace, judge_create_table, judge_add_column, judge_drop_column, judge_rename_table, judge_drop_table, judge_split, judge_create_schedule, judge_edit_schedule, judge_delete_schedule, judge_take_snapshot, judge_restore, judge_clone, create_namespace, drop_namespace, create_table, add_column, drop_column, rename_table, drop_table, split, create_schedule, edit_schedule, delete_schedule, take_snapshot, restore, clone_namespace, list_tablets, planned, change}
 use Rattle.model.specs.Moves.{Progress, progress_of, waits_for, moving, advancing, advance}
 use Rattle.model.specs.RowActs.{has_moved, serves_all, write}
 use Rattle.model.specs.Coordination.{unfinished_restoration, unfinished_clone}
@@ -88,7 +88,7 @@ unless_still (Some why) o still = refl
 unless_still None o still = still
 
 planned_still : (command : Command) (slots : List ℕ) (n : ℕ) (ps : Parts) → is_move (planned command slots n ps).master ≡ false
-unfolding create_namespace drop_namespace create_table add_column drop_column rename_table drop_table split create_schedule delete_schedule take_snapshot restore clone_namespace list_tablets
+unfolding create_namespace drop_namespace create_table add_column drop_column rename_table drop_table split create_schedule edit_schedule delete_schedule take_snapshot restore clone_namespace list_tablets
 planned_still (CreateNamespace name) slots n ps = decided_still (judge_create_namespace name ps.master) _ (λ a. refl)
 planned_still (DropNamespace name) slots n ps = decided_still (judge_drop_namespace name ps.master) _ (λ a. refl)
 planned_still (CreateTable namespace table tablets columns) slots n ps = decided_still (judge_create_table namespace table tablets ps.master) _ (λ a. refl)
@@ -98,6 +98,7 @@ planned_still (RenameTable namespace table name) slots n ps = decided_still (jud
 planned_still (DropTable namespace table) slots n ps = decided_still (judge_drop_table namespace table ps.master) _ (λ a. refl)
 planned_still (Split namespace table code) slots n ps = decided_still (judge_split namespace table code ps.master) _ (λ a. refl)
 planned_still (CreateSchedule interval retention namespace) slots n ps = decided_still (judge_create_schedule interval retention namespace ps.master) _ (λ a. refl)
+planned_still (EditSchedule schedule interval retention) slots n ps = decided_still (judge_edit_schedule schedule interval retention ps.master) _ (λ a. refl)
 planned_still (DeleteSchedule schedule) slots n ps = decided_still (judge_delete_schedule schedule ps.master) _ (λ a. refl)
 planned_still (TakeSnapshot schedule) slots n ps = decided_still (judge_take_snapshot schedule n ps.master) _ (λ a. refl)
 planned_still (Restore schedule to) slots n ps = decided_still (judge_restore schedule to n ps.master) _ (λ a. refl)

@@ -22,7 +22,7 @@ use Rattle.model.specs.Left.{left}
 use Rattle.model.specs.Settling.{coordinated}
 use Rattle.model.specs.Replies.{ReplyRight}
 use Rattle.model.specs.Right.{IsActivePlace, PlacesRight, holds_keys}
-use Rattle.model.specs.Scripts.{ScriptCommand, Tick, Lag, CreateNamespace, DropNamespace, CreateTable, AddColumn, DropColumn, RenameTable, DropTable, WriteRows, ReadRow, ReadTable, Split, CreateSchedule, DeleteSchedule, TakeSnapshot, Restore, CloneNamespace, ListSchedules, ListSnapshots, ListRestorations, ListClones, ListTablets, RaiseCutoffs, CompactTablets, CleanUp, Coordinate, Settle, RestartMaster, RestartTablet, ShowStats, ShowHistory, time_at, asked_at}
+use Rattle.model.specs.Scripts.{ScriptCommand, Tick, Lag, CreateNamespace, DropNamespace, CreateTable, AddColumn, DropColumn, RenameTable, DropTable, WriteRows, ReadRow, ReadTable, Split, CreateSchedule, EditSchedule, DeleteSchedule, TakeSnapshot, Restore, CloneNamespace, ListSchedules, ListSnapshots, ListRestorations, ListClones, ListTablets, RaiseCutoffs, CompactTablets, CleanUp, Coordinate, Settle, RestartMaster, RestartTablet, ShowStats, ShowHistory, time_at, asked_at}
 use Rattle.model_runs.specs.Courses.{Found, found_by, Course, SetReading, SetLag, Perform, LookFor, WorkOff, ShowEntries, tell, plan_and_tell, course_of, key_alone, at_place, cell_by_id, op_by_id, item_by_id, write_at, write_into, change_under, read_from, at_each, CourseAsked}
 use Rattle.law_invariants.specs.Invariant.{Inv}
 use Rattle.law_invariants.proofs.Finding.{both_pass, passes_both, same_equal, in_mapped}
@@ -269,6 +269,7 @@ course_fits (ReadRow namespace table key at) slots reading asked covered =
 course_fits (ReadTable namespace table at) slots reading asked covered = (record { asked = asked; covered = tt }, table_follows namespace table (asked_at reading at) slots asked.2)
 course_fits (Split namespace table code) slots reading asked covered = plan_fits (acts.Split namespace table code) slots reading asked tt
 course_fits (CreateSchedule interval retention namespace) slots reading asked covered = tell_fits (acts.CreateSchedule interval retention namespace) slots reading asked tt
+course_fits (EditSchedule schedule interval retention) slots reading asked covered = tell_fits (acts.EditSchedule schedule interval retention) slots reading asked tt
 course_fits (DeleteSchedule schedule) slots reading asked covered = tell_fits (acts.DeleteSchedule schedule) slots reading asked tt
 course_fits (TakeSnapshot schedule) slots reading asked covered = tell_fits (acts.TakeSnapshot schedule) slots reading asked tt
 course_fits (Restore schedule to) slots reading asked covered = tell_fits (acts.Restore schedule (time_at reading to)) slots reading asked tt

@@ -10,12 +10,12 @@ use Rattle.row_values.specs.Elements.{In, put_in}
 use Rattle.row_values.specs.Ranges.{share_from}
 use Rattle.row_values.specs.Slots.{same_slots, has}
 use Rattle.model.specs.Activity.{Interval}
-use Rattle.model.specs.Acts.{Act, Change, Command, CreateNamespace, DropNamespace, CreateTable, AddColumn, DropColumn, RenameTable, DropTable, Split, CreateSchedule, DeleteSchedule, TakeSnapshot, Restore, CloneNamespace, ListSchedules, ListSnapshots, ListRestorations, ListClones, ListTablets, Refusal, StalePlan, Reply, Refused, Look, Write, Read, Cutoff, Compact, Send, Process, Ack, Advance, Remove, Prune, Restart, Stats, Advanced}
-use Rattle.model.specs.Parts.{Master, Parts, Outcome, If, decided, refused, judged, none_drawn, MasterAct, Ticks, MakesNamespace, DropsNamespace, MakesTable, AddsColumn, DropsColumn, RenamesTable, DropsTable, SplitsTablet, MakesSchedule, DeletesSchedule, TakesSnapshot, BeginsRestoration, BeginsClone, Sends, Acks, Unsends, Moves, Removes, Prunes, Restarts}
+use Rattle.model.specs.Acts.{Act, Change, Command, CreateNamespace, DropNamespace, CreateTable, AddColumn, DropColumn, RenameTable, DropTable, Split, CreateSchedule, EditSchedule, DeleteSchedule, TakeSnapshot, Restore, CloneNamespace, ListSchedules, ListSnapshots, ListRestorations, ListClones, ListTablets, Refusal, StalePlan, Reply, Refused, Look, Write, Read, Cutoff, Compact, Send, Process, Ack, Advance, Remove, Prune, Restart, Stats, Advanced}
+use Rattle.model.specs.Parts.{Master, Parts, Outcome, If, decided, refused, judged, none_drawn, MasterAct, Ticks, MakesNamespace, DropsNamespace, MakesTable, AddsColumn, DropsColumn, RenamesTable, DropsTable, SplitsTablet, MakesSchedule, EditsSchedule, DeletesSchedule, TakesSnapshot, BeginsRestoration, BeginsClone, Sends, Acks, Unsends, Moves, Removes, Prunes, Restarts}
 use Rattle.model.specs.Lists.{by_range, next_snapshot, numbered_as, with_snapshot}
 use Rattle.model.specs.Changed.{begins, shares, next_namespace, next_table, next_tablet}
 use Rattle.model.specs.Drawn.{AreNext, DrawsNext, drawn_of, drawn_by, given_of, given_by, none_given, given_for, own_of, own_of_clone, own_of_restoration, tablets_of, DrawsInTurn}
-use Rattle.model.specs.Changes.{accepts, change, planned, create_namespace, create_namespace_checks, drop_namespace, create_table, create_table_checks, add_column, drop_column, rename_table, drop_table, split, create_schedule, delete_schedule, take_snapshot, restore, list_tablets, judge_create_namespace, judge_drop_namespace, judge_create_table, judge_add_column, judge_drop_column, judge_rename_table, judge_drop_table, judge_split, judge_create_schedule, judge_delete_schedule, judge_take_snapshot, judge_restore}
+use Rattle.model.specs.Changes.{accepts, change, planned, create_namespace, create_namespace_checks, drop_namespace, create_table, create_table_checks, add_column, drop_column, rename_table, drop_table, split, create_schedule, edit_schedule, delete_schedule, take_snapshot, restore, list_tablets, judge_create_namespace, judge_drop_namespace, judge_create_table, judge_add_column, judge_drop_column, judge_rename_table, judge_drop_table, judge_split, judge_create_schedule, judge_edit_schedule, judge_delete_schedule, judge_take_snapshot, judge_restore}
 use Rattle.model.specs.Entries.{ActAsked, CommandAsked, Entry, slots_of}
 use Rattle.model.specs.History.{activity_of, journal_of, Legal, master_effect, outcome, replay, told}
 use Rattle.model.specs.Journal.{Change as Made}
@@ -146,6 +146,7 @@ given_none (RenameTable namespace table name) m covered = refl
 given_none (DropTable namespace table) m covered = refl
 given_none (Split namespace table code) m covered = refl
 given_none (CreateSchedule interval retention namespace) m covered = refl
+given_none (EditSchedule schedule interval retention) m covered = refl
 given_none (DeleteSchedule schedule) m covered = refl
 given_none (TakeSnapshot schedule) m covered = refl
 given_none (Restore schedule to) m covered = refl
@@ -168,7 +169,7 @@ made_none command slots act tablets n m covered same_ = record { next = none_nex
 
 planned_next : (command : Command) (slots : List ℕ) (n : ℕ) (ps : Parts) (activity : List Interval) (changes : List Made) → CommandAsked command → CommandCovered command → same_slots slots (plan_of command ps.master) ≡ true → Inv ps activity changes
     → Draws (Change command slots) n ps.master (planned command slots n ps)
-unfolding create_namespace drop_namespace create_table add_column drop_column rename_table drop_table split create_schedule delete_schedule take_snapshot restore list_tablets
+unfolding create_namespace drop_namespace create_table add_column drop_column rename_table drop_table split create_schedule edit_schedule delete_schedule take_snapshot restore list_tablets
 planned_next (CreateNamespace name) slots n ps activity changes asked covered plan inv =
     decided_next (judge_create_namespace name ps.master) _ (CreateNamespace name) slots n ps.master covered
     (λ id e. let next : id ≡ next_namespace ps.master = (let q = (checked_is (Ok (next_namespace ps.master)) (λ id. create_namespace_checks name ps.master) id e).0 in cc) in
@@ -213,6 +214,8 @@ planned_next (RenameTable namespace table name) slots n ps activity changes aske
     decided_next (judge_rename_table namespace table name ps.master) _ (RenameTable namespace table name) slots n ps.master covered (λ found e. made_none (RenameTable namespace table name) slots _ _ n ps.master covered refl)
 planned_next (DropTable namespace table) slots n ps activity changes asked covered plan inv =
     decided_next (judge_drop_table namespace table ps.master) _ (DropTable namespace table) slots n ps.master covered (λ found e. made_none (DropTable namespace table) slots _ _ n ps.master covered refl)
+planned_next (EditSchedule schedule interval retention) slots n ps activity changes asked covered plan inv =
+    decided_next (judge_edit_schedule schedule interval retention ps.master) _ (EditSchedule schedule interval retention) slots n ps.master covered (λ found e. made_none (EditSchedule schedule interval retention) slots _ _ n ps.master covered refl)
 planned_next (DeleteSchedule schedule) slots n ps activity changes asked covered plan inv =
     decided_next (judge_delete_schedule schedule ps.master) _ (DeleteSchedule schedule) slots n ps.master covered (λ found e. made_none (DeleteSchedule schedule) slots _ _ n ps.master covered refl)
 planned_next ListSchedules slots n ps activity changes asked covered plan inv = record { next = none_next _ _ n ps.master _ refl refl refl }
@@ -331,6 +334,7 @@ plain_drawn (RenamesTable table name) n m e = absurd (let q = e in grind arith)
 plain_drawn (DropsTable table) n m e = absurd (let q = e in grind arith)
 plain_drawn (SplitsTablet parent code low_slot high_slot) n m e = absurd (let q = e in grind arith)
 plain_drawn (MakesSchedule namespace interval retention) n m e = absurd (let q = e in grind arith)
+plain_drawn (EditsSchedule schedule interval retention) n m e = absurd (let q = e in grind arith)
 plain_drawn (DeletesSchedule schedule) n m e = absurd (let q = e in grind arith)
 plain_drawn (TakesSnapshot schedule) n m e = absurd (let q = e in grind arith)
 plain_drawn (BeginsRestoration schedule to) n m e = absurd (let q = e in grind arith)

@@ -3,7 +3,7 @@ use Rattle.std.proofs.Common.{ℕ, ◌≡◌, ◌≤◌, max, List, [], ◌∷�
 use Rattle.row_values.specs.Slots.{has}
 use Rattle.model.specs.Activity.{Interval}
 use Rattle.model.specs.Journal as made
-use Rattle.model.specs.Acts.{Act, Split, CreateSchedule, DeleteSchedule, TakeSnapshot, Restore, Look, Change, Write, Read, Cutoff, Compact, Send, Process, Ack, Advance, Remove, Prune, Restart, Stats}
+use Rattle.model.specs.Acts.{Act, Split, CreateSchedule, EditSchedule, DeleteSchedule, TakeSnapshot, Restore, Look, Change, Write, Read, Cutoff, Compact, Send, Process, Ack, Advance, Remove, Prune, Restart, Stats}
 use Rattle.model.specs.Parts.{Parts}
 use Rattle.model.specs.Entries.{Entry, slots_of, clock_at, stamp_of, ActAsked}
 use Rattle.model.specs.History.{outcome, replay, journal_of, activity_of, Legal}
@@ -32,6 +32,7 @@ act_keeps : (act : Act) (slots n : ℕ) (ps : Parts) (activity : List Interval) 
 act_keeps (Look ask) slots n ps activity changes later asked covered inv = look_keeps ask n ps activity changes later asked inv
 act_keeps (Change (Split namespace table code) plan) slots n ps activity changes later asked covered inv = split_change_keeps ps activity changes n namespace table code plan later asked.0 inv
 act_keeps (Change (CreateSchedule interval retention namespace) plan) slots n ps activity changes later asked covered inv = schedule_change_keeps (CreateSchedule interval retention namespace) plan ps activity changes n tt later inv
+act_keeps (Change (EditSchedule schedule interval retention) plan) slots n ps activity changes later asked covered inv = schedule_change_keeps (EditSchedule schedule interval retention) plan ps activity changes n tt later inv
 act_keeps (Change (DeleteSchedule schedule) plan) slots n ps activity changes later asked covered inv = schedule_change_keeps (DeleteSchedule schedule) plan ps activity changes n tt later inv
 act_keeps (Change (TakeSnapshot schedule) plan) slots n ps activity changes later asked covered inv = schedule_change_keeps (TakeSnapshot schedule) plan ps activity changes n tt later inv
 act_keeps (Change (Restore schedule to) plan) slots n ps activity changes later asked covered inv = schedule_change_keeps (Restore schedule to) plan ps activity changes n tt later inv

@@ -10,9 +10,9 @@ use Rattle.model.specs.Records.{Listed, SnapshotRecord, RestorationRecord, Resto
 use Rattle.model.specs.Activity.{Interval}
 use Rattle.model.specs.Acts as acts
 use Rattle.model.specs.Acts.{Act, Command, CreateNamespace, CloneNamespace, Refusal, Look, Ask, AskPlan, AskKeys, AskTable, AskWork, AskRemovable, AskPresent, Change, Write, Read, Cutoff, Compact, Send, Process, Ack, Advance, Remove, Prune, Restart, Stats}
-use Rattle.model.specs.Parts.{Master, Parts, MasterAct, Ticks, MakesNamespace, DropsNamespace, MakesTable, AddsColumn, DropsColumn, RenamesTable, DropsTable, SplitsTablet, MakesSchedule, DeletesSchedule, TakesSnapshot, BeginsRestoration, BeginsClone, Sends, Acks, Unsends, Moves, Removes, Prunes, Restarts, Outcome, unless, decided}
+use Rattle.model.specs.Parts.{Master, Parts, MasterAct, Ticks, MakesNamespace, DropsNamespace, MakesTable, AddsColumn, DropsColumn, RenamesTable, DropsTable, SplitsTablet, MakesSchedule, EditsSchedule, DeletesSchedule, TakesSnapshot, BeginsRestoration, BeginsClone, Sends, Acks, Unsends, Moves, Removes, Prunes, Restarts, Outcome, unless, decided}
 use Rattle.model.specs.Looks.{look_plan, look_keys, look_table, look_present}
-use Rattle.model.specs.Changes.{planned, change, create_namespace, drop_namespace, create_table, add_column, drop_column, rename_table, drop_table, split, create_schedule, delete_schedule, take_snapshot, restore, list_tablets}
+use Rattle.model.specs.Changes.{planned, change, create_namespace, drop_namespace, create_table, add_column, drop_column, rename_table, drop_table, split, create_schedule, edit_schedule, delete_schedule, take_snapshot, restore, list_tablets}
 use Rattle.model.specs.RowActs.{write, read, cutoff, compact, restart, stats}
 use Rattle.model.specs.Coordination.{unfinished_snapshot, unfinished_restoration, unfinished_clone, acked_by, acked_clone, pending, send, sending, process, processing, ack, acknowledging}
 use Rattle.model.specs.Moves.{Progress, progress_of, advance, advancing, moving, completed, restoration_moved, clone_moved, moved_of}
@@ -58,6 +58,7 @@ BeginsNone (RenamesTable t name) = Unit {0}
 BeginsNone (DropsTable table) = Unit {0}
 BeginsNone (SplitsTablet parent code low_slot high_slot) = Unit {0}
 BeginsNone (MakesSchedule namespace interval retention) = Unit {0}
+BeginsNone (EditsSchedule schedule interval retention) = Unit {0}
 BeginsNone (DeletesSchedule schedule) = Unit {0}
 BeginsNone (TakesSnapshot schedule) = Unit {0}
 BeginsNone (BeginsRestoration schedule to) = Unit {0}
@@ -81,6 +82,7 @@ effect_clones (RenamesTable t name) n m covered none = none
 effect_clones (DropsTable table) n m covered none = none
 effect_clones (SplitsTablet parent code low_slot high_slot) n m covered none = none
 effect_clones (MakesSchedule namespace interval retention) n m covered none = none
+effect_clones (EditsSchedule schedule interval retention) n m covered none = none
 effect_clones (DeletesSchedule schedule) n m covered none = none
 effect_clones (TakesSnapshot schedule) n m covered none = none
 effect_clones (BeginsRestoration schedule to) n m covered none = none
@@ -113,7 +115,7 @@ look_tells AskRemovable n m = tt
 look_tells AskPresent n m = tt
 
 planned_tells : (command : Command) (slots : List ℕ) (n : ℕ) (ps : Parts) → CommandCovered command → BeginsNone (planned command slots n ps).master
-unfolding create_namespace drop_namespace create_table add_column drop_column rename_table drop_table split create_schedule delete_schedule take_snapshot restore list_tablets
+unfolding create_namespace drop_namespace create_table add_column drop_column rename_table drop_table split create_schedule edit_schedule delete_schedule take_snapshot restore list_tablets
 planned_tells (CloneNamespace source target to) slots n ps covered = absurd covered
 planned_tells acts.ListSchedules slots n ps covered = tt
 planned_tells acts.ListSnapshots slots n ps covered = tt

@@ -10,10 +10,10 @@ use Rattle.model.specs.Activity.{Interval}
 use Rattle.model.specs.Catalog.{TableRecord, kept_from}
 use Rattle.model.specs.Journal as made
 use Rattle.model.specs.Records.{RestorationRecord, RestorationState, Fencing, Snapshotting, Switching, Restoring, Releasing, Restored, SnapshotRecord, State, is_restored, first_unacked}
-use Rattle.model.specs.Acts.{Act, Look, Change, Write, Read, Cutoff, Compact, Send, Process, Ack, Advance, Remove, Prune, Restart, Stats, Command, CreateNamespace, DropNamespace, CreateTable, AddColumn, DropColumn, RenameTable, DropTable, Split, CreateSchedule, DeleteSchedule, TakeSnapshot, Restore, CloneNamespace, ListSchedules, ListSnapshots, ListRestorations, ListClones, ListTablets, Refusal, StalePlan, UnknownColumn}
-use Rattle.model.specs.Parts.{Master, Parts, Outcome, MasterAct, Ticks, MakesNamespace, DropsNamespace, MakesTable, AddsColumn, DropsColumn, RenamesTable, DropsTable, SplitsTablet, MakesSchedule, DeletesSchedule, TakesSnapshot, BeginsRestoration, BeginsClone, Sends, Acks, Unsends, Moves, Removes, Prunes, Restarts, If, unless, refused, decided, refusal_in}
+use Rattle.model.specs.Acts.{Act, Look, Change, Write, Read, Cutoff, Compact, Send, Process, Ack, Advance, Remove, Prune, Restart, Stats, Command, CreateNamespace, DropNamespace, CreateTable, AddColumn, DropColumn, RenameTable, DropTable, Split, CreateSchedule, EditSchedule, DeleteSchedule, TakeSnapshot, Restore, CloneNamespace, ListSchedules, ListSnapshots, ListRestorations, ListClones, ListTablets, Refusal, StalePlan, UnknownColumn}
+use Rattle.model.specs.Parts.{Master, Parts, Outcome, MasterAct, Ticks, MakesNamespace, DropsNamespace, MakesTable, AddsColumn, DropsColumn, RenamesTable, DropsTable, SplitsTablet, MakesSchedule, EditsSchedule, DeletesSchedule, TakesSnapshot, BeginsRestoration, BeginsClone, Sends, Acks, Unsends, Moves, Removes, Prunes, Restarts, If, unless, refused, decided, refusal_in}
 use Rattle.model.specs.Changed.{next_namespace, next_table}
-use Rattle.model.specs.Changes.{change, planned, create_namespace, drop_namespace, create_table, add_column, add_column_checks, drop_column, column_of, found_column, unheld_checks, rename_table, rename_table_checks, drop_table, split, create_schedule, delete_schedule, take_snapshot, restore, list_tablets, judge_create_namespace, judge_drop_namespace, judge_create_table, judge_add_column, judge_drop_column, judge_rename_table, judge_drop_table, judge_split, judge_create_schedule, judge_delete_schedule, judge_take_snapshot, judge_restore}
+use Rattle.model.specs.Changes.{change, planned, create_namespace, drop_namespace, create_table, add_column, add_column_checks, drop_column, column_of, found_column, unheld_checks, rename_table, rename_table_checks, drop_table, split, create_schedule, edit_schedule, delete_schedule, take_snapshot, restore, list_tablets, judge_create_namespace, judge_drop_namespace, judge_create_table, judge_add_column, judge_drop_column, judge_rename_table, judge_drop_table, judge_split, judge_create_schedule, judge_edit_schedule, judge_delete_schedule, judge_take_snapshot, judge_restore}
 use Rattle.model.specs.Cleanup.{prune, removed_of}
 use Rattle.model.specs.Coordination.{unfinished_snapshot, unfinished_restoration, unfinished_clone, acked_by}
 use Rattle.model.specs.Drawn.{SchemasDrawn}
@@ -59,7 +59,7 @@ decided_go (Granted a) go command slots n ps changes h accepted = accepted a ref
 
 planned_go : (command : Command) (slots : List ℕ) (n : ℕ) (ps : Parts) (activity : List Interval) (changes : List made.Change) → CommandCovered command → Inv ps activity changes → Stand ps.master changes
     → GoesOn (Change command slots) n ps changes (planned command slots n ps)
-unfolding create_namespace drop_namespace create_table add_column drop_column rename_table drop_table split create_schedule delete_schedule take_snapshot restore list_tablets
+unfolding create_namespace drop_namespace create_table add_column drop_column rename_table drop_table split create_schedule edit_schedule delete_schedule take_snapshot restore list_tablets
 planned_go (CreateNamespace name) slots n ps activity changes covered inv h =
     decided_go (judge_create_namespace name ps.master) _ (CreateNamespace name) slots n ps changes h (λ id e. record { stand = namespace_changed ps.master.catalog.tables changes n (next_namespace ps.master) name h })
 planned_go (DropNamespace name) slots n ps activity changes covered inv h =
@@ -91,6 +91,8 @@ planned_go (Split namespace table code) slots n ps activity changes covered inv 
     decided_go (judge_split namespace table code ps.master) _ (Split namespace table code) slots n ps changes h (λ f e. record { stand = h })
 planned_go (CreateSchedule interval retention namespace) slots n ps activity changes covered inv h =
     decided_go (judge_create_schedule interval retention namespace ps.master) _ (CreateSchedule interval retention namespace) slots n ps changes h (λ ns e. record { stand = h })
+planned_go (EditSchedule schedule interval retention) slots n ps activity changes covered inv h =
+    decided_go (judge_edit_schedule schedule interval retention ps.master) _ (EditSchedule schedule interval retention) slots n ps changes h (λ s e. record { stand = h })
 planned_go (DeleteSchedule schedule) slots n ps activity changes covered inv h =
     decided_go (judge_delete_schedule schedule ps.master) _ (DeleteSchedule schedule) slots n ps changes h (λ s e. record { stand = h })
 planned_go (TakeSnapshot schedule) slots n ps activity changes covered inv h =
@@ -127,6 +129,7 @@ plain_tables (RenamesTable table name) n m e = absurd (let q = e in grind arith)
 plain_tables (DropsTable table) n m e = absurd (let q = e in grind arith)
 plain_tables (SplitsTablet parent code low_slot high_slot) n m e = absurd (let q = e in grind arith)
 plain_tables (MakesSchedule namespace interval retention) n m e = absurd (let q = e in grind arith)
+plain_tables (EditsSchedule schedule interval retention) n m e = absurd (let q = e in grind arith)
 plain_tables (DeletesSchedule schedule) n m e = absurd (let q = e in grind arith)
 plain_tables (TakesSnapshot schedule) n m e = absurd (let q = e in grind arith)
 plain_tables (BeginsRestoration schedule to) n m e = absurd (let q = e in grind arith)

@@ -4,7 +4,7 @@ use Rattle.std.proofs.lemmas.Bool.{cond_both}
 use Rattle.row_values.specs.Ids.{Id, Kind, Namespace, Table, Tablet, Schedule, Snapshot, Restoration, Clone}
 use Rattle.model.specs.Records.{Listed, snapshot_with, SnapshotRecord}
 use Rattle.model.specs.Acts.{Act, Ask, AskPlan, AskKeys, AskTable, AskWork, AskRemovable, AskPresent, Look, Change, Write, Read, Cutoff, Compact, Send, Process, Ack, Advance, Remove, Prune, Restart, Stats, Refusal}
-use Rattle.model.specs.Parts.{Master, Parts, Outcome, MasterAct, Ticks, MakesNamespace, DropsNamespace, MakesTable, AddsColumn, DropsColumn, RenamesTable, DropsTable, SplitsTablet, MakesSchedule, DeletesSchedule, TakesSnapshot, BeginsRestoration, BeginsClone, Sends, Acks, Unsends, Moves, Removes, Prunes, Restarts, unless, decided}
+use Rattle.model.specs.Parts.{Master, Parts, Outcome, MasterAct, Ticks, MakesNamespace, DropsNamespace, MakesTable, AddsColumn, DropsColumn, RenamesTable, DropsTable, SplitsTablet, MakesSchedule, EditsSchedule, DeletesSchedule, TakesSnapshot, BeginsRestoration, BeginsClone, Sends, Acks, Unsends, Moves, Removes, Prunes, Restarts, unless, decided}
 use Rattle.model.specs.History.{outcome, look}
 use Rattle.model.specs.Activity.{Interval, last_of}
 use Rattle.model.specs.Tablets.{Tablet as TabletPart, Command as TabletCommand, kind_of, is_done}
@@ -26,6 +26,7 @@ is_weighty (RenamesTable table name) = true
 is_weighty (DropsTable table) = true
 is_weighty (SplitsTablet parent code low_slot high_slot) = true
 is_weighty (MakesSchedule namespace interval retention) = true
+is_weighty (EditsSchedule schedule interval retention) = true
 is_weighty (DeletesSchedule schedule) = true
 is_weighty (TakesSnapshot schedule) = true
 is_weighty (BeginsRestoration schedule to) = true

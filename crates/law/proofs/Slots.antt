@@ -6,7 +6,7 @@ use Rattle.row_values.specs.Ids.{Id, Kind, Tablet, Snapshot, Restoration, Clone}
 use Rattle.row_values.specs.Slots.{has}
 use Rattle.model.specs.Records.{Schedule, SnapshotRecord, RestorationRecord, RestorationState, Fencing, CloneRecord, CloneState, Accepted, schedule_of, Snapshotting, Switching, Restoring, Releasing, Restored}
 use Rattle.model.specs.Acts.{Act}
-use Rattle.model.specs.Parts.{Master, Parts, MasterAct, Ticks, MakesNamespace, DropsNamespace, MakesTable, AddsColumn, DropsColumn, RenamesTable, DropsTable, SplitsTablet, MakesSchedule, DeletesSchedule, TakesSnapshot, BeginsRestoration, BeginsClone, Sends, Acks, Unsends, Moves, Removes, Prunes, Restarts, Outcome}
+use Rattle.model.specs.Parts.{Master, Parts, MasterAct, Ticks, MakesNamespace, DropsNamespace, MakesTable, AddsColumn, DropsColumn, RenamesTable, DropsTable, SplitsTablet, MakesSchedule, EditsSchedule, DeletesSchedule, TakesSnapshot, BeginsRestoration, BeginsClone, Sends, Acks, Unsends, Moves, Removes, Prunes, Restarts, Outcome}
 use Rattle.model.specs.Coordination.{unfinished_snapshot, unfinished_restoration, unfinished_clone, acked_by}
 use Rattle.model.specs.Moves.{with_clones_snapshot, serving_clone, completed, restoration_moved, begins_clone, clone_moved, moved_of}
 use Rattle.model.specs.Cleanup.{removed_of}
@@ -69,6 +69,7 @@ effect_slots (RenamesTable table name) n m = refl
 effect_slots (DropsTable table) n m = refl
 effect_slots (SplitsTablet parent code low_slot high_slot) n m = refl
 effect_slots (MakesSchedule namespace interval retention) n m = refl
+effect_slots (EditsSchedule schedule interval retention) n m = refl
 effect_slots (DeletesSchedule schedule) n m = refl
 effect_slots (TakesSnapshot schedule) n m = refl
 effect_slots (BeginsRestoration schedule to) n m = refl

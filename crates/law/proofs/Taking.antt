@@ -7,7 +7,7 @@ use Rattle.row_values.specs.Ids.{Id, Kind, Namespace, Table, Tablet, Schedule, S
 use Rattle.row_values.specs.Elements.{In}
 use Rattle.row_values.specs.Slots.{has}
 use Rattle.model.specs.Records.{Schedule as ScheduleRecord, Listed, SnapshotRecord, RestorationRecord, RestorationState, Fencing, Snapshotting, Switching, Restoring, Releasing, Restored, CloneRecord, CloneState, Accepted, CloneSnapshot, Copying, CloneReleasing, CloneComplete, schedule_of}
-use Rattle.model.specs.Parts.{Master, Parts, MasterAct, Ticks, MakesNamespace, DropsNamespace, MakesTable, AddsColumn, DropsColumn, RenamesTable, DropsTable, SplitsTablet, MakesSchedule, DeletesSchedule, TakesSnapshot, BeginsRestoration, BeginsClone, Sends, Acks, Unsends, Moves, Removes, Prunes, Restarts}
+use Rattle.model.specs.Parts.{Master, Parts, MasterAct, Ticks, MakesNamespace, DropsNamespace, MakesTable, AddsColumn, DropsColumn, RenamesTable, DropsTable, SplitsTablet, MakesSchedule, EditsSchedule, DeletesSchedule, TakesSnapshot, BeginsRestoration, BeginsClone, Sends, Acks, Unsends, Moves, Removes, Prunes, Restarts}
 use Rattle.model.specs.Cleanup.{removed_of}
 use Rattle.model.specs.Coordination.{acked_by, unfinished_snapshot, unfinished_restoration, unfinished_clone}
 use Rattle.model.specs.Drawn.{IsAsTaken, SnapshotsAsTaken}
@@ -108,6 +108,7 @@ told_goes (RenamesTable table name) n m = stays m
 told_goes (DropsTable table) n m = stays m
 told_goes (SplitsTablet parent code low_slot high_slot) n m = stays m
 told_goes (MakesSchedule namespace interval retention) n m = stays m
+told_goes (EditsSchedule schedule interval retention) n m = stays m
 told_goes (DeletesSchedule schedule) n m = stays m
 told_goes (TakesSnapshot schedule) n m = added m schedule.namespace schedule.id n
 told_goes (BeginsRestoration schedule to) n m = stays m

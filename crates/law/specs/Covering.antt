@@ -1,13 +1,14 @@
 -- The acts of which the law is proved so far. The definition grows with each act whose lemma stands.
 use Rattle.std.specs.Prelude.{List, [], ◌∷◌}
 use Rattle.row_values.specs.Ids.{Kind, Clone}
-use Rattle.model.specs.Acts.{Act, Command, Split, CreateSchedule, DeleteSchedule, TakeSnapshot, Restore, Look, Change, Write, Read, Cutoff, Compact, Send, Process, Ack, Advance, Remove, Prune, Restart, Stats}
+use Rattle.model.specs.Acts.{Act, Command, Split, CreateSchedule, EditSchedule, DeleteSchedule, TakeSnapshot, Restore, Look, Change, Write, Read, Cutoff, Compact, Send, Process, Ack, Advance, Remove, Prune, Restart, Stats}
 use Rattle.model.specs.Entries.{Entry}
 use Rattle.law_changes.specs.Commands.{IsOfCatalog}
 
 abbrev pub CommandCovered : Command → Type 0
 CommandCovered (Split namespace table code) = Unit {0}
 CommandCovered (CreateSchedule interval retention namespace) = Unit {0}
+CommandCovered (EditSchedule schedule interval retention) = Unit {0}
 CommandCovered (DeleteSchedule schedule) = Unit {0}
 CommandCovered (TakeSnapshot schedule) = Unit {0}
 CommandCovered (Restore schedule to) = Unit {0}

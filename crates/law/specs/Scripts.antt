@@ -1,5 +1,5 @@
 -- The commands of a script of whose runs the law is proved so far.
-use Rattle.model.specs.Scripts.{ScriptCommand, Tick, Lag, CreateNamespace, DropNamespace, CreateTable, AddColumn, DropColumn, RenameTable, DropTable, WriteRows, ReadRow, ReadTable, Split, CreateSchedule, DeleteSchedule, TakeSnapshot, Restore, CloneNamespace, ListSchedules, ListSnapshots, ListRestorations, ListClones, ListTablets, RaiseCutoffs, CompactTablets, CleanUp, Coordinate, Settle, RestartMaster, RestartTablet, ShowStats, ShowHistory}
+use Rattle.model.specs.Scripts.{ScriptCommand, Tick, Lag, CreateNamespace, DropNamespace, CreateTable, AddColumn, DropColumn, RenameTable, DropTable, WriteRows, ReadRow, ReadTable, Split, CreateSchedule, EditSchedule, DeleteSchedule, TakeSnapshot, Restore, CloneNamespace, ListSchedules, ListSnapshots, ListRestorations, ListClones, ListTablets, RaiseCutoffs, CompactTablets, CleanUp, Coordinate, Settle, RestartMaster, RestartTablet, ShowStats, ShowHistory}
 
 -- all but clones and clean-ups
 abbrev pub ScriptCovered : ScriptCommand → Type 0
@@ -17,6 +17,7 @@ ScriptCovered (ReadRow namespace table key at) = Unit {0}
 ScriptCovered (ReadTable namespace table at) = Unit {0}
 ScriptCovered (Split namespace table code) = Unit {0}
 ScriptCovered (CreateSchedule interval retention namespace) = Unit {0}
+ScriptCovered (EditSchedule schedule interval retention) = Unit {0}
 ScriptCovered (DeleteSchedule schedule) = Unit {0}
 ScriptCovered (TakeSnapshot schedule) = Unit {0}
 ScriptCovered (Restore schedule to) = Unit {0}

@@ -47,12 +47,14 @@ least_both None (Some y) a b le h = absurd h
 least_both (Some x) None a b le h = absurd h
 least_both (Some x) (Some y) a b le h = omega arith
 
+-- a schedule in front whose own rises
+pub first_rises : (b : Bool) (x y : Option ℕ) (a c : ℕ) → a ≤ c → LowRises x y → LowRises (cond b (Some (least_with x a)) x) (cond b (Some (least_with y c)) y)
+first_rises true x y a c le h = least_both x y a c le h
+first_rises false x y a c le h = h
+
 lows_later : (ss : List Schedule) (ns : Id) (m n : ℕ) → m ≤ n → LowRises (least_low ss ns m) (least_low ss ns n)
 lows_later [] ns m n le = tt
-lows_later (s ∷ ss) ns m n le = cond_both (same s.namespace ns) _ _ (λ o. LowRises o (cond (same s.namespace ns) (Some (least_with (least_low ss ns n) (low s n))) (least_low ss ns n)))
-    (λ e. subst (λ b. LowRises (Some (least_with (least_low ss ns m) (low s m))) (cond b (Some (least_with (least_low ss ns n) (low s n))) (least_low ss ns n))) (sym e)
-    (least_both (least_low ss ns m) (least_low ss ns n) (low s m) (low s n) (low_later s m n le) (lows_later ss ns m n le)))
-    (λ e. subst (λ b. LowRises (least_low ss ns m) (cond b (Some (least_with (least_low ss ns n) (low s n))) (least_low ss ns n))) (sym e) (lows_later ss ns m n le))
+lows_later (s ∷ ss) ns m n le = first_rises (same s.namespace ns) (least_low ss ns m) (least_low ss ns n) (low s m) (low s n) (low_later s m n le) (lows_later ss ns m n le)
 
 pub floor_up : (a b : Option ℕ) (to : Option ℕ) (m n : ℕ) → m ≤ n → LowRises a b → floor a to m ≤ floor b to n
 floor_up None None to m n le h = le

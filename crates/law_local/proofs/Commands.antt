@@ -4,7 +4,7 @@ use Rattle.std.specs.Prelude.{Result, Ok, Err, length}
 use Rattle.std.specs.Option.{ok_or}
 use Rattle.row_values.specs.Slots.{same_slots, has}
 use Rattle.model.specs.Tablets.{Tablet}
-use Rattle.model.specs.Acts.{Command, CreateNamespace, DropNamespace, CreateTable, AddColumn, DropColumn, RenameTable, DropTable, Split, CreateSchedule, DeleteSchedule, TakeSnapshot, Restore, CloneNamespace, ListSchedules, ListSnapshots, ListRestorations, ListClones, ListTablets, Refusal, SlotsFull, StalePlan}
+use Rattle.model.specs.Acts.{Command, CreateNamespace, DropNamespace, CreateTable, AddColumn, DropColumn, RenameTable, DropTable, Split, CreateSchedule, EditSchedule, DeleteSchedule, TakeSnapshot, Restore, CloneNamespace, ListSchedules, ListSnapshots, ListRestorations, ListClones, ListTablets, Refusal, SlotsFull, StalePlan}
 use Rattle.model.specs.Parts.{Master, Parts, Outcome, Check, If, refusal_in, either, checked, decided}
 use Rattle.model.specs.Looks.{free_slots, Parent, found_parent, Family, family, found_family, slots_for, plan_of}
 use Rattle.model.specs.Changes.{judge_split, splitting, split, planned, change}
@@ -52,6 +52,7 @@ planned_same (RenameTable namespace table name) slots n m f g alike = refl
 planned_same (DropTable namespace table) slots n m f g alike = refl
 planned_same (Split namespace table code) slots n m f g alike = split_same namespace table code n m f g alike
 planned_same (CreateSchedule interval retention namespace) slots n m f g alike = refl
+planned_same (EditSchedule schedule interval retention) slots n m f g alike = refl
 planned_same (DeleteSchedule schedule) slots n m f g alike = refl
 planned_same (TakeSnapshot schedule) slots n m f g alike = refl
 planned_same (Restore schedule to) slots n m f g alike = refl

@@ -3,7 +3,7 @@ use Rattle.std.proofs.Common.{ℕ, ◌≡◌, List, ◌∷◌, true}
 use Rattle.row_values.specs.Slots.{same_slots}
 use Rattle.model.specs.Activity.{Interval}
 use Rattle.model.specs.Journal.{Change as Made}
-use Rattle.model.specs.Acts.{Command, CreateSchedule, DeleteSchedule, TakeSnapshot, Restore, Change}
+use Rattle.model.specs.Acts.{Command, CreateSchedule, EditSchedule, DeleteSchedule, TakeSnapshot, Restore, Change}
 use Rattle.model.specs.Entries.{slots_of}
 use Rattle.model.specs.Parts.{Parts}
 use Rattle.model.specs.Looks.{plan_of}
@@ -14,6 +14,7 @@ use Rattle.law_invariants.proofs.Ticking.{KeepsAll}
 use Rattle.law_changes.proofs.Changing.{change_keeps}
 use Rattle.law_moves.specs.Commands.{IsOfSchedules}
 use Rattle.law_moves.proofs.Schedules.{create_schedule_keeps, delete_schedule_keeps}
+use Rattle.law_moves.proofs.Editing.{edit_schedule_keeps}
 use Rattle.law_moves.proofs.Snapshots.{take_snapshot_keeps}
 use Rattle.law_moves.proofs.Restoring.{restore_keeps}
 
@@ -21,6 +22,7 @@ planned_keeps : (command : Command) (slots : List ℕ) (ps : Parts) (activity : 
     → same_slots slots (plan_of command ps.master) ≡ true → KeepsAll (Change command slots) n ps activity changes (planned command slots n ps)
 unfolding plan_of
 planned_keeps (CreateSchedule interval retention namespace) slots ps activity changes n of later inv plan = create_schedule_keeps ps activity changes n interval retention namespace slots later plan inv
+planned_keeps (EditSchedule schedule interval retention) slots ps activity changes n of later inv plan = edit_schedule_keeps ps activity changes n interval retention schedule slots later plan inv
 planned_keeps (DeleteSchedule schedule) slots ps activity changes n of later inv plan = delete_schedule_keeps ps activity changes n schedule slots later plan inv
 planned_keeps (TakeSnapshot schedule) slots ps activity changes n of later inv plan = take_snapshot_keeps ps activity changes n schedule slots later plan inv
 planned_keeps (Restore schedule to) slots ps activity changes n of later inv plan = restore_keeps ps activity changes n schedule to slots later plan inv

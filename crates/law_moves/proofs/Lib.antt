@@ -5,6 +5,7 @@ pub mod Acting
 pub mod Pending
 pub mod Using
 pub mod Schedules
+pub mod Editing
 pub mod Listing
 pub mod Snapshots
 pub mod Restoring

@@ -1,5 +1,5 @@
 -- Schedules as they are found, and namespaces that no unfinished operation uses.
-use Rattle.std.proofs.Common.{ℕ, ◌≡◌, List, [], ◌∷◌, ◌++◌, Option, Some, None, Bool, true, false, cond, ◌&&◌, ◌||◌, inl, inr, refl, sym, ap, ◌∙◌, arith, not, map}
+use Rattle.std.proofs.Common.{ℕ, ◌≡◌, ◌≤◌, List, [], ◌∷◌, ◌++◌, Option, Some, None, Bool, true, false, cond, ◌&&◌, ◌||◌, inl, inr, refl, sym, ap, subst, ◌∙◌, arith, not, map}
 use Rattle.std.specs.Option.{is_some, option_or, option_map}
 use Rattle.std.proofs.lemmas.Bool.{true≢false}
 use Rattle.row_values.specs.Ids.{Id, same}
@@ -16,6 +16,7 @@ use Rattle.law_store.proofs.Keys.{either_way}
 use Rattle.law_invariants.specs.Operations.{Alone, Uses}
 use Rattle.law_invariants.proofs.Finding.{in_append, in_mapped, passes_both, both_pass, same_equal, same_self}
 use Rattle.law_invariants.proofs.Operating.{is_held, held_first, held_second}
+use Rattle.law_invariants.proofs.Remembering.{LowRises, first_rises}
 use Rattle.law_moves.proofs.Recording.{SnapshotOn}
 
 -- Lists
@@ -177,6 +178,14 @@ alone_mapped drawn f xs stays h = λ x y in_x in_y e.
     let q = mapped_is f xs y in_y in
     let same_ = h p.0 q.0 p.1.0 q.1.0 (sym (stays p.0) ∙ ap drawn p.1.1 ∙ e ∙ ap drawn (sym q.1.1) ∙ stays q.0) in
     sym p.1.1 ∙ ap f same_ ∙ q.1.1
+
+-- the least low end rises where those of the schedules do, and they keep their namespaces
+pub mapped_rise : (ss : List Schedule) (f : Schedule → Schedule) (ns : Id) (m n : ℕ) → ((s : Schedule) → (f s).namespace ≡ s.namespace) → ((s : Schedule) → low s m ≤ low (f s) n)
+    → LowRises (least_low ss ns m) (least_low (map f ss) ns n)
+mapped_rise [] f ns m n names rises = tt
+mapped_rise (s ∷ ss) f ns m n names rises =
+    subst (λ i. LowRises (least_low (s ∷ ss) ns m) (cond (same i ns) (Some (least_with (least_low (map f ss) ns n) (low (f s) n))) (least_low (map f ss) ns n))) (sym (names s))
+    (first_rises (same s.namespace ns) (least_low ss ns m) (least_low (map f ss) ns n) (low s m) (low (f s) n) (rises s) (mapped_rise ss f ns m n names rises))
 
 -- a floor stays where schedules keep their namespaces and windows
 pub mapped_lows : (ss : List Schedule) (f : Schedule → Schedule) (ns : Id) (n : ℕ) → ((s : Schedule) → (f s).namespace ≡ s.namespace) → ((s : Schedule) → low (f s) n ≡ low s n)

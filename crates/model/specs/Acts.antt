@@ -33,6 +33,7 @@ pub data Command : Type 0 where
   DropTable : (namespace table : List ℕ) → Command
   Split : (namespace table : List ℕ) (code : ℕ) → Command
   CreateSchedule : (interval retention : ℕ) (namespace : List ℕ) → Command
+  EditSchedule : (schedule : Id) (interval retention : ℕ) → Command
   DeleteSchedule : (schedule : Id) → Command
   TakeSnapshot : (schedule : Id) → Command
   Restore : (schedule : Id) (to : ℕ) → Command

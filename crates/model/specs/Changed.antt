@@ -10,6 +10,7 @@ use Rattle.model.specs.Activity.{Interval, end_tablet, end_table_tablets}
 use Rattle.model.specs.Tablets.{Fence}
 use Rattle.model.specs.Records.{Schedule, ScheduledNamespace, scheduled_in, schedule_of, Fencing, Accepted, IdPair, TabletPair, CloneRecord}
 use Rattle.model.specs.Parts.{Master}
+use Rattle.model.specs.Schedules.{edited}
 use Rattle.model.specs.Lists.{active_tablets, listing, numbered_as, with_snapshot}
 use Rattle.model.specs.Restored.{clone_map}
 use Rattle.model.specs.Looks.{free_slots}
@@ -178,6 +179,17 @@ schedule_made ns interval retention n m = record m {
       ∷ [];
   scheduled = begin_scheduled (scheduled_in m.scheduled ns) ns n m.scheduled;
   drawn = record m.drawn { schedules = m.drawn.schedules + 1 };
+}
+
+-- the schedule of an identifier has other periods from a stamp on
+abbrev pub with_periods : Id → ℕ → ℕ → ℕ → List Schedule → List Schedule
+with_periods id interval retention n ss =
+    map {A = Schedule} (λ s. if same s.id id then edited interval retention n s else s) ss
+
+abbrev pub schedule_edited : Id → ℕ → ℕ → ℕ → Master → Master
+schedule_edited schedule interval retention n m = record m {
+  clock = n;
+  schedules = with_periods schedule interval retention n m.schedules;
 }
 
 abbrev pub schedule_deleted : Id → ℕ → Master → Master

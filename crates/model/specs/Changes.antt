@@ -13,8 +13,8 @@ use Rattle.model.specs.Catalog.{TableRecord, namespace_named, current_named, cur
 use Rattle.model.specs.Activity.{Interval}
 use Rattle.model.specs.Tablets.{Tablet, TabletAct, Make, Child, SetVersion, HideSince, Told}
 use Rattle.model.specs.Records.{Schedule, CloneRecord, is_visible, schedule_with, schedule_of, unfinished_of}
-use Rattle.model.specs.Acts.{Command, CreateNamespace, DropNamespace, CreateTable, AddColumn, DropColumn, RenameTable, DropTable, Split, CreateSchedule, DeleteSchedule, TakeSnapshot, Restore, CloneNamespace, ListSchedules, ListSnapshots, ListRestorations, ListClones, ListTablets, Refusal, UnknownColumn, UnknownSchedule, BadPeriod, NameTaken, NotEmpty, UnderSchedule, NoSchedule, TooMany, SlotsFull, TooEarly, Future, Busy, StalePlan, TooNarrow, NotDue, Ok, Schedules, Snapshots, Restorations, Clones, Tablets}
-use Rattle.model.specs.Parts.{Master, Parts, MasterAct, MakesNamespace, DropsNamespace, MakesTable, AddsColumn, DropsColumn, RenamesTable, DropsTable, SplitsTablet, MakesSchedule, DeletesSchedule, TakesSnapshot, BeginsRestoration, BeginsClone, Outcome, Check, If, Names, checked, and_found, decided, judged, answered}
+use Rattle.model.specs.Acts.{Command, CreateNamespace, DropNamespace, CreateTable, AddColumn, DropColumn, RenameTable, DropTable, Split, CreateSchedule, EditSchedule, DeleteSchedule, TakeSnapshot, Restore, CloneNamespace, ListSchedules, ListSnapshots, ListRestorations, ListClones, ListTablets, Refusal, UnknownColumn, UnknownSchedule, BadPeriod, NameTaken, NotEmpty, UnderSchedule, NoSchedule, TooMany, SlotsFull, TooEarly, Future, Busy, StalePlan, TooNarrow, NotDue, Ok, Schedules, Snapshots, Restorations, Clones, Tablets}
+use Rattle.model.specs.Parts.{Master, Parts, MasterAct, MakesNamespace, DropsNamespace, MakesTable, AddsColumn, DropsColumn, RenamesTable, DropsTable, SplitsTablet, MakesSchedule, EditsSchedule, DeletesSchedule, TakesSnapshot, BeginsRestoration, BeginsClone, Outcome, Check, If, Names, checked, and_found, decided, judged, answered}
 use Rattle.model.specs.Schedules.{is_period, low, least_low, next_due, is_due}
 use Rattle.model.specs.Lists.{next_snapshot}
 use Rattle.model.specs.Operations.{holder, user}
@@ -243,6 +243,18 @@ create_schedule interval retention namespace m =
 abbrev pub found_schedule : Master → Id → Result Schedule Refusal
 found_schedule m schedule = ok_or (schedule_with m.schedules schedule) UnknownSchedule
 
+abbrev pub edit_schedule_checks : ℕ → ℕ → List Check
+edit_schedule_checks interval retention = If (not (is_period interval retention)) (BadPeriod interval retention) ∷ []
+
+abbrev pub judge_edit_schedule : Id → ℕ → ℕ → Master → Result Schedule Refusal
+judge_edit_schedule schedule interval retention m =
+    checked (found_schedule m schedule) (λ s. edit_schedule_checks interval retention)
+
+unfoldable pub edit_schedule : Id → ℕ → ℕ → Master → Outcome
+edit_schedule schedule interval retention m =
+    decided (judge_edit_schedule schedule interval retention m)
+    (λ s. accepts (EditsSchedule s.id interval retention) [] [])
+
 abbrev pub delete_schedule_checks : Schedule → Master → List Check
 delete_schedule_checks s m = Names (schedule_user m s) Busy ∷ []
 
@@ -334,6 +346,8 @@ planned (DropTable namespace table) slots n ps = drop_table namespace table slot
 planned (Split namespace table code) slots n ps = split namespace table code n ps
 planned (CreateSchedule interval retention namespace) slots n ps =
     create_schedule interval retention namespace ps.master
+planned (EditSchedule schedule interval retention) slots n ps =
+    edit_schedule schedule interval retention ps.master
 planned (DeleteSchedule schedule) slots n ps = delete_schedule schedule ps.master
 planned (TakeSnapshot schedule) slots n ps = take_snapshot schedule n ps.master
 planned (Restore schedule to) slots n ps = restore schedule to n ps.master

@@ -9,7 +9,7 @@ use Rattle.row_values.specs.Schema.{Column, Schema}
 use Rattle.model.specs.Catalog.{namespace_named, tables_at, latest}
 use Rattle.model.specs.Activity.{Interval}
 use Rattle.model.specs.Records.{SnapshotRecord, RestorationState, Fencing, Snapshotting, Switching, Restoring, Releasing, Restored, CloneState, Accepted, CloneSnapshot, Copying, CloneReleasing, CloneComplete, CloneRecord, IdPair, TabletPair, State, IsCreating, IsComplete, IsFencing, IsSnapshot, IsSwitching, IsRestoring, IsReleasing, IsRestored, IsAccepted, IsCopying}
-use Rattle.model.specs.Acts.{Act, Look, Change, Write, Read, Cutoff, Compact, Send, Process, Ack, Advance, Remove, Prune, Restart, Stats, Command, CreateNamespace, DropNamespace, CreateTable, AddColumn, DropColumn, RenameTable, DropTable, Split, CreateSchedule, DeleteSchedule, TakeSnapshot, Restore, CloneNamespace, ListSchedules, ListSnapshots, ListRestorations, ListClones, ListTablets, Reply, Ok, Planned, Placed, Work, Removable, Present, Rows, CutoffAt, Compacted, SentTo, Done, Acked, Advanced, Removed, Pruned, Counts, NoTablet, Schedules, Snapshots, Restorations, Clones, Tablets, Refused}
+use Rattle.model.specs.Acts.{Act, Look, Change, Write, Read, Cutoff, Compact, Send, Process, Ack, Advance, Remove, Prune, Restart, Stats, Command, CreateNamespace, DropNamespace, CreateTable, AddColumn, DropColumn, RenameTable, DropTable, Split, CreateSchedule, EditSchedule, DeleteSchedule, TakeSnapshot, Restore, CloneNamespace, ListSchedules, ListSnapshots, ListRestorations, ListClones, ListTablets, Reply, Ok, Planned, Placed, Work, Removable, Present, Rows, CutoffAt, Compacted, SentTo, Done, Acked, Advanced, Removed, Pruned, Counts, NoTablet, Schedules, Snapshots, Restorations, Clones, Tablets, Refused}
 use Rattle.model.specs.Parts.{Drawn, Master, none_drawn}
 use Rattle.model.specs.Lists.{by_range, numbered_as, tablets_active_at}
 use Rattle.model.specs.Coordination.{unfinished_restoration, unfinished_clone}
@@ -103,6 +103,7 @@ drawn_for (RenameTable namespace table name) n m = none_drawn
 drawn_for (DropTable namespace table) n m = none_drawn
 drawn_for (Split namespace table code) n m = record none_drawn { tablets = 2 }
 drawn_for (CreateSchedule interval retention namespace) n m = record none_drawn { schedules = 1 }
+drawn_for (EditSchedule schedule interval retention) n m = none_drawn
 drawn_for (DeleteSchedule schedule) n m = none_drawn
 drawn_for (TakeSnapshot schedule) n m = record none_drawn { snapshots = 1 }
 drawn_for (Restore schedule to) n m = record none_drawn { restorations = 1 }
@@ -220,6 +221,7 @@ given_for (RenameTable namespace table name) made m = none_given
 given_for (DropTable namespace table) made m = none_given
 given_for (Split namespace table code) made m = record none_given { tablets = made }
 given_for (CreateSchedule interval retention namespace) made m = record none_given { schedules = made }
+given_for (EditSchedule schedule interval retention) made m = none_given
 given_for (DeleteSchedule schedule) made m = none_given
 given_for (TakeSnapshot schedule) made m = record none_given { snapshots = made }
 given_for (Restore schedule to) made m = record none_given { restorations = made }

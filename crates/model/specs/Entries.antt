@@ -6,7 +6,7 @@ use Rattle.row_values.specs.Ids.{Kind, Namespace, Table, Tablet, Schedule, Snaps
 use Rattle.row_values.specs.Slots.{rising}
 use Rattle.model.specs.Times.{end_of_time}
 use Rattle.row_values.specs.Schema.{NewColumn}
-use Rattle.model.specs.Acts.{NamedOp, NamedUpsert, NamedDelete, NamedItem, Command, CreateNamespace, DropNamespace, CreateTable, AddColumn, DropColumn, RenameTable, DropTable, Split, CreateSchedule, DeleteSchedule, TakeSnapshot, Restore, CloneNamespace, ListSchedules, ListSnapshots, ListRestorations, ListClones, ListTablets, Ask, AskPlan, AskKeys, AskTable, AskWork, AskRemovable, AskPresent, Act, Look, Change, Write, Read, Cutoff, Compact, Send, Process, Ack, Advance, Remove, Prune, Restart, Stats, Event, Reply}
+use Rattle.model.specs.Acts.{NamedOp, NamedUpsert, NamedDelete, NamedItem, Command, CreateNamespace, DropNamespace, CreateTable, AddColumn, DropColumn, RenameTable, DropTable, Split, CreateSchedule, EditSchedule, DeleteSchedule, TakeSnapshot, Restore, CloneNamespace, ListSchedules, ListSnapshots, ListRestorations, ListClones, ListTablets, Ask, AskPlan, AskKeys, AskTable, AskWork, AskRemovable, AskPresent, Act, Look, Change, Write, Read, Cutoff, Compact, Send, Process, Ack, Advance, Remove, Prune, Restart, Stats, Event, Reply}
 use Rattle.model.specs.Parts.{Parts}
 use Rattle.row_values.specs.Elements.{AllOf}
 use Rattle.row_values.specs.Batches.{IsKey, IsValue, IsBatch}
@@ -100,6 +100,7 @@ CommandAsked (DropTable namespace table) = IsName namespace × IsName table
 CommandAsked (Split namespace table code) = IsName namespace × IsName table × (code < 65536)
 CommandAsked (CreateSchedule interval retention namespace) =
     IsName namespace × (interval < 2 ^ 64) × (retention < 2 ^ 64)
+CommandAsked (EditSchedule schedule interval retention) = (interval < 2 ^ 64) × (retention < 2 ^ 64)
 CommandAsked (DeleteSchedule schedule) = Unit {0}
 CommandAsked (TakeSnapshot schedule) = Unit {0}
 CommandAsked (Restore schedule to) = to < end_of_time

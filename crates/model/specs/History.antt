@@ -10,10 +10,10 @@ use Rattle.model.specs.Activity.{Interval}
 use Rattle.model.specs.Tablets.{Told, act_for, effect}
 use Rattle.model.specs.Records.{SnapshotRecord, RestorationRecord, RestorationState, Fencing, Snapshotting, Switching, Restoring, Releasing, Restored, CloneRecord, CloneState, Accepted, CloneSnapshot, Copying, CloneReleasing, CloneComplete}
 use Rattle.model.specs.Acts.{Ask, AskPlan, AskKeys, AskTable, AskWork, AskRemovable, AskPresent, Act, Look, Change, Write, Read, Cutoff, Compact, Send, Process, Ack, Advance, Remove, Prune, Restart, Stats, Event, Work, Removable}
-use Rattle.model.specs.Parts.{Master, Parts, start, MasterAct, Ticks, MakesNamespace, DropsNamespace, MakesTable, AddsColumn, DropsColumn, RenamesTable, DropsTable, SplitsTablet, MakesSchedule, DeletesSchedule, TakesSnapshot, BeginsRestoration, BeginsClone, Sends, Acks, Unsends, Moves, Removes, Prunes, Restarts, Outcome, answered}
+use Rattle.model.specs.Parts.{Master, Parts, start, MasterAct, Ticks, MakesNamespace, DropsNamespace, MakesTable, AddsColumn, DropsColumn, RenamesTable, DropsTable, SplitsTablet, MakesSchedule, EditsSchedule, DeletesSchedule, TakesSnapshot, BeginsRestoration, BeginsClone, Sends, Acks, Unsends, Moves, Removes, Prunes, Restarts, Outcome, answered}
 use Rattle.model.specs.Looks.{look_plan, look_keys, look_table, look_present}
 use Rattle.model.specs.Changes.{change}
-use Rattle.model.specs.Changed.{next_namespace, next_table, namespace_made, namespace_dropped, table_made, table_changed, table_dropped, tablet_split, schedule_made, schedule_deleted, snapshot_taken, restoration_begun, clone_begun}
+use Rattle.model.specs.Changed.{next_namespace, next_table, namespace_made, namespace_dropped, table_made, table_changed, table_dropped, tablet_split, schedule_made, schedule_edited, schedule_deleted, snapshot_taken, restoration_begun, clone_begun}
 use Rattle.model.specs.RowActs.{write, read, cutoff, compact, stats, restart}
 use Rattle.model.specs.Coordination.{unfinished_restoration, unfinished_clone, send, process, ack, sent_to, acked, unsent_by, restarted_master}
 use Rattle.model.specs.Moves.{advance, moved}
@@ -61,6 +61,7 @@ master_effect (RenamesTable t name) n m = table_changed t name t.schema n m
 master_effect (DropsTable table) n m = table_dropped table n m
 master_effect (SplitsTablet parent code low_slot high_slot) n m = tablet_split parent code low_slot high_slot n m
 master_effect (MakesSchedule namespace interval retention) n m = schedule_made namespace interval retention n m
+master_effect (EditsSchedule schedule interval retention) n m = schedule_edited schedule interval retention n m
 master_effect (DeletesSchedule schedule) n m = schedule_deleted schedule n m
 master_effect (TakesSnapshot schedule) n m = snapshot_taken schedule n m
 master_effect (BeginsRestoration schedule to) n m = restoration_begun schedule to n m
@@ -178,6 +179,7 @@ with_master (Moves operation) n m earlier =
 with_master Ticks n m earlier = earlier
 with_master (SplitsTablet parent code low_slot high_slot) n m earlier = earlier
 with_master (MakesSchedule namespace interval retention) n m earlier = earlier
+with_master (EditsSchedule schedule interval retention) n m earlier = earlier
 with_master (DeletesSchedule schedule) n m earlier = earlier
 with_master (TakesSnapshot schedule) n m earlier = earlier
 with_master (BeginsRestoration schedule to) n m earlier = earlier
@@ -234,6 +236,7 @@ is_removal (RenamesTable t name) = false
 is_removal (DropsTable table) = false
 is_removal (SplitsTablet parent code low_slot high_slot) = false
 is_removal (MakesSchedule namespace interval retention) = false
+is_removal (EditsSchedule schedule interval retention) = false
 is_removal (DeletesSchedule schedule) = false
 is_removal (TakesSnapshot schedule) = false
 is_removal (BeginsRestoration schedule to) = false

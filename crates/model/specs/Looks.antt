@@ -13,7 +13,7 @@ use Rattle.row_values.specs.Schema.{Column, column_named, is_of_kind}
 use Rattle.model.specs.Catalog.{kept_from, TableRecord, namespace_named, table_named, current_named, current_table}
 use Rattle.model.specs.Activity.{Interval}
 use Rattle.model.specs.Records.{TabletPair, CloneRecord, is_cloned}
-use Rattle.model.specs.Acts.{Command, CreateNamespace, DropNamespace, CreateTable, AddColumn, DropColumn, RenameTable, DropTable, Split, CreateSchedule, DeleteSchedule, TakeSnapshot, Restore, CloneNamespace, ListSchedules, ListSnapshots, ListRestorations, ListClones, ListTablets, NamedCell, NamedOp, NamedUpsert, NamedDelete, NamedItem, Refusal, UnknownNamespace, UnknownTable, UnknownColumn, WrongKind, Future, CrossTablet, SlotsFull, TooOld, Place, Planned, Placed, Present}
+use Rattle.model.specs.Acts.{Command, CreateNamespace, DropNamespace, CreateTable, AddColumn, DropColumn, RenameTable, DropTable, Split, CreateSchedule, EditSchedule, DeleteSchedule, TakeSnapshot, Restore, CloneNamespace, ListSchedules, ListSnapshots, ListRestorations, ListClones, ListTablets, NamedCell, NamedOp, NamedUpsert, NamedDelete, NamedItem, Refusal, UnknownNamespace, UnknownTable, UnknownColumn, WrongKind, Future, CrossTablet, SlotsFull, TooOld, Place, Planned, Placed, Present}
 use Rattle.model.specs.Parts.{Master, Outcome, If, Fault, checked, and_found, decided, answered}
 use Rattle.model.specs.Lists.{by_range}
 
@@ -112,6 +112,7 @@ plan_of (CreateNamespace name) m = []
 plan_of (DropNamespace name) m = []
 plan_of (RenameTable namespace table name) m = []
 plan_of (CreateSchedule interval retention namespace) m = []
+plan_of (EditSchedule schedule interval retention) m = []
 plan_of (DeleteSchedule schedule) m = []
 plan_of (TakeSnapshot schedule) m = []
 plan_of (Restore schedule to) m = []

@@ -11,7 +11,7 @@ use Rattle.model.specs.Tablets.{BodyKind}
 use Rattle.model.specs.Records.{Schedule, RestorationRecord, RestorationState, Fencing, Snapshotting, Switching, Restoring, Releasing, Restored, CloneRecord, CloneState, Accepted, CloneSnapshot, Copying, CloneReleasing, CloneComplete, IdPair, IsSnapshot, IsReleasing, point_of, schedule_with}
 use Rattle.model.specs.Journal as made
 use Rattle.model.specs.Journal.{NamespaceRestored, NamespaceCloned, is_in, table_at}
-use Rattle.model.specs.Acts.{Act, Look, Change, Write, Read, Cutoff, Compact, Send, Process, Ack, Advance, Remove, Prune, Restart, Stats, Command, CreateNamespace, DropNamespace, CreateTable, AddColumn, DropColumn, RenameTable, DropTable, Split, CreateSchedule, DeleteSchedule, TakeSnapshot, Restore, CloneNamespace, ListSchedules, ListSnapshots, ListRestorations, ListClones, ListTablets, Reply, Ok, Planned, Placed, Work, Removable, Present, Rows, CutoffAt, Compacted, SentTo, Done, Acked, Advanced, Removed, Pruned, Counts, NoTablet, Schedules, Snapshots, Restorations, Clones, Tablets, Refused}
+use Rattle.model.specs.Acts.{Act, Look, Change, Write, Read, Cutoff, Compact, Send, Process, Ack, Advance, Remove, Prune, Restart, Stats, Command, CreateNamespace, DropNamespace, CreateTable, AddColumn, DropColumn, RenameTable, DropTable, Split, CreateSchedule, EditSchedule, DeleteSchedule, TakeSnapshot, Restore, CloneNamespace, ListSchedules, ListSnapshots, ListRestorations, ListClones, ListTablets, Reply, Ok, Planned, Placed, Work, Removable, Present, Rows, CutoffAt, Compacted, SentTo, Done, Acked, Advanced, Removed, Pruned, Counts, NoTablet, Schedules, Snapshots, Restorations, Clones, Tablets, Refused}
 use Rattle.model.specs.Parts.{Master, Parts}
 use Rattle.model.specs.Entries.{Entry}
 use Rattle.model.specs.History.{replay, journal_of, with_changes_of}
@@ -73,6 +73,7 @@ restores_in (Some (RenameTable namespace table name)) made m = []
 restores_in (Some (DropTable namespace table)) made m = []
 restores_in (Some (Split namespace table code)) made m = []
 restores_in (Some (CreateSchedule interval retention namespace)) made m = []
+restores_in (Some (EditSchedule schedule interval retention)) made m = []
 restores_in (Some (DeleteSchedule schedule)) made m = []
 restores_in (Some (TakeSnapshot schedule)) made m = []
 restores_in (Some (CloneNamespace source target to)) made m = []
@@ -103,6 +104,7 @@ clones_in (Some (RenameTable namespace table name)) made n m changes = []
 clones_in (Some (DropTable namespace table)) made n m changes = []
 clones_in (Some (Split namespace table code)) made n m changes = []
 clones_in (Some (CreateSchedule interval retention namespace)) made n m changes = []
+clones_in (Some (EditSchedule schedule interval retention)) made n m changes = []
 clones_in (Some (DeleteSchedule schedule)) made n m changes = []
 clones_in (Some (TakeSnapshot schedule)) made n m changes = []
 clones_in (Some (Restore schedule to)) made n m changes = []

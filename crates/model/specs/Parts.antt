@@ -79,6 +79,7 @@ pub data MasterAct : Type 0 where
   DropsTable : (table : Id) → MasterAct
   SplitsTablet : (parent : Interval) (code low_slot high_slot : ℕ) → MasterAct
   MakesSchedule : (namespace : Id) (interval retention : ℕ) → MasterAct
+  EditsSchedule : (schedule : Id) (interval retention : ℕ) → MasterAct
   DeletesSchedule : (schedule : Id) → MasterAct
   TakesSnapshot : (schedule : ScheduleRecord) → MasterAct
   BeginsRestoration : (schedule : ScheduleRecord) (to : ℕ) → MasterAct

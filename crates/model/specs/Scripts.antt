@@ -37,6 +37,7 @@ pub data ScriptCommand : Type 0 where
   ReadTable : (namespace table : List ℕ) (at : Option Time) → ScriptCommand
   Split : (namespace table : List ℕ) (code : ℕ) → ScriptCommand
   CreateSchedule : (interval retention : ℕ) (namespace : List ℕ) → ScriptCommand
+  EditSchedule : (schedule : Id) (interval retention : ℕ) → ScriptCommand
   DeleteSchedule : (schedule : Id) → ScriptCommand
   TakeSnapshot : (schedule : Id) → ScriptCommand
   Restore : (schedule : Id) (to : Time) → ScriptCommand

@@ -9,7 +9,7 @@ use Rattle.model.specs.Catalog.{is_owned_by}
 use Rattle.model.specs.Activity.{Interval}
 use Rattle.model.specs.Tablets.{Standing, BodyKind}
 use Rattle.model.specs.Records.{State}
-use Rattle.model.specs.Acts.{Command, CreateNamespace, DropNamespace, CreateTable, AddColumn, DropColumn, RenameTable, DropTable, Split, CreateSchedule, DeleteSchedule, TakeSnapshot, Restore, CloneNamespace, ListSchedules, ListSnapshots, ListRestorations, ListClones, ListTablets, Ask, AskPlan, AskKeys, AskTable, AskWork, AskRemovable, AskPresent, Act, Look, Change, Write, Read, Cutoff, Compact, Send, Process, Ack, Advance, Remove, Prune, Restart, Stats, Refusal, UnknownNamespace, UnknownTable, UnknownColumn, UnknownSchedule, UnknownSnapshot, BadPeriod, NameTaken, NotEmpty, UnderSchedule, TooMany, SlotsFull, Busy, Fenced, Moved, StaleSchema, StalePlan, TooNarrow, NotDue, NotPending, Idle, OtherSlot, NotDone, Waiting, InWindow, IsListed, WorkItem, Removal, ScheduleLine, SnapshotLine, RestorationLine, CloneLine, TabletLine, Reply, Ok, Planned, Work, Removable, Present, CutoffAt, Compacted, SentTo, Done, Acked, Advanced, Removed, Pruned, Counts, NoTablet, Schedules, Snapshots, Restorations, Clones, Tablets, Refused}
+use Rattle.model.specs.Acts.{Command, CreateNamespace, DropNamespace, CreateTable, AddColumn, DropColumn, RenameTable, DropTable, Split, CreateSchedule, EditSchedule, DeleteSchedule, TakeSnapshot, Restore, CloneNamespace, ListSchedules, ListSnapshots, ListRestorations, ListClones, ListTablets, Ask, AskPlan, AskKeys, AskTable, AskWork, AskRemovable, AskPresent, Act, Look, Change, Write, Read, Cutoff, Compact, Send, Process, Ack, Advance, Remove, Prune, Restart, Stats, Refusal, UnknownNamespace, UnknownTable, UnknownColumn, UnknownSchedule, UnknownSnapshot, BadPeriod, NameTaken, NotEmpty, UnderSchedule, TooMany, SlotsFull, Busy, Fenced, Moved, StaleSchema, StalePlan, TooNarrow, NotDue, NotPending, Idle, OtherSlot, NotDone, Waiting, InWindow, IsListed, WorkItem, Removal, ScheduleLine, SnapshotLine, RestorationLine, CloneLine, TabletLine, Reply, Ok, Planned, Work, Removable, Present, CutoffAt, Compacted, SentTo, Done, Acked, Advanced, Removed, Pruned, Counts, NoTablet, Schedules, Snapshots, Restorations, Clones, Tablets, Refused}
 use Rattle.model.specs.Parts.{Parts}
 use Rattle.model.specs.Journal as made
 use Rattle.model.specs.Journal.{ChangeAct, NamespaceMade, NamespaceDropped, TableMade, TableRenamed, TableDropped, ColumnAdded, ColumnDropped, RowChanged, NamespaceRestored, NamespaceCloned, owner_in}
@@ -113,6 +113,8 @@ CommandAnswer (Split namespace table code) reply n ps changes =
 CommandAnswer (CreateSchedule interval retention namespace) reply n ps changes =
     MakesOne reply
     ⊎ RefusedAs (λ why. IsClosed why ⊎ (why ≡ TooMany most_schedules) ⊎ (why ≡ BadPeriod interval retention)) reply
+CommandAnswer (EditSchedule schedule interval retention) reply n ps changes =
+    MakesNone reply ⊎ RefusedAs (λ why. (why ≡ UnknownSchedule) ⊎ (why ≡ BadPeriod interval retention)) reply
 CommandAnswer (DeleteSchedule schedule) reply n ps changes = MakesNone reply ⊎ RefusedAs IsScheduleClosed reply
 CommandAnswer (TakeSnapshot schedule) reply n ps changes =
     MakesOne reply

@@ -31,6 +31,7 @@ mod WrittenEnds
 mod WrittenHistories
 mod WrittenHours
 mod WrittenRestores
+mod WrittenSchedules
 mod WrittenWork
 mod Settled
 mod KeptVersions

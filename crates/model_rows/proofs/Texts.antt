@@ -25,6 +25,7 @@ commands_told : map command_text
     ∷ acts.DropTable a t
     ∷ acts.Split a t 1000
     ∷ acts.CreateSchedule 1 10 a
+    ∷ acts.EditSchedule (S 1) 5 60
     ∷ acts.DeleteSchedule (S 1)
     ∷ acts.TakeSnapshot (S 1)
     ∷ acts.Restore (S 1) 4096000003
@@ -45,6 +46,7 @@ commands_told : map command_text
     ∷ codes "drop_table a t"
     ∷ codes "split a t 1000"
     ∷ codes "create_snapshot_schedule 1 10 a"
+    ∷ (codes "edit_snapshot_schedule" ++ uuid (S 1) ++ codes " 5 60")
     ∷ (codes "delete_snapshot_schedule" ++ uuid (S 1))
     ∷ (codes "take_snapshot" ++ uuid (S 1))
     ∷ (codes "restore_snapshot_schedule" ++ uuid (S 1) ++ codes " ht 4096000003")

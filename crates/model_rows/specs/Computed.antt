@@ -1,5 +1,5 @@
 -- All of the book that a run computes with: a row names it on its `unfolding` line.
-use Rattle.model.specs.Changes.{create_namespace, drop_namespace, create_table, add_column, drop_column, rename_table, drop_table, split, create_schedule, delete_schedule, take_snapshot, restore, clone_namespace, list_tablets, change}
+use Rattle.model.specs.Changes.{create_namespace, drop_namespace, create_table, add_column, drop_column, rename_table, drop_table, split, create_schedule, edit_schedule, delete_schedule, take_snapshot, restore, clone_namespace, list_tablets, change}
 use Rattle.model.specs.Cleanup.{remove, prune}
 use Rattle.model.specs.Coordination.{send, process, ack}
 use Rattle.model.specs.History.{replay, entry_of, journal_of, activity_of, snapshots_taken}
@@ -13,5 +13,5 @@ use Rattle.model_runs.specs.Running.{may_follow, made_by, text_of, run_of}
 use Rattle.std.specs.Fmt.{digits}
 
 unfoldable pub the_book : Type 0
-unfolding create_namespace drop_namespace create_table add_column drop_column rename_table drop_table split create_schedule delete_schedule take_snapshot restore clone_namespace list_tablets change remove prune send process ack replay entry_of journal_of activity_of snapshots_taken entered restores_asked clones_asked changes_by obeyed plan_of look_plan look_keys look_table look_present advance write read cutoff compact restart stats kept_of may_follow made_by run_of text_of digits
+unfolding create_namespace drop_namespace create_table add_column drop_column rename_table drop_table split create_schedule edit_schedule delete_schedule take_snapshot restore clone_namespace list_tablets change remove prune send process ack replay entry_of journal_of activity_of snapshots_taken entered restores_asked clones_asked changes_by obeyed plan_of look_plan look_keys look_table look_present advance write read cutoff compact restart stats kept_of may_follow made_by run_of text_of digits
 the_book = Unit {0}

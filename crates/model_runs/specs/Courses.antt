@@ -14,7 +14,7 @@ use Rattle.model.specs.Parts.{Parts}
 use Rattle.model.specs.Entries.{IsSlot, ActAsked, AskAsked}
 use Rattle.model.specs.History.{id_of_column}
 use Rattle.model.specs.Settling.{coordinated, settle}
-use Rattle.model.specs.Scripts.{time_at, asked_at, ScriptCommand, Tick, Lag, CreateNamespace, DropNamespace, CreateTable, AddColumn, DropColumn, RenameTable, DropTable, WriteRows, ReadRow, ReadTable, Split, CreateSchedule, DeleteSchedule, TakeSnapshot, Restore, CloneNamespace, ListSchedules, ListSnapshots, ListRestorations, ListClones, ListTablets, RaiseCutoffs, CompactTablets, CleanUp, Coordinate, Settle, RestartMaster, RestartTablet, ShowStats, ShowHistory}
+use Rattle.model.specs.Scripts.{time_at, asked_at, ScriptCommand, Tick, Lag, CreateNamespace, DropNamespace, CreateTable, AddColumn, DropColumn, RenameTable, DropTable, WriteRows, ReadRow, ReadTable, Split, CreateSchedule, EditSchedule, DeleteSchedule, TakeSnapshot, Restore, CloneNamespace, ListSchedules, ListSnapshots, ListRestorations, ListClones, ListTablets, RaiseCutoffs, CompactTablets, CleanUp, Coordinate, Settle, RestartMaster, RestartTablet, ShowStats, ShowHistory}
 
 -- What a look or a read answers
 
@@ -164,6 +164,8 @@ course_of reading (ReadTable namespace table at) =
 course_of reading (Split namespace table code) = plan_and_tell (acts.Split namespace table code)
 course_of reading (CreateSchedule interval retention namespace) =
     tell (acts.CreateSchedule interval retention namespace)
+course_of reading (EditSchedule schedule interval retention) =
+    tell (acts.EditSchedule schedule interval retention)
 course_of reading (DeleteSchedule schedule) = tell (acts.DeleteSchedule schedule)
 course_of reading (TakeSnapshot schedule) = tell (acts.TakeSnapshot schedule)
 course_of reading (Restore schedule to) = tell (acts.Restore schedule (time_at reading to))

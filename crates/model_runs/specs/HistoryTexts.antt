@@ -7,7 +7,7 @@ use Rattle.row_values.specs.declared.value.RowOp.TheVariants.{Upsert, Delete}
 use Rattle.row_values.specs.declared.value.Item.{Item}
 use Rattle.row_values.specs.Ids.{id_text}
 use Rattle.row_values.specs.Schema.{ColumnKind, NewColumn}
-use Rattle.model.specs.Acts.{NamedCell, NamedOp, NamedUpsert, NamedDelete, NamedItem, Command, CreateNamespace, DropNamespace, CreateTable, AddColumn, DropColumn, RenameTable, DropTable, Split, CreateSchedule, DeleteSchedule, TakeSnapshot, Restore, CloneNamespace, ListSchedules, ListSnapshots, ListRestorations, ListClones, ListTablets, Ask, AskPlan, AskKeys, AskTable, AskWork, AskRemovable, AskPresent, At, Act, Look, Change, Write, Read, Cutoff, Compact, Send, Process, Ack, Advance, Remove, Prune, Restart, Stats}
+use Rattle.model.specs.Acts.{NamedCell, NamedOp, NamedUpsert, NamedDelete, NamedItem, Command, CreateNamespace, DropNamespace, CreateTable, AddColumn, DropColumn, RenameTable, DropTable, Split, CreateSchedule, EditSchedule, DeleteSchedule, TakeSnapshot, Restore, CloneNamespace, ListSchedules, ListSnapshots, ListRestorations, ListClones, ListTablets, Ask, AskPlan, AskKeys, AskTable, AskWork, AskRemovable, AskPresent, At, Act, Look, Change, Write, Read, Cutoff, Compact, Send, Process, Ack, Advance, Remove, Prune, Restart, Stats}
 use Rattle.model.specs.Entries.{Entry}
 use Rattle.model_runs.specs.Texts.{word, number_word, id_word, time_word, numbers_text, slots_word, version_word, value_text, cell_words, column_kind_text, history_gap, reply_text}
 
@@ -35,6 +35,8 @@ command_text (DropTable namespace table) = codes "drop_table" ++ word namespace 
 command_text (Split namespace table code) = codes "split" ++ word namespace ++ word table ++ number_word code
 command_text (CreateSchedule interval retention namespace) =
     codes "create_snapshot_schedule" ++ number_word interval ++ number_word retention ++ word namespace
+command_text (EditSchedule schedule interval retention) =
+    codes "edit_snapshot_schedule" ++ id_word schedule ++ number_word interval ++ number_word retention
 command_text (DeleteSchedule schedule) = codes "delete_snapshot_schedule" ++ id_word schedule
 command_text (TakeSnapshot schedule) = codes "take_snapshot" ++ id_word schedule
 command_text (Restore schedule to) = codes "restore_snapshot_schedule" ++ id_word schedule ++ exact_words to

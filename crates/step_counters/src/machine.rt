@@ -77,12 +77,12 @@ impl Machine for Counters {
         Ok(*event)
     }
 
-    fn apply(held: &mut Held<Counter>, ready: Add, number: u64) -> u64 {
+    fn apply(held: &mut Held<Counter>, _ready: Add, event: Add, number: u64) -> u64 {
         let first = held.part_mut(0);
         let reply = first.len() + 1;
         first.note(Entry {
             number,
-            event: ready,
+            event,
             reply,
         });
         reply

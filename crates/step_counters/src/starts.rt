@@ -1,4 +1,4 @@
-//! A table of counters at 0.
+//! A table of counters at 0, and a line of them.
 ghost use Rattle.std.specs.Prelude.{◌≡◌, ◌<◌, ◌^◌, length, IfOk, IfErr};
 ghost use Rattle.step_table.specs.Lists.{Every};
 ghost use Rattle.step_table.specs.Passes.{first_pass};
@@ -10,6 +10,7 @@ use crate::machine::Counters;
 use row_values::{NoMemory, Records};
 use std::alloc::Global;
 use std::sync::Arc;
+use step_line::Line;
 use step_table::{Pass, StepTable};
 
 /// Three counters at 0, the second behind the gate.
@@ -35,4 +36,13 @@ pub fn start(
     ensures parts_back { IfErr result (λ back. back ≡ parts) }
 {
     StepTable::new(parts)
+}
+
+/// A line over counters at 0.
+pub fn begin_line(parts: Records<Counter>) -> Result<Line<Counters>, NoMemory>
+    requires empty { Every IsEmpty parts }
+    requires few { length parts < 2 ^ 32 }
+    ensures slots { IfOk result (λ line. length line.parts ≡ length parts) }
+{
+    Line::new(parts)
 }

@@ -3,7 +3,7 @@ ghost use Rattle.step_counters.specs.declared.machine.Add.TheVariants.{One, Two}
 
 use crate::gate::Gate;
 use crate::machine::{Add, Counters, Full};
-use crate::starts::{start, three_counters};
+use crate::starts::{begin_line, start, three_counters};
 use crate::turns::perform_many;
 use std::sync::{Arc, Wait};
 use std::test::Fail;
@@ -28,8 +28,8 @@ fn try_both(
     ensures { (result.0.table ≡ pass.table) × (result.0.shares ≡ pass.shares) }
 {
     let reached = gate.is_reached();
-    let held = table.try_perform(&mut pass, &Add::One { slot: 1 });
-    let other = table.try_perform(&mut pass, &Add::One { slot: 2 });
+    let held = table.try_perform(&mut pass, Add::One { slot: 1 });
+    let other = table.try_perform(&mut pass, Add::One { slot: 2 });
     gate.open();
     let told = reached && is_taken(&held, 1) && other.is_ok();
     (pass, told)
@@ -46,7 +46,7 @@ fn perform_beside<R: Wait>(
     ensures { (result.0.table ≡ pass.table) × (result.0.shares ≡ pass.shares) }
 {
     let reached = gate.is_reached();
-    let other = table.perform(rt, &mut pass, &Add::One { slot: 2 });
+    let other = table.perform(rt, &mut pass, Add::One { slot: 2 });
     gate.open();
     (pass, reached && other.is_ok())
 }
@@ -62,9 +62,9 @@ fn each_call_with_ample_memory_performs_its_event(rt: HostRuntime) -> Result<(),
     let Ok((table, mut first)) = start(parts) else {
         return Err(Fail::new("no memory"));
     };
-    let one = table.perform(&rt, &mut first, &Add::One { slot: 1 });
-    let two = table.perform(&rt, &mut first, &Add::Two { slot: 1, other: 2 });
-    let all = table.try_perform(&mut first, &Add::All { count: 3 });
+    let one = table.perform(&rt, &mut first, Add::One { slot: 1 });
+    let two = table.perform(&rt, &mut first, Add::Two { slot: 1, other: 2 });
+    let all = table.try_perform(&mut first, Add::All { count: 3 });
     assert!(rt; matches!(&one, Ok(1)));
     assert!(rt; matches!(&two, Ok(2)));
     assert!(rt; matches!(&all, Ok(1)));
@@ -171,5 +171,26 @@ fn threads_that_wait_for_one_slot_are_woken(rt: HostRuntime) -> Result<(), Fail>
     let parts = table.close(first);
     let counters = parts.as_slice();
     assert!(rt; counters.len() == 3 && counters[0].len() == 2000 && counters[2].len() == 0);
+    Ok(())
+}
+
+#[test]
+fn a_line_performs_the_events_of_one_thread(rt: HostRuntime) -> Result<(), Fail> {
+    let alloc = rt.alloc();
+    let gate = Arc::new(alloc, Gate::new())?;
+    gate.open();
+    let Ok(parts) = three_counters(alloc, gate) else {
+        return Err(Fail::new("no memory"));
+    };
+    let Ok(mut line) = begin_line(parts) else {
+        return Err(Fail::new("no memory"));
+    };
+    let one = line.perform(Add::One { slot: 1 });
+    let two = line.perform(Add::Two { slot: 1, other: 2 });
+    let all = line.perform(Add::All { count: 3 });
+    assert!(rt; matches!(&one, Ok(1)));
+    assert!(rt; matches!(&two, Ok(2)));
+    assert!(rt; matches!(&all, Ok(1)));
+    assert!(rt; line.part(0).len() == 1 && line.part(1).len() == 2 && line.part(2).len() == 0);
     Ok(())
 }

@@ -22,7 +22,7 @@ pub fn perform_many<R: Wait>(
 {
     let mut done = 0;
     for _turn in 0..times {
-        if table.perform(rt, &mut pass, &event).is_ok() {
+        if table.perform(rt, &mut pass, event).is_ok() {
             done += 1;
         }
     }

@@ -29,7 +29,7 @@ module _ {P : Type 0} where
   put_else (k ∷ ks) [] ps j out = refl
   put_else (k ∷ ks) (q ∷ qs) ps j out = put_else ks qs (set ps k q) j (λ h. out (inr h)) ∙ set_else ps k j q (λ e. out (inl (sym e)))
 
-  pick_set : (ks : List ℕ) (ps : List P) (k : ℕ) (q : P) → ¬ In k ks → pick ks (set ps k q) ≡ pick ks ps
+  pub pick_set : (ks : List ℕ) (ps : List P) (k : ℕ) (q : P) → ¬ In k ks → pick ks (set ps k q) ≡ pick ks ps
   pick_set [] ps k q out = refl
   pick_set (x ∷ xs) ps k q out = rw (set_else ps k x q (λ e. out (inl e)), pick_set xs ps k q (λ h. out (inr h))) refl
 
@@ -38,7 +38,7 @@ module _ {P : Type 0} where
   found_at (p ∷ ps) zero lt = (p, refl)
   found_at (p ∷ ps) (suc k) lt = found_at ps k (omega arith)
 
-  set_lt : (ps : List P) (k : ℕ) (q : P) (xs : List ℕ) → Every (λ x. x < length ps) xs → Every (λ x. x < length (set ps k q)) xs
+  pub set_lt : (ps : List P) (k : ℕ) (q : P) (xs : List ℕ) → Every (λ x. x < length ps) xs → Every (λ x. x < length (set ps k q)) xs
   set_lt ps k q [] all = tt
   set_lt ps k q (x ∷ xs) all = (rw (length-set ps k q) all.0, set_lt ps k q xs all.1)
 

@@ -23,14 +23,14 @@ impl<P> Model for Held<P> {
 }
 
 impl<P> Held<P> {
-    pub(crate) fn of(items: Vec<(u32, P)>) -> Held<P>
+    pub fn of(items: Vec<(u32, P)>) -> Held<P>
         requires few { length items.items < 2 ^ 32 }
         ensures same { result ≡ items.items }
     {
         Held { items }
     }
 
-    pub(crate) fn into_items(self) -> Vec<(u32, P)>
+    pub fn into_items(self) -> Vec<(u32, P)>
         ensures same { result.items ≡ self }
     {
         let Held { items } = self;

@@ -29,4 +29,5 @@ pub use held::Held;
 pub use known::{Entry, Known};
 pub use machine::{Machine, MachineRule};
 pub use refused::TryRefused;
+pub use rows::count_entries;
 pub use table::{Pass, StepTable};

@@ -18,7 +18,7 @@ use std::snapshot::Snapshot;
 pub trait Machine {
     type Part: Drop;
 
-    type Event;
+    type Event: Drop;
 
     type Ready: Drop;
 
@@ -59,8 +59,14 @@ pub trait Machine {
         ensures refused { IfErr result (λ refused. (refused ≡ core.no_memory) ⊎ (core.refusal (map core.meaning (parts_of held.old)) event.now ≡ Some refused)) };
 
     /// Performs the prepared event under its number. It can't fail, and takes no memory.
-    fn apply(held: &mut Held<Self::Part>, ready: Self::Ready, number: u64) -> Self::Reply
+    fn apply(
+        held: &mut Held<Self::Part>,
+        ready: Self::Ready,
+        event: Self::Event,
+        number: u64,
+    ) -> Self::Reply
         requires ready { core.CanApply (parts_of held.old) ready }
+        requires event { core.event_of ready ≡ event }
         requires slots { slots_of held.old ≡ core.touches (core.event_of ready) }
         requires fits { core.Fits (map core.meaning (parts_of held.old)) (core.event_of ready) }
         requires accepted { core.refusal (map core.meaning (parts_of held.old)) (core.event_of ready) ≡ None }

@@ -35,28 +35,28 @@ fn begin<M: Machine>(alloc: Global, event: &M::Event) -> Option<(Slots, Vec<(u32
 fn finish<M: Machine, N: Announced<M::Event>>(
     top: &Top<M>,
     seat: &mut Place<M>,
-    event: &M::Event,
+    event: M::Event,
     items: Vec<(u32, M::Part)>,
 ) -> Result<M::Reply, M::Refused>
     requires table { (seat.old.table_id ≡ top.now.table_id) × (top.now.table_id.words ≡ suc top.now.table_id.slots) × (top.now.table_id.slots < 2 ^ 32) }
-    requires event { (N.event ≡ Some event.now) × M.core.May top.now.table_id.slots event.now × (slots_of items.items ≡ M.core.touches event.now) }
+    requires event { (N.event ≡ Some event) × M.core.May top.now.table_id.slots event × (slots_of items.items ≡ M.core.touches event) }
     requires view { (seat.old.me.0.shares ≢ 0) × IsOut M.core N.event seat.old.me items.items }
     ensures table { (seat.new.table_id ≡ seat.old.table_id) × (seat.new.id ≡ seat.old.id) }
     ensures same { IsSame seat.old.me.0 seat.new.me.0 × (seat.new.me.0.findings ≡ seat.old.me.0.findings) }
     ensures idle { IsIdle seat.new.me × Knows M.core seat.new.me.0 }
-    ensures ok { IfOk result (λ reply. Performed M.core event.now reply seat.old.me.0 seat.new.me.0) }
-    ensures err { IfErr result (λ refused. Declined M.core event.now refused seat.old.me.0 seat.new.me.0) }
+    ensures ok { IfOk result (λ reply. Performed M.core event reply seat.old.me.0 seat.new.me.0) }
+    ensures err { IfErr result (λ refused. Declined M.core event refused seat.old.me.0 seat.new.me.0) }
 {
     look(top, seat);
     let mut held = Held::of(items);
-    match M::prepare(&mut held, event) {
+    match M::prepare(&mut held, &event) {
         Err(refused) => {
             give_all(top, seat, held.into_items());
             Err(refused)
         }
         Ok(ready) => {
-            let number = commit::<M, N>(top, seat, event) + 1;
-            let reply = M::apply(&mut held, ready, number);
+            let number = commit::<M, N>(top, seat, &event) + 1;
+            let reply = M::apply(&mut held, ready, event, number);
             give_all(top, seat, held.into_items());
             Ok(reply)
         }
@@ -69,19 +69,19 @@ pub(crate) fn perform_as<M: Machine, N: Announced<M::Event>, R: Wait>(
     alloc: Global,
     top: &Top<M>,
     seat: &mut Place<M>,
-    event: &M::Event,
+    event: M::Event,
 ) -> Result<M::Reply, M::Refused>
     requires table { (seat.old.table_id ≡ top.now.table_id) × (top.now.table_id.words ≡ suc top.now.table_id.slots) × (top.now.table_id.slots < 2 ^ 32) }
-    requires event { (N.event ≡ Some event.now) × M.core.May top.now.table_id.slots event.now }
+    requires event { (N.event ≡ Some event) × M.core.May top.now.table_id.slots event }
     requires view { (seat.old.me.0.shares ≢ 0) × IsIdle seat.old.me × Knows M.core seat.old.me.0 }
     ensures table { (seat.new.table_id ≡ seat.old.table_id) × (seat.new.id ≡ seat.old.id) }
     ensures same { IsSame seat.old.me.0 seat.new.me.0 }
     ensures idle { IsIdle seat.new.me × Knows M.core seat.new.me.0 }
     ensures findings { IsPrefix seat.old.me.0.findings seat.new.me.0.findings }
-    ensures ok { IfOk result (λ reply. Performed M.core event.now reply seat.old.me.0 seat.new.me.0) }
-    ensures err { IfErr result (λ refused. Declined M.core event.now refused seat.old.me.0 seat.new.me.0) }
+    ensures ok { IfOk result (λ reply. Performed M.core event reply seat.old.me.0 seat.new.me.0) }
+    ensures err { IfErr result (λ refused. Declined M.core event refused seat.old.me.0 seat.new.me.0) }
 {
-    let Some((slots, mut held)) = begin::<M>(alloc, event) else {
+    let Some((slots, mut held)) = begin::<M>(alloc, &event) else {
         return Err(M::no_memory());
     };
     take_all::<M, N, R>(rt, top, seat, slots.as_slice(), &mut held);
@@ -93,19 +93,19 @@ pub(crate) fn try_perform_as<M: Machine, N: Announced<M::Event>>(
     alloc: Global,
     top: &Top<M>,
     seat: &mut Place<M>,
-    event: &M::Event,
+    event: M::Event,
 ) -> Result<M::Reply, TryRefused<M::Refused>>
     requires table { (seat.old.table_id ≡ top.now.table_id) × (top.now.table_id.words ≡ suc top.now.table_id.slots) × (top.now.table_id.slots < 2 ^ 32) }
-    requires event { (N.event ≡ Some event.now) × M.core.May top.now.table_id.slots event.now }
+    requires event { (N.event ≡ Some event) × M.core.May top.now.table_id.slots event }
     requires view { (seat.old.me.0.shares ≢ 0) × IsIdle seat.old.me × Knows M.core seat.old.me.0 }
     ensures table { (seat.new.table_id ≡ seat.old.table_id) × (seat.new.id ≡ seat.old.id) }
     ensures same { IsSame seat.old.me.0 seat.new.me.0 }
     ensures idle { IsIdle seat.new.me × Knows M.core seat.new.me.0 }
-    ensures ok { IfOk result (λ reply. Performed M.core event.now reply seat.old.me.0 seat.new.me.0) }
+    ensures ok { IfOk result (λ reply. Performed M.core event reply seat.old.me.0 seat.new.me.0) }
     ensures found { OnOk result (seat.new.me.0.findings ≡ seat.old.me.0.findings) }
-    ensures err { IfErr result (TryDeclined M.core event.now seat.old.me.0 seat.new.me.0) }
+    ensures err { IfErr result (TryDeclined M.core event seat.old.me.0 seat.new.me.0) }
 {
-    let Some((slots, mut held)) = begin::<M>(alloc, event) else {
+    let Some((slots, mut held)) = begin::<M>(alloc, &event) else {
         return Err(TryRefused::Step(M::no_memory()));
     };
     if let Some(slot) = try_all::<M, N>(top, seat, slots.as_slice(), &mut held) {

@@ -10,7 +10,7 @@ use atomic_table::Closed;
 use std::alloc::{AllocError, Global};
 
 /// The number of the entries in all logs.
-fn count<M: Machine>(parts: &[M::Part]) -> u64
+pub fn count_entries<M: Machine>(parts: &[M::Part]) -> u64
     requires bound { logged M.core (map M.core.meaning parts.now) < 2 ^ 62 }
     ensures count { result ≡ logged M.core (map M.core.meaning parts.now) }
 {
@@ -28,7 +28,7 @@ pub(crate) fn words_of<M: Machine>(alloc: Global, parts: &[M::Part]) -> Result<V
     ensures words { IfOk result (λ words. words.items ≡ logged M.core (map M.core.meaning parts.now) ∷ replicate (length parts.now) 0) }
 {
     let mut words = Vec::from_elem(alloc, 0u64, parts.len() + 1)?;
-    words[0] = count::<M>(parts);
+    words[0] = count_entries::<M>(parts);
     Ok(words)
 }
 

@@ -103,19 +103,19 @@ impl<M: Machine> StepTable<M> {
         &self,
         rt: &R,
         pass: &mut Pass<M>,
-        event: &M::Event,
+        event: M::Event,
     ) -> Result<M::Reply, M::Refused>
         requires own_pass { pass.old.table ≡ self.now.id }
-        requires event { M.core.May (length self.now.given) event.now }
+        requires event { M.core.May (length self.now.given) event }
         ensures same_table { pass.new.table ≡ pass.old.table }
         ensures same_given { pass.new.given ≡ pass.old.given }
         ensures same_shares { pass.new.shares ≡ pass.old.shares }
         ensures same_splits { pass.new.splits ≡ pass.old.splits }
         ensures findings_grow { IsPrefix pass.old.findings pass.new.findings }
-        ensures entry_added { IfOk result (λ reply. EntryAdded event.now reply pass.old pass.new) }
+        ensures entry_added { IfOk result (λ reply. EntryAdded event reply pass.old pass.new) }
         ensures no_entry { OnErr result (pass.new.made ≡ pass.old.made) }
         ensures seen_grows { OnErr result (IsPrefix pass.old.seen pass.new.seen) }
-        ensures refused_on_what_was_seen { IfErr result (λ refused. Refuses M.core event.now refused pass.new) }
+        ensures refused_on_what_was_seen { IfErr result (λ refused. Refuses M.core event refused pass.new) }
         ensures right_history { Follows M.core pass.new.given pass.new.seen }
         ensures entries_at_their_numbers { Every (IsAtNumber pass.new.seen) pass.new.made }
     {
@@ -128,22 +128,22 @@ impl<M: Machine> StepTable<M> {
     pub fn try_perform(
         &self,
         pass: &mut Pass<M>,
-        event: &M::Event,
+        event: M::Event,
     ) -> Result<M::Reply, TryRefused<M::Refused>>
         requires own_pass { pass.old.table ≡ self.now.id }
-        requires event { M.core.May (length self.now.given) event.now }
+        requires event { M.core.May (length self.now.given) event }
         ensures same_table { pass.new.table ≡ pass.old.table }
         ensures same_given { pass.new.given ≡ pass.old.given }
         ensures same_shares { pass.new.shares ≡ pass.old.shares }
         ensures same_splits { pass.new.splits ≡ pass.old.splits }
-        ensures entry_added { IfOk result (λ reply. EntryAdded event.now reply pass.old pass.new) }
+        ensures entry_added { IfOk result (λ reply. EntryAdded event reply pass.old pass.new) }
         ensures found_none { OnOk result (pass.new.findings ≡ pass.old.findings) }
         ensures no_entry { OnErr result (pass.new.made ≡ pass.old.made) }
         ensures seen_grows { OnErr result (IsPrefix pass.old.seen pass.new.seen) }
         ensures taken_is_found { IfErr result (FoundBy pass.old pass.new) }
-        ensures taken_is_touched { IfErr result (TouchedBy M.core event.now) }
+        ensures taken_is_touched { IfErr result (TouchedBy M.core event) }
         ensures never_taken_with_all_shares { IfErr result (OthersShare pass.old) }
-        ensures refused_on_what_was_seen { IfErr result (TryRefuses M.core event.now pass.new) }
+        ensures refused_on_what_was_seen { IfErr result (TryRefuses M.core event pass.new) }
         ensures right_history { Follows M.core pass.new.given pass.new.seen }
         ensures entries_at_their_numbers { Every (IsAtNumber pass.new.seen) pass.new.made }
     {

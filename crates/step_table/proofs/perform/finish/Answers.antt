@@ -11,8 +11,8 @@ of-held-requires g c =
     let laws = g.met.M.Machine.lawful in
     let ev = c.requires.event in
     let n = c.args.top.now.table_id.slots in
-    let many : length (slots_of c.args.items.items) ≡ length (g.M.Machine.core.touches c.args.event.now) = ap length ev.2 in
-    let room = rising_room n (g.M.Machine.core.touches c.args.event.now) (laws.rising n c.args.event.now ev.1) (laws.below n c.args.event.now ev.1) in
+    let many : length (slots_of c.args.items.items) ≡ length (g.M.Machine.core.touches c.args.event) = ap length ev.2 in
+    let room = rising_room n (g.M.Machine.core.touches c.args.event) (laws.rising n c.args.event ev.1) (laws.below n c.args.event ev.1) in
     let items : length (slots_of c.args.items.items) ≡ length c.args.items.items = length-map c.args.items.items fst in
     let small = c.requires.table.2 in
     record { few = omega arith }
@@ -20,13 +20,13 @@ of-held-requires g c =
 pub prepare-requires-clause-fits : goal.prepare-requires-clause-fits
 prepare-requires-clause-fits g c =
     let core = g.M.Machine.core in let v = c.requires.view in let ev = c.requires.event in let items = c.args.items.items in
-    let a = after_look core g.met.M.Machine.lawful g.N.Announced.event c.args.event.now _ _ items c.args.seat.now.me _ c.look.ensures.told v.1 ev.0 ev.1 ev.2 in
-    subst (λ xs. core.Fits (map core.meaning (parts_of xs)) c.args.event.now) (sym c.of-held.ensures.same) a.fits
+    let a = after_look core g.met.M.Machine.lawful g.N.Announced.event c.args.event _ _ items c.args.seat.now.me _ c.look.ensures.told v.1 ev.0 ev.1 ev.2 in
+    subst (λ xs. core.Fits (map core.meaning (parts_of xs)) c.args.event) (sym c.of-held.ensures.same) a.fits
 
 pub give_all-requires-clause-view : goal.give_all-requires-clause-view
 give_all-requires-clause-view g c =
     let core = g.M.Machine.core in let v = c.requires.view in let ev = c.requires.event in let items = c.args.items.items in
-    let a = after_look core g.met.M.Machine.lawful g.N.Announced.event c.args.event.now _ _ items c.args.seat.now.me _ c.look.ensures.told v.1 ev.0 ev.1 ev.2 in
+    let a = after_look core g.met.M.Machine.lawful g.N.Announced.event c.args.event _ _ items c.args.seat.now.me _ c.look.ensures.told v.1 ev.0 ev.1 ev.2 in
     let held : c.of-held.result ≡ items = c.of-held.ensures.same in
     let slots : slots_of c.prepare.new.held ≡ slots_of items = c.prepare.ensures.slots ∙ ap slots_of held in
     let meaning : map core.meaning (parts_of c.prepare.new.held) ≡ map core.meaning (parts_of items) = c.prepare.ensures.meaning ∙ ap (λ xs. map core.meaning (parts_of xs)) held in
@@ -35,49 +35,49 @@ give_all-requires-clause-view g c =
 pub commit-number-requires-clause-event : goal.commit-number-requires-clause-event
 commit-number-requires-clause-event g c =
     let core = g.M.Machine.core in let v = c.requires.view in let ev = c.requires.event in let items = c.args.items.items in
-    let a = after_look core g.met.M.Machine.lawful g.N.Announced.event c.args.event.now _ _ items c.args.seat.now.me _ c.look.ensures.told v.1 ev.0 ev.1 ev.2 in
+    let a = after_look core g.met.M.Machine.lawful g.N.Announced.event c.args.event _ _ items c.args.seat.now.me _ c.look.ensures.told v.1 ev.0 ev.1 ev.2 in
     (ev.0, a.doing, a.fsts)
 
 pub commit-number-requires-clause-may : goal.commit-number-requires-clause-may
 commit-number-requires-clause-may g c =
     let core = g.M.Machine.core in let v = c.requires.view in let ev = c.requires.event in let items = c.args.items.items in
-    let a = after_look core g.met.M.Machine.lawful g.N.Announced.event c.args.event.now _ _ items c.args.seat.now.me _ c.look.ensures.told v.1 ev.0 ev.1 ev.2 in
+    let a = after_look core g.met.M.Machine.lawful g.N.Announced.event c.args.event _ _ items c.args.seat.now.me _ c.look.ensures.told v.1 ev.0 ev.1 ev.2 in
     let held : c.of-held.result ≡ items = c.of-held.ensures.same in
-    let accepted : core.refusal (map core.meaning (parts_of items)) c.args.event.now ≡ None = ap (λ xs. core.refusal (map core.meaning (parts_of xs)) c.args.event.now) (sym held) ∙ c.in-Ok.ensures.accepted in
-    (ev.1, ap (λ ps. core.refusal ps c.args.event.now) a.snds ∙ accepted)
+    let accepted : core.refusal (map core.meaning (parts_of items)) c.args.event ≡ None = ap (λ xs. core.refusal (map core.meaning (parts_of xs)) c.args.event) (sym held) ∙ c.in-Ok.ensures.accepted in
+    (ev.1, ap (λ ps. core.refusal ps c.args.event) a.snds ∙ accepted)
 
 pub apply-reply-requires-clause-fits : goal.apply-reply-requires-clause-fits
 apply-reply-requires-clause-fits g c =
     let core = g.M.Machine.core in let v = c.requires.view in let ev = c.requires.event in let items = c.args.items.items in
-    let a = after_look core g.met.M.Machine.lawful g.N.Announced.event c.args.event.now _ _ items c.args.seat.now.me _ c.look.ensures.told v.1 ev.0 ev.1 ev.2 in
+    let a = after_look core g.met.M.Machine.lawful g.N.Announced.event c.args.event _ _ items c.args.seat.now.me _ c.look.ensures.told v.1 ev.0 ev.1 ev.2 in
     let held : c.of-held.result ≡ items = c.of-held.ensures.same in
     let slots : slots_of c.prepare.new.held ≡ slots_of items = c.prepare.ensures.slots ∙ ap slots_of held in
     let meaning : map core.meaning (parts_of c.prepare.new.held) ≡ map core.meaning (parts_of items) = c.prepare.ensures.meaning ∙ ap (λ xs. map core.meaning (parts_of xs)) held in
-    let event : core.event_of c.in-Ok.ready ≡ c.args.event.now = c.in-Ok.ensures.event in
-    subst (core.Fits (map core.meaning (parts_of c.prepare.new.held))) (sym event) (subst (λ ps. core.Fits ps c.args.event.now) (sym meaning) a.fits)
+    let event : core.event_of c.in-Ok.ready ≡ c.args.event = c.in-Ok.ensures.event in
+    subst (core.Fits (map core.meaning (parts_of c.prepare.new.held))) (sym event) (subst (λ ps. core.Fits ps c.args.event) (sym meaning) a.fits)
 
 pub give_all-requires-in-Ok-clause-slots : goal.give_all-requires-in-Ok-clause-slots
 give_all-requires-in-Ok-clause-slots g c =
     let core = g.M.Machine.core in let v = c.requires.view in let ev = c.requires.event in let items = c.args.items.items in
-    let a = after_look core g.met.M.Machine.lawful g.N.Announced.event c.args.event.now _ _ items c.args.seat.now.me _ c.look.ensures.told v.1 ev.0 ev.1 ev.2 in
+    let a = after_look core g.met.M.Machine.lawful g.N.Announced.event c.args.event _ _ items c.args.seat.now.me _ c.look.ensures.told v.1 ev.0 ev.1 ev.2 in
     let held : c.of-held.result ≡ items = c.of-held.ensures.same in
     let slots : slots_of c.prepare.new.held ≡ slots_of items = c.prepare.ensures.slots ∙ ap slots_of held in
     let meaning : map core.meaning (parts_of c.prepare.new.held) ≡ map core.meaning (parts_of items) = c.prepare.ensures.meaning ∙ ap (λ xs. map core.meaning (parts_of xs)) held in
     let n = c.commit-number.result in
-    let e = c.args.event.now in
+    let e = c.args.event in
     let slots_now : slots_of c.into_items-in-Ok.result.items ≡ slots_of items = ap slots_of c.into_items-in-Ok.ensures.same ∙ (c.apply-reply.ensures.slots ∙ slots) in
     subst (Every (λ k. k < c.args.top.now.table_id.slots)) (sym (slots_now ∙ ev.2)) (g.met.M.Machine.lawful.below c.args.top.now.table_id.slots e ev.1)
 
 pub give_all-requires-in-Ok-clause-view : goal.give_all-requires-in-Ok-clause-view
 give_all-requires-in-Ok-clause-view g c =
     let core = g.M.Machine.core in let v = c.requires.view in let ev = c.requires.event in let items = c.args.items.items in
-    let a = after_look core g.met.M.Machine.lawful g.N.Announced.event c.args.event.now _ _ items c.args.seat.now.me _ c.look.ensures.told v.1 ev.0 ev.1 ev.2 in
+    let a = after_look core g.met.M.Machine.lawful g.N.Announced.event c.args.event _ _ items c.args.seat.now.me _ c.look.ensures.told v.1 ev.0 ev.1 ev.2 in
     let held : c.of-held.result ≡ items = c.of-held.ensures.same in
     let slots : slots_of c.prepare.new.held ≡ slots_of items = c.prepare.ensures.slots ∙ ap slots_of held in
     let meaning : map core.meaning (parts_of c.prepare.new.held) ≡ map core.meaning (parts_of items) = c.prepare.ensures.meaning ∙ ap (λ xs. map core.meaning (parts_of xs)) held in
-    let event : core.event_of c.in-Ok.ready ≡ c.args.event.now = c.in-Ok.ensures.event in
+    let event : core.event_of c.in-Ok.ready ≡ c.args.event = c.in-Ok.ensures.event in
     let n = c.commit-number.result in
-    let e = c.args.event.now in
+    let e = c.args.event in
     let slots_now : slots_of c.into_items-in-Ok.result.items ≡ slots_of items = ap slots_of c.into_items-in-Ok.ensures.same ∙ (c.apply-reply.ensures.slots ∙ slots) in
     let parts_now : map core.meaning (parts_of c.into_items-in-Ok.result.items) ≡ core.after (map core.meaning (parts_of items)) e (suc n) =
     ap (λ xs. map core.meaning (parts_of xs)) c.into_items-in-Ok.ensures.same ∙ (c.apply-reply.ensures.parts ∙ (ap (λ x. core.after (map core.meaning (parts_of c.prepare.new.held)) x (n + 1)) event
@@ -89,18 +89,18 @@ give_all-requires-in-Ok-clause-view g c =
 pub returns-in-Err-clause-err : goal.returns-in-Err-clause-err
 returns-in-Err-clause-err g c =
     let core = g.M.Machine.core in let v = c.requires.view in let ev = c.requires.event in let items = c.args.items.items in
-    let a = after_look core g.met.M.Machine.lawful g.N.Announced.event c.args.event.now _ _ items c.args.seat.now.me _ c.look.ensures.told v.1 ev.0 ev.1 ev.2 in
-    declined core c.args.event.now items c.in-Err.refused c.args.seat.now.me _ _ a c.give_all.ensures.back.0 (subst (λ xs. (c.in-Err.refused ≡ core.no_memory) ⊎ (core.refusal (map core.meaning (parts_of xs)) c.args.event.now ≡ Some c.in-Err.refused)) c.of-held.ensures.same c.in-Err.ensures.refused)
+    let a = after_look core g.met.M.Machine.lawful g.N.Announced.event c.args.event _ _ items c.args.seat.now.me _ c.look.ensures.told v.1 ev.0 ev.1 ev.2 in
+    declined core c.args.event items c.in-Err.refused c.args.seat.now.me _ _ a c.give_all.ensures.back.0 (subst (λ xs. (c.in-Err.refused ≡ core.no_memory) ⊎ (core.refusal (map core.meaning (parts_of xs)) c.args.event ≡ Some c.in-Err.refused)) c.of-held.ensures.same c.in-Err.ensures.refused)
 
 pub returns-in-Ok-clause-ok : goal.returns-in-Ok-clause-ok
 returns-in-Ok-clause-ok g c =
     let core = g.M.Machine.core in let v = c.requires.view in let ev = c.requires.event in let items = c.args.items.items in
-    let a = after_look core g.met.M.Machine.lawful g.N.Announced.event c.args.event.now _ _ items c.args.seat.now.me _ c.look.ensures.told v.1 ev.0 ev.1 ev.2 in
+    let a = after_look core g.met.M.Machine.lawful g.N.Announced.event c.args.event _ _ items c.args.seat.now.me _ c.look.ensures.told v.1 ev.0 ev.1 ev.2 in
     let held : c.of-held.result ≡ items = c.of-held.ensures.same in
     let slots : slots_of c.prepare.new.held ≡ slots_of items = c.prepare.ensures.slots ∙ ap slots_of held in
     let meaning : map core.meaning (parts_of c.prepare.new.held) ≡ map core.meaning (parts_of items) = c.prepare.ensures.meaning ∙ ap (λ xs. map core.meaning (parts_of xs)) held in
-    let event : core.event_of c.in-Ok.ready ≡ c.args.event.now = c.in-Ok.ensures.event in
-    let e = c.args.event.now in
+    let event : core.event_of c.in-Ok.ready ≡ c.args.event = c.in-Ok.ensures.event in
+    let e = c.args.event in
     let n = c.commit-number.result in
     let reply : c.apply-reply.result ≡ core.reply (map core.meaning (parts_of items)) e (suc n) =
     c.apply-reply.ensures.reply ∙ (ap (λ x. core.reply (map core.meaning (parts_of c.prepare.new.held)) x (n + 1)) event ∙ (ap (λ ps. core.reply ps e (n + 1)) meaning ∙ ap (core.reply (map core.meaning (parts_of items)) e) (add-one n))) in

@@ -7,7 +7,7 @@ pub take_all-requires-clause-slots : goal.take_all-requires-clause-slots
 take_all-requires-clause-slots g c =
     let core = g.M.Machine.core in
     let laws = g.met.M.Machine.lawful in
-    let e = c.args.event.now in
+    let e = c.args.event in
     let n = c.args.top.now.table_id.slots in
     let is : c.as_slice.result.now ≡ core.touches e = c.as_slice.ensures.same ∙ c.in-Some.ensures.slots in (
       subst (Every (λ k. k < n)) (sym is) (laws.below n e c.requires.event.1),
@@ -18,4 +18,4 @@ take_all-requires-clause-slots g c =
 pub returns-clause-ok : goal.returns-clause-ok
 returns-clause-ok g c =
     let core = g.M.Machine.core in
-    ok_then _ _ c.finish.result (λ r p. performed_later core c.args.event.now r c.args.seat.now.me.0 _ _ c.take_all.ensures.alike p) c.finish.ensures.ok
+    ok_then _ _ c.finish.result (λ r p. performed_later core c.args.event r c.args.seat.now.me.0 _ _ c.take_all.ensures.alike p) c.finish.ensures.ok

@@ -7,7 +7,7 @@ pub try_all-requires-clause-slots : goal.try_all-requires-clause-slots
 try_all-requires-clause-slots g c =
     let core = g.M.Machine.core in
     let laws = g.met.M.Machine.lawful in
-    let e = c.args.event.now in
+    let e = c.args.event in
     let n = c.args.top.now.table_id.slots in
     let is : c.as_slice.result.now ≡ core.touches e = c.as_slice.ensures.same ∙ c.in-Some.ensures.slots in (
       subst (Every (λ k. k < n)) (sym is) (laws.below n e c.requires.event.1),
@@ -17,4 +17,4 @@ try_all-requires-clause-slots g c =
 
 pub returns-in-Ok-clause-ok : goal.returns-in-Ok-clause-ok
 returns-in-Ok-clause-ok g c =
-    performed_later g.M.Machine.core c.args.event.now c.in-Ok.reply c.args.seat.now.me.0 _ _ c.try_all.ensures.alike c.in-Ok.ensures.ok
+    performed_later g.M.Machine.core c.args.event c.in-Ok.reply c.args.seat.now.me.0 _ _ c.try_all.ensures.alike c.in-Ok.ensures.ok

@@ -9,13 +9,13 @@ pub returns-clause-entry_added : goal.returns-clause-entry_added
 returns-clause-entry_added g c =
     let old = c.pass.inside.seat in
     let new = c.try_perform_as.new.seat in
-    ok_gives _ _ c.try_perform_as.result (λ reply p. subst (λ v. EntryAdded c.args.event.now reply v (told g.M.Machine.core new.table_id new.me.0)) c.pass.view_is
-    (added g.M.Machine.core c.args.event.now reply old.table_id new.table_id old.me.0 new.me.0 c.try_perform_as.ensures.same.given p)) c.try_perform_as.ensures.ok
+    ok_gives _ _ c.try_perform_as.result (λ reply p. subst (λ v. EntryAdded c.args.event reply v (told g.M.Machine.core new.table_id new.me.0)) c.pass.view_is
+    (added g.M.Machine.core c.args.event reply old.table_id new.table_id old.me.0 new.me.0 c.try_perform_as.ensures.same.given p)) c.try_perform_as.ensures.ok
 
 pub returns-clause-no_entry : goal.returns-clause-no_entry
 returns-clause-no_entry g c =
     let new = c.try_perform_as.new.seat in
-    err_says _ _ c.try_perform_as.result (λ t d. subst (λ v. new.me.0.mine ≡ v.made) c.pass.view_is (try_made g.M.Machine.core c.args.event.now c.pass.inside.seat.me.0 new.me.0 t d)) c.try_perform_as.ensures.err
+    err_says _ _ c.try_perform_as.result (λ t d. subst (λ v. new.me.0.mine ≡ v.made) c.pass.view_is (try_made g.M.Machine.core c.args.event c.pass.inside.seat.me.0 new.me.0 t d)) c.try_perform_as.ensures.err
 
 pub returns-clause-seen_grows : goal.returns-clause-seen_grows
 returns-clause-seen_grows g c =
@@ -23,7 +23,7 @@ returns-clause-seen_grows g c =
     let old = c.pass.inside.seat in
     let new = c.try_perform_as.new.seat in
     err_says _ _ c.try_perform_as.result (λ t d. subst (λ v. IsPrefix v.seen (told core new.table_id new.me.0).seen) c.pass.view_is
-    (seen_later core old.me.0 new.me.0 c.try_perform_as.ensures.same.given (try_later core c.args.event.now old.me.0 new.me.0 t d))) c.try_perform_as.ensures.err
+    (seen_later core old.me.0 new.me.0 c.try_perform_as.ensures.same.given (try_later core c.args.event old.me.0 new.me.0 t d))) c.try_perform_as.ensures.err
 
 pub returns-clause-taken_is_found : goal.returns-clause-taken_is_found
 returns-clause-taken_is_found g c =
@@ -31,22 +31,22 @@ returns-clause-taken_is_found g c =
     let old = c.pass.inside.seat in
     let new = c.try_perform_as.new.seat in
     err_gives _ _ c.try_perform_as.result (λ t d. subst (λ v. FoundBy v (told core new.table_id new.me.0) t) c.pass.view_is
-    (try_found core c.args.event.now old.table_id new.table_id old.me.0 new.me.0 t d)) c.try_perform_as.ensures.err
+    (try_found core c.args.event old.table_id new.table_id old.me.0 new.me.0 t d)) c.try_perform_as.ensures.err
 
 pub returns-clause-taken_is_touched : goal.returns-clause-taken_is_touched
 returns-clause-taken_is_touched g c =
-    err_gives _ _ c.try_perform_as.result (λ t d. try_touched g.M.Machine.core c.args.event.now c.pass.inside.seat.me.0 c.try_perform_as.new.seat.me.0 t d) c.try_perform_as.ensures.err
+    err_gives _ _ c.try_perform_as.result (λ t d. try_touched g.M.Machine.core c.args.event c.pass.inside.seat.me.0 c.try_perform_as.new.seat.me.0 t d) c.try_perform_as.ensures.err
 
 pub returns-clause-never_taken_with_all_shares : goal.returns-clause-never_taken_with_all_shares
 returns-clause-never_taken_with_all_shares g c =
     let old = c.pass.inside.seat in
     err_gives _ _ c.try_perform_as.result (λ t d. subst (λ v. OthersShare v t) c.pass.view_is
-    (try_others g.M.Machine.core c.args.event.now old.table_id old.me.0 c.try_perform_as.new.seat.me.0 t d)) c.try_perform_as.ensures.err
+    (try_others g.M.Machine.core c.args.event old.table_id old.me.0 c.try_perform_as.new.seat.me.0 t d)) c.try_perform_as.ensures.err
 
 pub returns-clause-refused_on_what_was_seen : goal.returns-clause-refused_on_what_was_seen
 returns-clause-refused_on_what_was_seen g c =
     let new = c.try_perform_as.new.seat in
-    err_gives _ _ c.try_perform_as.result (λ t d. try_refuses g.M.Machine.core c.args.event.now new.table_id c.pass.inside.seat.me.0 new.me.0 t d) c.try_perform_as.ensures.err
+    err_gives _ _ c.try_perform_as.result (λ t d. try_refuses g.M.Machine.core c.args.event new.table_id c.pass.inside.seat.me.0 new.me.0 t d) c.try_perform_as.ensures.err
 
 pub returns-clause-right_history : goal.returns-clause-right_history
 returns-clause-right_history g c = knows_follows g.M.Machine.core g.met.M.Machine.lawful c.try_perform_as.new.seat.me.0 c.try_perform_as.ensures.idle.1

@@ -69,18 +69,7 @@ entering_few (IsCopying ∷ states) = none_few
 act_few : (act : Act) (reply : Reply) (slots n : ℕ) (m : Master) → ActAsked slots act → ActCovered act → (kind : Kind) → drawn_of kind (drawn_by act reply n m) ≤ most_slots
 act_few (Change command plan) reply slots n m asked covered = making_few (made_by reply) command n m asked.0 covered
 act_few (Advance operation) reply slots n m asked covered = entering_few (entered_by reply)
-act_few (Look ask) reply slots n m asked covered = none_few
-act_few (Write place version batch) reply slots n m asked covered = none_few
-act_few (Read places version key at columns) reply slots n m asked covered = none_few
-act_few (Cutoff slot) reply slots n m asked covered = none_few
-act_few (Compact slot) reply slots n m asked covered = none_few
-act_few (Send operation slot) reply slots n m asked covered = none_few
-act_few (Process slot other) reply slots n m asked covered = none_few
-act_few (Ack operation slot) reply slots n m asked covered = none_few
-act_few (Remove target plan) reply slots n m asked covered = none_few
-act_few Prune reply slots n m asked covered = none_few
-act_few (Restart slot) reply slots n m asked covered = none_few
-act_few (Stats slot) reply slots n m asked covered = none_few
+act_few _ reply slots n m asked covered = none_few
 
 -- The master's log
 

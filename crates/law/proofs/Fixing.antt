@@ -116,16 +116,14 @@ gone_home before v e = cc
 
 home_after : (act : ChangeAct) (id : Id) (before : Id → Option TableView) (then_ : ℕ → Id → Option TableView) → stays_home act ≡ true
     → IsAtHome (before id) (table_after act id before then_)
-home_after (NamespaceMade namespace name) id before then_ home = unchanged (before id)
-home_after (NamespaceDropped namespace) id before then_ home = unchanged (before id)
 home_after (TableMade table namespace name columns) id before then_ home = absurd (true≢false (sym home))
 home_after (TableRenamed table name) id before then_ home = if_changed (same table id) (before id) _ (renamed_home name (before id))
 home_after (TableDropped table) id before then_ home = if_changed (same table id) (before id) None (gone_home (before id))
 home_after (ColumnAdded table column) id before then_ home = if_changed (same table id) (before id) _ (added_home column (before id))
 home_after (ColumnDropped table column) id before then_ home = if_changed (same table id) (before id) _ (dropped_home column (before id))
-home_after (RowChanged table key op) id before then_ home = unchanged (before id)
 home_after (NamespaceRestored namespace to) id before then_ home = absurd (true≢false (sym home))
 home_after (NamespaceCloned source target name to tables) id before then_ home = absurd (true≢false (sym home))
+home_after _ id before then_ home = unchanged (before id)
 
 none_made : (act : ChangeAct) (id : Id) → stays_home act ≡ true → owner_by act id ≡ None
 none_made (TableMade table namespace name columns) id home = absurd (true≢false (sym home))

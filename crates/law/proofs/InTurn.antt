@@ -137,24 +137,7 @@ record Draws (act : Act) (n : ℕ) (m : Master) (o : Outcome) : Type 0 where
 
 given_none : (command : Command) (m : Master) → CommandCovered command → given_for command [] m ≡ none_given
 given_none (CloneNamespace source target to) m covered = absurd covered
-given_none (CreateNamespace name) m covered = refl
-given_none (DropNamespace name) m covered = refl
-given_none (CreateTable namespace table tablets columns) m covered = refl
-given_none (AddColumn namespace table name kind) m covered = refl
-given_none (DropColumn namespace table name) m covered = refl
-given_none (RenameTable namespace table name) m covered = refl
-given_none (DropTable namespace table) m covered = refl
-given_none (Split namespace table code) m covered = refl
-given_none (CreateSchedule interval retention namespace) m covered = refl
-given_none (EditSchedule schedule interval retention) m covered = refl
-given_none (DeleteSchedule schedule) m covered = refl
-given_none (TakeSnapshot schedule) m covered = refl
-given_none (Restore schedule to) m covered = refl
-given_none ListSchedules m covered = refl
-given_none ListSnapshots m covered = refl
-given_none ListRestorations m covered = refl
-given_none ListClones m covered = refl
-given_none (ListTablets namespace) m covered = refl
+given_none _ m covered = refl
 
 refused_next : (command : Command) (slots : List ℕ) (n : ℕ) (m : Master) (why : Refusal) → CommandCovered command → Draws (Change command slots) n m (refused why)
 refused_next command slots n m why covered = record { next = none_next (Change command slots) (Refused why) n m (record m { clock = n }) refl (given_none command (record m { clock = n }) covered) refl }
@@ -251,15 +234,7 @@ is_snapshot IsCopying = false
 -- a move into a state that makes no snapshot
 quiet_move : (operation : Id) (next : State) (n : ℕ) (before after : Master) → is_snapshot next ≡ false → after.drawn ≡ before.drawn → DrawsNext (Advance operation) (Advanced next) n before after
 quiet_move operation IsSnapshot n before after e same_ = absurd (let q = e in grind arith)
-quiet_move operation IsCreating n before after e same_ = none_next _ _ n before after refl refl same_
-quiet_move operation IsComplete n before after e same_ = none_next _ _ n before after refl refl same_
-quiet_move operation IsFencing n before after e same_ = none_next _ _ n before after refl refl same_
-quiet_move operation IsSwitching n before after e same_ = none_next _ _ n before after refl refl same_
-quiet_move operation IsRestoring n before after e same_ = none_next _ _ n before after refl refl same_
-quiet_move operation IsReleasing n before after e same_ = none_next _ _ n before after refl refl same_
-quiet_move operation IsRestored n before after e same_ = none_next _ _ n before after refl refl same_
-quiet_move operation IsAccepted n before after e same_ = none_next _ _ n before after refl refl same_
-quiet_move operation IsCopying n before after e same_ = none_next _ _ n before after refl refl same_
+quiet_move operation _ n before after e same_ = none_next _ _ n before after refl refl same_
 
 -- a restoration makes a snapshot for itself
 own_move : (r : RestorationRecord) (operation : Id) (n : ℕ) (ps : Parts) (activity : List Interval) (changes : List Made) → operation.kind ≡ Restoration → unfinished_restoration ps.master.restorations operation ≡ Some r → Inv ps activity changes
@@ -281,8 +256,7 @@ state_next Fencing r operation n ps activity changes kind found inv = own_move r
 state_next (Snapshotting point own) r operation n ps activity changes kind found inv = quiet_move operation IsSwitching n ps.master _ refl refl
 state_next (Switching point serving) r operation n ps activity changes kind found inv = quiet_move operation IsRestoring n ps.master _ refl refl
 state_next (Restoring point serving) r operation n ps activity changes kind found inv = quiet_move operation IsReleasing n ps.master _ refl refl
-state_next (Releasing point serving) r operation n ps activity changes kind found inv = quiet_move operation IsRestored n ps.master _ refl refl
-state_next (Restored point serving) r operation n ps activity changes kind found inv = quiet_move operation IsRestored n ps.master _ refl refl
+state_next _ r operation n ps activity changes kind found inv = quiet_move operation IsRestored n ps.master _ refl refl
 
 waits_next : (awaited : Option Id) (operation : Id) (next : State) (n : ℕ) (m : Master) → DrawsNext (Advance operation) (Advanced next) n m (moved operation n m) → Draws (Advance operation) n m (moving awaited operation next)
 waits_next (Some on) operation next n m h = record { next = none_next _ _ n m _ refl refl refl }
@@ -307,10 +281,7 @@ kind_next : (kind : Kind) (operation : Id) (n : ℕ) (ps : Parts) (activity : Li
 kind_next Clone operation n ps activity changes is covered inv = absurd covered
 kind_next Restoration operation n ps activity changes is covered inv = restoration_next (unfinished_restoration ps.master.restorations operation) operation n ps activity changes is refl inv
 kind_next Snapshot operation n ps activity changes is covered inv = snapshot_next (unfinished_snapshot ps.master.snapshots operation) operation n ps.master is refl
-kind_next Namespace operation n ps activity changes is covered inv = record { next = none_next _ _ n ps.master _ refl refl refl }
-kind_next Table operation n ps activity changes is covered inv = record { next = none_next _ _ n ps.master _ refl refl refl }
-kind_next Tablet operation n ps activity changes is covered inv = record { next = none_next _ _ n ps.master _ refl refl refl }
-kind_next Schedule operation n ps activity changes is covered inv = record { next = none_next _ _ n ps.master _ refl refl refl }
+kind_next _ operation n ps activity changes is covered inv = record { next = none_next _ _ n ps.master _ refl refl refl }
 
 -- Each act
 
@@ -325,28 +296,13 @@ acked_drawn Clone operation slot n m = refl
 acked_drawn _ operation slot n m = refl
 
 plain_drawn : (a : MasterAct) (n : ℕ) (m : Master) → is_weighty a ≡ false → (master_effect a n m).drawn ≡ m.drawn
-plain_drawn (MakesNamespace name) n m e = absurd (let q = e in grind arith)
-plain_drawn (DropsNamespace namespace) n m e = absurd (let q = e in grind arith)
-plain_drawn (MakesTable namespace name columns slots) n m e = absurd (let q = e in grind arith)
-plain_drawn (AddsColumn table name kind) n m e = absurd (let q = e in grind arith)
-plain_drawn (DropsColumn table column) n m e = absurd (let q = e in grind arith)
-plain_drawn (RenamesTable table name) n m e = absurd (let q = e in grind arith)
-plain_drawn (DropsTable table) n m e = absurd (let q = e in grind arith)
-plain_drawn (SplitsTablet parent code low_slot high_slot) n m e = absurd (let q = e in grind arith)
-plain_drawn (MakesSchedule namespace interval retention) n m e = absurd (let q = e in grind arith)
-plain_drawn (EditsSchedule schedule interval retention) n m e = absurd (let q = e in grind arith)
-plain_drawn (DeletesSchedule schedule) n m e = absurd (let q = e in grind arith)
-plain_drawn (TakesSnapshot schedule) n m e = absurd (let q = e in grind arith)
-plain_drawn (BeginsRestoration schedule to) n m e = absurd (let q = e in grind arith)
-plain_drawn (BeginsClone namespace source target to) n m e = absurd (let q = e in grind arith)
-plain_drawn (Moves operation) n m e = absurd (let q = e in grind arith)
-plain_drawn Prunes n m e = absurd (let q = e in grind arith)
 plain_drawn Ticks n m e = refl
 plain_drawn (Sends operation slot) n m e = refl
 plain_drawn (Acks operation slot) n m e = acked_drawn operation.kind operation slot n m
 plain_drawn (Unsends operation slot) n m e = refl
 plain_drawn (Removes target) n m e = removed_drawn target.kind target n m
 plain_drawn Restarts n m e = refl
+plain_drawn _ n m e = absurd (let q = e in grind arith)
 
 abbrev Turn : Act → ℕ → Parts → Type 0
 Turn act n ps = DrawsNext act (outcome act n ps).reply n ps.master (told act (outcome act n ps) n ps).master

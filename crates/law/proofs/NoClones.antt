@@ -72,28 +72,11 @@ BeginsNone Prunes = Unit {0}
 BeginsNone Restarts = Unit {0}
 
 effect_clones : (act : MasterAct) (n : ℕ) (m : Master) → BeginsNone act → m.clones ≡ [] → (master_effect act n m).clones ≡ []
-effect_clones Ticks n m covered none = none
-effect_clones (MakesNamespace name) n m covered none = none
-effect_clones (DropsNamespace namespace) n m covered none = none
-effect_clones (MakesTable namespace name columns slots) n m covered none = none
-effect_clones (AddsColumn t name kind) n m covered none = none
-effect_clones (DropsColumn t column) n m covered none = none
-effect_clones (RenamesTable t name) n m covered none = none
-effect_clones (DropsTable table) n m covered none = none
-effect_clones (SplitsTablet parent code low_slot high_slot) n m covered none = none
-effect_clones (MakesSchedule namespace interval retention) n m covered none = none
-effect_clones (EditsSchedule schedule interval retention) n m covered none = none
-effect_clones (DeletesSchedule schedule) n m covered none = none
-effect_clones (TakesSnapshot schedule) n m covered none = none
-effect_clones (BeginsRestoration schedule to) n m covered none = none
 effect_clones (BeginsClone namespace source target to) n m covered none = absurd covered
-effect_clones (Sends operation slot) n m covered none = none
 effect_clones (Acks operation slot) n m covered none = acked_clones operation.kind operation slot n m none
-effect_clones (Unsends operation slot) n m covered none = none
 effect_clones (Moves operation) n m covered none = moved_clones operation.kind operation n m none
 effect_clones (Removes target) n m covered none = removed_clones target.kind target n m ∙ none
-effect_clones Prunes n m covered none = none
-effect_clones Restarts n m covered none = none
+effect_clones _ n m covered none = none
 
 -- What a covered act tells the master
 

@@ -120,28 +120,13 @@ acked_tables Clone operation slot n m = refl
 acked_tables _ operation slot n m = refl
 
 plain_tables : (a : MasterAct) (n : ℕ) (m : Master) → is_weighty a ≡ false → (master_effect a n m).catalog.tables ≡ m.catalog.tables
-plain_tables (MakesNamespace name) n m e = absurd (let q = e in grind arith)
-plain_tables (DropsNamespace namespace) n m e = absurd (let q = e in grind arith)
-plain_tables (MakesTable namespace name columns slots) n m e = absurd (let q = e in grind arith)
-plain_tables (AddsColumn table name kind) n m e = absurd (let q = e in grind arith)
-plain_tables (DropsColumn table column) n m e = absurd (let q = e in grind arith)
-plain_tables (RenamesTable table name) n m e = absurd (let q = e in grind arith)
-plain_tables (DropsTable table) n m e = absurd (let q = e in grind arith)
-plain_tables (SplitsTablet parent code low_slot high_slot) n m e = absurd (let q = e in grind arith)
-plain_tables (MakesSchedule namespace interval retention) n m e = absurd (let q = e in grind arith)
-plain_tables (EditsSchedule schedule interval retention) n m e = absurd (let q = e in grind arith)
-plain_tables (DeletesSchedule schedule) n m e = absurd (let q = e in grind arith)
-plain_tables (TakesSnapshot schedule) n m e = absurd (let q = e in grind arith)
-plain_tables (BeginsRestoration schedule to) n m e = absurd (let q = e in grind arith)
-plain_tables (BeginsClone namespace source target to) n m e = absurd (let q = e in grind arith)
-plain_tables (Moves operation) n m e = absurd (let q = e in grind arith)
-plain_tables Prunes n m e = absurd (let q = e in grind arith)
 plain_tables Ticks n m e = refl
 plain_tables (Sends operation slot) n m e = refl
 plain_tables (Acks operation slot) n m e = acked_tables operation.kind operation slot n m
 plain_tables (Unsends operation slot) n m e = refl
 plain_tables (Removes target) n m e = removed_tables target.kind target n m
 plain_tables Restarts n m e = refl
+plain_tables _ n m e = absurd (let q = e in grind arith)
 
 -- after an act: the schemas of the parts that it leaves, and the journal with its changes
 abbrev Left : Act → ℕ → Parts → List made.Change → Type 0
@@ -161,12 +146,8 @@ written (one ∷ rest) n table batch rs changes h = rows_changed batch rs change
 
 state_go : (state : RestorationState) (r : RestorationRecord) (n : ℕ) (m : Master) (changes : List made.Change) → TablesStand m.catalog m.clock m.drawn.tables changes → (is_restored state ≡ false → kept_from m.catalog.kept_from r.namespace ≤ r.to) → Stand m changes
     → Stand (restoration_moved state r n m) (with_restoration state r changes)
-state_go Fencing r n m changes tables known h = h
-state_go (Snapshotting point own) r n m changes tables known h = h
 state_go (Switching point serving) r n m changes tables known h = tables_restored m changes r.namespace r.to point tables (known refl) h
-state_go (Restoring point serving) r n m changes tables known h = h
-state_go (Releasing point serving) r n m changes tables known h = h
-state_go (Restored point serving) r n m changes tables known h = h
+state_go _ r n m changes tables known h = h
 
 restoration_go : (found : Option RestorationRecord) (n : ℕ) (ps : Parts) (activity : List Interval) (changes : List made.Change) (operation : Id) → unfinished_restoration ps.master.restorations operation ≡ found → Inv ps activity changes → Stand ps.master changes
     → Stand (option_map_or (λ r. restoration_moved r.state r n ps.master) found (record ps.master { clock = n })) (with_either found None n changes)

@@ -86,11 +86,7 @@ removing_snapshot_none (Some r) target slots n ps = search (unless_none)
 removing_none : (kind : Kind) (target : Id) (slots : List ℕ) (n : ℕ) (ps : Parts) → IsPlain (removing kind target slots n ps)
 removing_none Tablet target slots n ps = removing_tablet_none (last_of ps.master.activity target) target slots n ps
 removing_none Snapshot target slots n ps = removing_snapshot_none (snapshot_with ps.master.snapshots target) target slots n ps
-removing_none Namespace target slots n ps = search (unless_none)
-removing_none Table target slots n ps = search (unless_none)
-removing_none Schedule target slots n ps = search (unless_none)
-removing_none Restoration target slots n ps = search (unless_none)
-removing_none Clone target slots n ps = search (unless_none)
+removing_none _ target slots n ps = search (unless_none)
 
 restart_none : (slot n : ℕ) (ps : Parts) → IsPlain (restart slot n ps)
 unfolding restart

@@ -124,8 +124,6 @@ source_there (p ∷ ps) target source e = either_way (same p.target target)
 
 clone_facts : (state : CloneState) (ps : Parts) (activity : List Interval) (changes : List Change) (c : CloneRecord) → c.state ≡ state → Inv ps activity changes → In c ps.master.clones
     → CloneStateGood state ps.master c → ((slot : ℕ) → CloneSlot state ps.master changes c slot (ps.tablet slot)) → CloneStateFacts state c ps changes
-clone_facts Accepted ps activity changes c is inv isin good each = tt
-clone_facts (CloneSnapshot own) ps activity changes c is inv isin good each = tt
 clone_facts (Copying serving at) ps activity changes c is inv isin good each = λ l p source lists paired same_ found acked. (
     let b = good.bodies l lists in
     let one : p ≡ b.pair = (inv.operations.clones c isin).one_target p b.pair paired b.paired (same_ ∙ b.tablet_is) in
@@ -135,6 +133,7 @@ clone_facts (Copying serving at) ps activity changes c is inv isin good each = �
     (k.fenced, subst (λ table. AreRowsAt (ps.tablet l.slot).versions p.low p.high at changes c.to table) d.1.1.1 (k.rows d.0 d.1.0 d.1.1.0)))
 clone_facts (CloneReleasing serving at) ps activity changes c is inv isin good each = λ l lists acked. (let h = each l.slot l lists refl in unfenced c.id (ps.tablet l.slot).fence (h.released (h.acked acked)))
 clone_facts (CloneComplete serving at) ps activity changes c is inv isin good each = none_fenced_clone ps activity changes c inv isin (ap is_cloned is)
+clone_facts _ ps activity changes c is inv isin good each = tt
 
 pub all_recorded : (ps : Parts) (activity : List Interval) (changes : List Change) → Inv ps activity changes → RecordFacts ps changes
 all_recorded ps activity changes inv = record {

@@ -56,14 +56,13 @@ work_keeps (act ∷ acts) slots r =
     tail_of_tail r.history next.history (worked_off slots acts next).history (event_keeps slots event r) (work_keeps acts slots next)
 
 taken_keeps : (course : Course) (slots : ℕ) (r : Run) → IsTail r.history (taken slots course r).history
-taken_keeps (SetReading micros) slots r = tail_itself r.history
-taken_keeps (SetLag slot micros) slots r = tail_itself r.history
 taken_keeps (Perform act) slots r = performed_keeps slots act r
 taken_keeps (LookFor ask follow showing) slots r =
     let next = performed slots (Look ask) r in
     tail_of_tail r.history next.history (followed slots follow next).history (performed_keeps slots (Look ask) r) (all_keep (after_look follow next.history) slots next)
 taken_keeps (WorkOff work) slots r = work_keeps (work (replay slots r.history)) slots r
 taken_keeps ShowEntries slots r = tail_itself r.history
+taken_keeps _ slots r = tail_itself r.history
 
 made_keeps : (c : ScriptCommand) (slots : ℕ) (r : Run) → IsTail r.history (made_by slots c r).history
 unfolding made_by

@@ -29,11 +29,7 @@ own_slots (Some s) r n m = refl
 
 restoration_slots : (state : RestorationState) (r : RestorationRecord) (n : ℕ) (m : Master) → (restoration_moved state r n m).slots ≡ m.slots
 restoration_slots Fencing r n m = refl
-restoration_slots (Snapshotting point own) r n m = refl
-restoration_slots (Switching point serving) r n m = refl
-restoration_slots (Restoring point serving) r n m = refl
-restoration_slots (Releasing point serving) r n m = refl
-restoration_slots (Restored point serving) r n m = refl
+restoration_slots _ r n m = refl
 
 begun_slots : (found : Option SnapshotRecord) (r : CloneRecord) (n : ℕ) (m : Master) → (begins_clone found r n m).slots ≡ m.slots
 begun_slots None r n m = own_slots (schedule_of m.schedules r.source) r n m
@@ -59,28 +55,10 @@ moved_slots _ operation n m = refl
 -- All that the master may be told
 
 effect_slots : (act : MasterAct) (n : ℕ) (m : Master) → (master_effect act n m).slots ≡ m.slots
-effect_slots Ticks n m = refl
-effect_slots (MakesNamespace name) n m = refl
-effect_slots (DropsNamespace namespace) n m = refl
-effect_slots (MakesTable namespace name columns slots) n m = refl
-effect_slots (AddsColumn table name kind) n m = refl
-effect_slots (DropsColumn table column) n m = refl
-effect_slots (RenamesTable table name) n m = refl
-effect_slots (DropsTable table) n m = refl
-effect_slots (SplitsTablet parent code low_slot high_slot) n m = refl
-effect_slots (MakesSchedule namespace interval retention) n m = refl
-effect_slots (EditsSchedule schedule interval retention) n m = refl
-effect_slots (DeletesSchedule schedule) n m = refl
-effect_slots (TakesSnapshot schedule) n m = refl
-effect_slots (BeginsRestoration schedule to) n m = refl
-effect_slots (BeginsClone namespace source target to) n m = refl
-effect_slots (Sends operation slot) n m = refl
 effect_slots (Acks operation slot) n m = acked_slots operation.kind operation slot n m
-effect_slots (Unsends operation slot) n m = refl
 effect_slots (Moves operation) n m = moved_slots operation.kind operation n m
 effect_slots (Removes target) n m = removed_slots target.kind target n m
-effect_slots Prunes n m = refl
-effect_slots Restarts n m = refl
+effect_slots _ n m = refl
 
 told_slots : (act : Act) (o : Outcome) (n : ℕ) (ps : Parts) → (told act o n ps).master.slots ≡ ps.master.slots
 told_slots act o n ps = cond_both (has (slots_of act) 0) (master_effect o.master n ps.master) ps.master (λ m. m.slots ≡ ps.master.slots) (λ _. effect_slots o.master n ps.master) (λ _. refl)

@@ -44,11 +44,7 @@ clones_own_goes (Some s) c n m = added m c.source s.id n
 
 restoration_goes : (state : RestorationState) (r : RestorationRecord) (n : ℕ) (m : Master) → Goes m (restoration_moved state r n m).snapshots
 restoration_goes Fencing r n m = added m r.namespace r.schedule n
-restoration_goes (Snapshotting point own) r n m = stays m
-restoration_goes (Switching point serving) r n m = stays m
-restoration_goes (Restoring point serving) r n m = stays m
-restoration_goes (Releasing point serving) r n m = stays m
-restoration_goes (Restored point serving) r n m = stays m
+restoration_goes _ r n m = stays m
 
 begun_goes : (serving : Option SnapshotRecord) (c : CloneRecord) (n : ℕ) (m : Master) → Goes m (begins_clone serving c n m).snapshots
 begun_goes (Some s) c n m = stays m
@@ -56,10 +52,7 @@ begun_goes None c n m = clones_own_goes (schedule_of m.schedules c.source) c n m
 
 clone_goes : (state : CloneState) (c : CloneRecord) (n : ℕ) (m : Master) → Goes m (clone_moved state c n m).snapshots
 clone_goes Accepted c n m = begun_goes (serving_clone m c) c n m
-clone_goes (CloneSnapshot own) c n m = stays m
-clone_goes (Copying serving copied_at) c n m = stays m
-clone_goes (CloneReleasing serving copied_at) c n m = stays m
-clone_goes (CloneComplete serving copied_at) c n m = stays m
+clone_goes _ c n m = stays m
 
 found_snapshot : (found : Option SnapshotRecord) (n : ℕ) (m : Master) → Goes m (option_map_or (λ r. completed r n m) found (record m { clock = n })).snapshots
 found_snapshot None n m = stays m
@@ -77,10 +70,7 @@ move_goes : (kind : Kind) (id : Id) (n : ℕ) (m : Master) → Goes m (moved_of 
 move_goes Snapshot id n m = found_snapshot (unfinished_snapshot m.snapshots id) n m
 move_goes Restoration id n m = found_restoration (unfinished_restoration m.restorations id) n m
 move_goes Clone id n m = found_clone (unfinished_clone m.clones id) n m
-move_goes Namespace id n m = stays m
-move_goes Table id n m = stays m
-move_goes Tablet id n m = stays m
-move_goes Schedule id n m = stays m
+move_goes _ id n m = stays m
 
 acked_goes : (kind : Kind) (operation : Id) (slot n : ℕ) (m : Master) → Goes m (acked_by kind operation slot n m).snapshots
 acked_goes Snapshot operation slot n m = updated m (λ x. x.complete) _
@@ -89,37 +79,15 @@ acked_goes Clone operation slot n m = stays m
 acked_goes _ operation slot n m = stays m
 
 removed_goes : (kind : Kind) (target : Id) (n : ℕ) (m : Master) → Goes m (removed_of kind target n m).snapshots
-removed_goes Namespace target n m = stays m
-removed_goes Table target n m = stays m
-removed_goes Tablet target n m = stays m
-removed_goes Schedule target n m = stays m
-removed_goes Restoration target n m = stays m
-removed_goes Clone target n m = stays m
 removed_goes Snapshot target n m = λ r isin. stays m r (filter_in m.snapshots (λ q. not (same q.id target)) r isin).0
+removed_goes _ target n m = stays m
 
 told_goes : (a : MasterAct) (n : ℕ) (m : Master) → Goes m (master_effect a n m).snapshots
-told_goes Ticks n m = stays m
-told_goes (MakesNamespace name) n m = stays m
-told_goes (DropsNamespace namespace) n m = stays m
-told_goes (MakesTable namespace name columns slots) n m = stays m
-told_goes (AddsColumn table name kind) n m = stays m
-told_goes (DropsColumn table column) n m = stays m
-told_goes (RenamesTable table name) n m = stays m
-told_goes (DropsTable table) n m = stays m
-told_goes (SplitsTablet parent code low_slot high_slot) n m = stays m
-told_goes (MakesSchedule namespace interval retention) n m = stays m
-told_goes (EditsSchedule schedule interval retention) n m = stays m
-told_goes (DeletesSchedule schedule) n m = stays m
 told_goes (TakesSnapshot schedule) n m = added m schedule.namespace schedule.id n
-told_goes (BeginsRestoration schedule to) n m = stays m
-told_goes (BeginsClone namespace source target to) n m = stays m
-told_goes (Sends operation slot) n m = stays m
 told_goes (Acks operation slot) n m = acked_goes operation.kind operation slot n m
-told_goes (Unsends operation slot) n m = stays m
 told_goes (Moves operation) n m = move_goes operation.kind operation n m
 told_goes (Removes target) n m = removed_goes target.kind target n m
-told_goes Prunes n m = stays m
-told_goes Restarts n m = stays m
+told_goes _ n m = stays m
 
 entry_goes : (e : Entry) (ps : Parts) → Goes ps.master (next e ps).master.snapshots
 entry_goes e ps = cond_both (has (slots_of e.event.act) 0) (master_effect (outcome e.event.act e.stamp ps).master e.stamp ps.master) ps.master (λ m. Goes ps.master m.snapshots)

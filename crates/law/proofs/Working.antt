@@ -45,21 +45,16 @@ own_line slots l body is own good = (good, subst (IsSlot slots) (sym (ap (source
 after_line : (body : Body) (r : RestorationRecord) (point slots : ℕ) (serving : Id) (l : Listed) → l.body ≡ body → IsAfterSwitch r point serving body → IsSlot slots l.slot → LineGood slots l
 after_line (RestoreFrom snapshot to at version) r point slots serving l is after good = own_line slots l (RestoreFrom snapshot to at version) is refl good
 after_line (Hide ended) r point slots serving l is after good = own_line slots l (Hide ended) is refl good
-after_line Fence r point slots serving l is after good = absurd after
-after_line (Freeze snapshot at) r point slots serving l is after good = absurd after
-after_line (Copy source snapshot to stamp table low high version) r point slots serving l is after good = absurd after
-after_line (Release cutoff) r point slots serving l is after good = absurd after
+after_line _ r point slots serving l is after good = absurd after
 
 nothing_in : {A : Type 0} (xs : List A) (a : A) → xs ≡ [] → In a xs → ⊥
 nothing_in xs a none isin = subst (In a) none isin
 
 restoring_line : (state : RestorationState) (m : Master) (changes : List Made) (r : RestorationRecord) (slots : ℕ) (l : Listed) → RestorationStateGood state m changes r → is_restored state ≡ false → In l r.listed → IsSlot slots l.slot → LineGood slots l
 restoring_line Fencing m changes r slots l good still isin is = own_line slots l Fence (good.bodies l isin) refl is
-restoring_line (Snapshotting point own) m changes r slots l good still isin is = absurd (nothing_in r.listed l good.empty isin)
-restoring_line (Switching point serving) m changes r slots l good still isin is = absurd (nothing_in r.listed l good.empty isin)
 restoring_line (Restoring point serving) m changes r slots l good still isin is = after_line l.body r point slots serving l refl (good.bodies l isin) is
 restoring_line (Releasing point serving) m changes r slots l good still isin is = own_line slots l (Release point) (good.bodies l isin) refl is
-restoring_line (Restored point serving) m changes r slots l good still isin is = absurd (nothing_in r.listed l good.empty isin)
+restoring_line _ m changes r slots l good still isin is = absurd (nothing_in r.listed l good.empty isin)
 
 all_append : {A : Type 0} (P : A → Type 0) (xs ys : List A) → AllOf P xs → AllOf P ys → AllOf P (xs ++ ys)
 all_append P [] ys first next = next

@@ -376,13 +376,9 @@ remembered_made m n changes ns name columns slots activity before long ops h =
 -- operations go on: the namespace is not held, and the slots were free
 
 more_drawn : (d : Drawn) (tablets : ℕ) (kind : Kind) → drawn_of kind d ≤ drawn_of kind (record d { tables = d.tables + 1; tablets = d.tablets + tablets })
-more_drawn d tablets Namespace = le_refl _
 more_drawn d tablets Table = omega arith
 more_drawn d tablets TabletKind = omega arith
-more_drawn d tablets Schedule = le_refl _
-more_drawn d tablets Snapshot = le_refl _
-more_drawn d tablets Restoration = le_refl _
-more_drawn d tablets Clone = le_refl _
+more_drawn d tablets _ = le_refl _
 
 abbrev made_catalog : Id → List ℕ → List NewColumn → ℕ → Master → Catalog
 made_catalog ns name columns n m = record m.catalog {

@@ -1,5 +1,8 @@
 -- A table is dropped: its tablets are hidden, and their activity ends.
-use Rattle.std.proofs.Common.{ℕ, ◌≡◌, ◌≤◌, ◌<◌, List, [], ◌∷◌, map, Option, Some, None, Bool, true, false, cond, ◌⊎◌, inl, inr, refl, sym, ap, subst, ◌∙◌, arith, eqb, leb, le_trans, le_refl, le_of_lt, ltb-true}
+use Rattle.model.specs.Schedules.{complete_to}
+use Rattle.model.specs.Records.{ScheduledNamespace, Listed, RestorationRecord}
+use Rattle.model.specs.Right.{is_fixed}
+use Rattle.std.proofs.Common.{ℕ, ◌≡◌, ◌≤◌, ◌<◌, List, [], ◌∷◌, map, Option, Some, None, Bool, true, false, cond, ◌⊎◌, inl, inr, refl, sym, ap, subst, ◌∙◌, arith, eqb, leb, le_trans, le_refl, le_of_lt, ltb-true, ◌+◌}
 use Rattle.std.specs.Prelude.{Ok}
 use Rattle.std.specs.Option.{is_some}
 use Rattle.std.proofs.lemmas.Bool.{cond_both, true≢false}
@@ -241,15 +244,11 @@ slot_beside m n changes id slot t before apart calm h = record {
 
 master_dropped : (m : Master) (n : ℕ) (changes : List Made) (id : Id) → m.clock < n → CatalogStands (table_dropped id n m) (with n (TableDropped id) changes) → MasterGood m changes
     → MasterGood (table_dropped id n m) (with n (TableDropped id) changes)
-master_dropped m n changes id before stands h = record {
-  namespaces = stands.namespaces;
-  tables = stands.tables;
-  marks = stands.marks;
-  past = λ ns to is. le_trans (h.past ns to is) (le_of_lt before);
-  complete = λ s isin. le_trans (h.complete s isin) (le_of_lt before);
-  listed = h.listed;
-  listed_of = λ r l isin lists. in_mapped (cut_off id n) (λ i. i.tablet ≡ l.tablet → owner_of m.catalog.owners i.table ≡ Some r.namespace) m.activity (h.listed_of r l isin lists);
-}
+master_dropped m n changes id before stands h =
+    let past : (ns : Id) (to : ℕ) → is_fixed (with n (TableDropped id) changes) ns to ≡ true → to ≤ n = λ ns to is. le_trans (h.past ns to is) (le_of_lt before) in
+    let complete : (k : ScheduledNamespace) → In k m.scheduled → complete_to k + 1 ≤ n = λ s isin. le_trans (h.complete s isin) (le_of_lt before) in
+    let listed_of : (r : RestorationRecord) (l : Listed) → In r m.restorations → In l r.listed → (i : Interval) → In i (end_table_tablets id n m.activity) → i.tablet ≡ l.tablet → owner_of m.catalog.owners i.table ≡ Some r.namespace = λ r l isin lists. in_mapped (cut_off id n) (λ i. i.tablet ≡ l.tablet → owner_of m.catalog.owners i.table ≡ Some r.namespace) m.activity (h.listed_of r l isin lists) in
+    assumption (past, complete, listed_of)
 
 -- what is remembered of all tablets
 forgotten_cut : (m : Master) (n : ℕ) (id : Id) (i : Interval) → m.clock < n → IsForgotten m i → IsForgotten (table_dropped id n m) (cut_off id n i)

@@ -91,12 +91,7 @@ namespace_dropped_keeps m n id changes le ops = record {
 
 one_drawn : (d : Drawn) (kind : Kind) → drawn_of kind d ≤ drawn_of kind (record d { namespaces = d.namespaces + 1 })
 one_drawn d Namespace = omega arith
-one_drawn d Table = le_refl _
-one_drawn d Tablet = le_refl _
-one_drawn d Schedule = le_refl _
-one_drawn d Snapshot = le_refl _
-one_drawn d Restoration = le_refl _
-one_drawn d Clone = le_refl _
+one_drawn d _ = le_refl _
 
 pub create_namespace_keeps : (ps : Parts) (activity : List Interval) (changes : List Made) (n : ℕ) (name slots : List ℕ) → Later (0 ∷ slots) ps n → Inv ps activity changes
     → KeepsAll (Change (CreateNamespace name) slots) n ps activity changes (create_namespace name ps.master)

@@ -1,4 +1,5 @@
 -- A command that makes and drops no table keeps what holds.
+use Rattle.std.specs.Prelude.{None}
 use Rattle.std.proofs.Common.{ℕ, ◌≡◌, ◌≤◌, List, ◌∷◌, Some, cond, true, ◌⊎◌, inl, refl, sym, ap, subst, ◌∙◌, arith, leb, le_of_lt, le_trans, le_refl}
 use Rattle.std.specs.Option.{is_some}
 use Rattle.row_values.specs.Ids.{Kind, Namespace as NamespaceKind, Table as TableKind, Id, same}
@@ -8,7 +9,7 @@ use Rattle.model.specs.Times.{before_end, ended}
 use Rattle.model.specs.Catalog.{Catalog, NamespaceRecord, TableRecord, owner_of, kept_from, end_table}
 use Rattle.model.specs.Drawn.{drawn_of}
 use Rattle.model.specs.Journal.{Change as Made, table_at, row_at}
-use Rattle.model.specs.Tablets.{Tablet, TabletAct, Told, act_for, effect, Clock, SetVersion}
+use Rattle.model.specs.Tablets.{Tablet, TabletAct, Told, act_for, effect, Clock, SetVersion, is_serving}
 use Rattle.model.specs.Stands.{awaited_in, before_restore}
 use Rattle.model.specs.Acts.{Command, Change}
 use Rattle.model.specs.Parts.{Master, MasterAct, Parts, Drawn}
@@ -17,7 +18,7 @@ use Rattle.model.specs.History.{master_effect, told}
 use Rattle.model.specs.Right.{NothingLate}
 use Rattle.law_invariants.specs.Remembered.{activity_after, Remembered}
 use Rattle.law_invariants.proofs.Remembering.{remembered_on, floor_rises}
-use Rattle.law_invariants.specs.Invariant.{Covered, IsGood, SlotGood, SlotWorks, MasterGood, Inv, Later, is_awaited}
+use Rattle.law_invariants.specs.Invariant.{Covered, IsGood, SlotGood, SlotWorks, MasterGood, Inv, Later, is_awaited, IsGoodIn, TakesWritesIn}
 use Rattle.law_invariants.proofs.Finding.{both_pass, same_equal, in_mapped}
 use Rattle.law_store.proofs.Keys.{either_way}
 use Rattle.law_invariants.proofs.Ticking.{past_later, tablet_ticked, tablet_before}
@@ -25,7 +26,7 @@ use Rattle.law_invariants.proofs.Journaling.{IsQuiet}
 use Rattle.law_invariants.proofs.Covering.{quiet_covers}
 use Rattle.law_invariants.proofs.Cataloguing.{CatalogStands}
 use Rattle.law_invariants.specs.Operations.{is_switched, OperationsGood, JournalGood}
-use Rattle.law_invariants.specs.Orders.{RowsPast}
+use Rattle.law_invariants.specs.Orders.{RowsPast, directory}
 use Rattle.law_invariants.proofs.Hearing.{clocks_rise, rows_on}
 use Rattle.law_invariants.proofs.Undoing.{RowsFrom, journal_on}
 use Rattle.law_invariants.proofs.Operating.{NotHeld, WasNamed, NewName, Onward, going, operations_on}
@@ -84,17 +85,13 @@ good_carried m k changes new t i f g = record {
 }
 
 carries : (m k : Master) (changes new : List Made) (i : Interval) → Follows m k changes new → Carries m k changes new i
-carries m k changes new i f = record {
-  clock = f.clock;
-  slots = f.slots;
-  restorations = f.restorations;
-  drawn = (let e = f.drawn in omega arith);
-  drawn_tables = (let e = f.drawn_tables in omega arith);
-  viewed = λ x active is. f.quiet.tables x i.table ∙ is;
-  shown = λ x is. sym (f.quiet.tables x i.table) ∙ is;
-  rows = λ x key before. f.quiet.rows x i.table key;
-  same_ = f.same_;
-}
+carries m k changes new i f =
+    let drawn : m.drawn.tablets ≤ k.drawn.tablets = let e = f.drawn in omega arith in
+    let drawn_tables : m.drawn.tables ≤ k.drawn.tables = let e = f.drawn_tables in omega arith in
+    let viewed : (x : ℕ) → active_at x i ≡ true → is_some (table_at changes x i.table) ≡ true → is_some (table_at new x i.table) ≡ true = λ x active is. f.quiet.tables x i.table ∙ is in
+    let shown : (x : ℕ) → is_some (table_at new x i.table) ≡ true → is_some (table_at changes x i.table) ≡ true = λ x is. sym (f.quiet.tables x i.table) ∙ is in
+    let rows : (x : ℕ) (key : List ℕ) → before_end x i.to ≡ true → row_at new x i.table key ≡ row_at changes x i.table key = λ x key before. f.quiet.rows x i.table key in
+    assumption (drawn, drawn_tables, viewed, shown, rows)
 
 pub slot_follows : (m k : Master) (changes new : List Made) (slot : ℕ) (t : Tablet) → Follows m k changes new → SlotGood m changes slot t → SlotGood k new slot t
 slot_follows m k changes new slot t f h = record {
@@ -133,41 +130,18 @@ IsMild _ = ⊥
 
 mild_keeps : (a : TabletAct) (m : Master) (n : ℕ) (changes : List Made) (slot : ℕ) (t : Tablet) → IsMild a → t.clock ≤ n → SlotGood m changes slot t → SlotGood m changes slot (effect a n t)
 mild_keeps Clock m n changes slot t mild le h = tablet_ticked m n changes slot t le h
-mild_keeps (SetVersion version) m n changes slot t mild le h = let g = tablet_ticked m n changes slot t le h in record {
-  good = record { sorted = g.good.sorted; below = g.good.below; cutoff = g.good.cutoff; keys = g.good.keys; set_past = g.good.set_past; set_sorted = g.good.set_sorted; set_keys = g.good.set_keys };
-  home = g.home;
-  numbered = g.numbered;
-  each = λ i isin is. (let q = g.each i isin is in record {
-    past = q.past;
-    over = q.over;
-    drawn = q.drawn;
-    drawn_table = q.drawn_table;
-    slot_from = q.slot_from;
-    slot_to = q.slot_to;
-    present = q.present;
-    tablet_is = q.tablet_is;
-    table_is = q.table_is;
-    low_is = q.low_is;
-    high_is = q.high_is;
-    viewed = q.viewed;
-    waits = q.waits;
-    comes = q.comes;
-    serves = q.serves;
-    hidden = q.hidden;
-    stands = q.stands;
-    sets = q.sets;
-  });
-  opens = λ serving unfenced. (let o = g.opens serving unfenced in record {
+mild_keeps (SetVersion version) m n changes slot t mild le h =
+    let g = tablet_ticked m n changes slot t le h in
+    let each : (i : Interval) → In i m.activity → i.slot ≡ slot → IsGoodIn m.clock m.slots (directory m) changes (effect (SetVersion version) n t) i = λ i isin is. (let q = g.each i isin is in assumption q) in
+    let opens : is_serving t.presence ≡ true → t.fence ≡ None → TakesWritesIn m.activity m.restorations slot (effect (SetVersion version) n t) = λ serving unfenced. (let o = g.opens serving unfenced in record {
     interval = o.interval;
     listed = o.listed;
     slot_is = o.slot_is;
     opened = o.opened;
     begun = o.begun;
     settled = o.settled;
-  });
-  shown = g.shown;
-  later = g.later;
-}
+  }) in
+    assumption (each, opens)
 mild_keeps _ m n changes slot t mild le h = absurd mild
 
 mild_works : (a : TabletAct) (m : Master) (n : ℕ) (changes : List Made) (slot : ℕ) (t : Tablet) → IsMild a → t.clock ≤ n → SlotWorks m changes slot t → SlotWorks m changes slot (effect a n t)

@@ -30,20 +30,11 @@ use Rattle.model.specs.Activity.{Interval}
 
 -- the table goes on under another name or schema
 follows_changed : (m : Master) (t : TableRecord) (name : List ℕ) (schema : Schema) (n : ℕ) (changes new : List Made) → m.clock < n → IsQuiet changes new → SameFixed changes new → Follows m (table_changed t name schema n m) changes new
-follows_changed m t name schema n changes new before quiet same_ = record {
-  clock = le_of_lt before;
-  slots = refl;
-  activity = refl;
-  restorations = refl;
-  clones = refl;
-  schedules = refl;
-  scheduled = refl;
-  owners = refl;
-  drawn = refl;
-  drawn_tables = refl;
-  quiet = quiet;
-  same_ = same_;
-}
+follows_changed m t name schema n changes new before quiet same_ =
+    let clock : m.clock ≤ n = le_of_lt before in
+    let quiet_now : IsQuiet changes new = quiet in
+    let same__now : SameFixed changes new = same_ in
+    assumption (clock, quiet_now, same__now)
 
 -- what operations read of the catalog stays: the table's namespace is not held
 table_changed_keeps : (m : Master) (n : ℕ) (t : TableRecord) (table name : List ℕ) (schema : Schema) (changes : List Made) → m.clock ≤ n → IsCurrent m.catalog.tables t.namespace table t

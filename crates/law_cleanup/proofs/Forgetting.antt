@@ -1,20 +1,24 @@
 -- The master forgets a tablet that no unfinished record lists: its records go on to be good.
-use Rattle.std.proofs.Common.{ℕ, ◌≡◌, ◌≤◌, List, [], ◌∷◌, Option, Some, None, Bool, true, false, cond, ◌&&◌, ◌||◌, inl, inr, refl, sym, ap, ◌∙◌, not, arith, le_trans, lt_of_lt_of_le}
+use Rattle.model.specs.Times.{ended_by}
+use Rattle.model.specs.Stands.{is_restore}
+use Rattle.model.specs.Catalog.{owner_of}
+use Rattle.model.specs.Schedules.{after_of}
+use Rattle.std.proofs.Common.{ℕ, ◌≡◌, ◌≤◌, List, [], ◌∷◌, Option, Some, None, Bool, true, false, cond, ◌&&◌, ◌||◌, inl, inr, refl, sym, ap, ◌∙◌, not, arith, le_trans, lt_of_lt_of_le, ◌<◌, ◌⊎◌}
 use Rattle.std.specs.Option.{is_some, option_or}
 use Rattle.std.specs.List.{list_any}
 use Rattle.std.proofs.lemmas.Bool.{true≢false}
 use Rattle.row_values.specs.Ids.{Id, same}
 use Rattle.row_values.specs.Elements.{In}
-use Rattle.model.specs.Activity.{Interval, forget}
+use Rattle.model.specs.Activity.{Interval, forget, active_within}
 use Rattle.model.specs.Journal.{Change}
-use Rattle.model.specs.Records.{Listed, Schedule, SnapshotRecord, RestorationRecord, RestorationState, Fencing, Snapshotting, Switching, Restoring, Releasing, Restored, TabletPair, CloneRecord, CloneState, Accepted, CloneSnapshot, Copying, CloneReleasing, CloneComplete, is_restored, is_cloned, lists_tablet, ScheduledNamespace}
+use Rattle.model.specs.Records.{Listed, Schedule, SnapshotRecord, RestorationRecord, RestorationState, Fencing, Snapshotting, Switching, Restoring, Releasing, Restored, TabletPair, CloneRecord, CloneState, Accepted, CloneSnapshot, Copying, CloneReleasing, CloneComplete, is_restored, is_cloned, lists_tablet, ScheduledNamespace, is_visible}
 use Rattle.model.specs.Cleanup.{listing_snapshot, listing_restoration, listing_clone, takes_from, lister_of_tablet, floor_of}
 use Rattle.model.specs.Parts.{Master}
 use Rattle.law_store.proofs.Keys.{either_way}
-use Rattle.law_invariants.specs.Operations.{IsKnown, IsOpenOf, ScheduleGood, SnapshotGood, BeforePoint, IsBack, IsActive, RestorationStateGood, RestorationGood, CloneStateGood, CloneGood, OperationsGood, ScheduledGood}
+use Rattle.law_invariants.specs.Operations.{IsKnown, IsOpenOf, ScheduleGood, SnapshotGood, BeforePoint, IsBack, IsActive, RestorationStateGood, RestorationGood, CloneStateGood, CloneGood, OperationsGood, ScheduledGood, IsReached, IsListed, IsComing, IsSource, IsReserved}
 use Rattle.law_invariants.proofs.Finding.{in_filter, filter_in, passes_both, either_passes, same_self, not_same}
 use Rattle.law_invariants.proofs.Ticking.{not_true}
-use Rattle.law_invariants.proofs.Remembering.{floor_rises}
+use Rattle.law_cleanup.proofs.Leaving.{operations_left}
 
 -- No unfinished record lists it
 
@@ -107,223 +111,18 @@ was_in tablet is i isin =
 pub open_was : (m : Master) (n : ℕ) (tablet ns : Id) (i : Interval) → IsOpenOf (forgetting m n tablet) ns i → IsOpenOf m ns i
 open_was m n tablet ns i h = record { kept = (was_in tablet m.activity i h.kept).0; opened = h.opened; owned = h.owned }
 
-known_still : (m : Master) (n : ℕ) (tablet : Id) (l : Listed) → (l.tablet ≡ tablet → ⊥) → IsKnown m l → IsKnown (forgetting m n tablet) l
-known_still m n tablet l apart h = record {
-  interval = h.interval;
-  kept = kept_in tablet m.activity h.interval h.kept (λ e. apart (sym h.tablet_is ∙ e));
-  tablet_is = h.tablet_is;
-  slot_is = h.slot_is;
-}
-
-before_still : (m : Master) (n : ℕ) (tablet ns : Id) (point : ℕ) → BeforePoint m ns point → BeforePoint (forgetting m n tablet) ns point
-before_still m n tablet ns point h = record {
-  begun = λ i there. h.begun i (was_in tablet m.activity i there).0;
-  ended = λ i end_ there. h.ended i end_ (was_in tablet m.activity i there).0;
-  tables_begun = h.tables_begun;
-  tables_ended = h.tables_ended;
-}
-
-back_still : (m : Master) (n : ℕ) (tablet : Id) (l : Listed) (to point : ℕ) → (l.tablet ≡ tablet → ⊥) → IsBack m l to point → IsBack (forgetting m n tablet) l to point
-back_still m n tablet l to point apart h = record {
-  then_ = h.then_;
-  kept_then = kept_in tablet m.activity h.then_ h.kept_then (λ e. apart (sym h.tablet_then ∙ e));
-  tablet_then = h.tablet_then;
-  active = h.active;
-  now = h.now;
-  kept_now = kept_in tablet m.activity h.now h.kept_now (λ e. apart (sym h.tablet_now ∙ e));
-  tablet_now = h.tablet_now;
-  slot_now = h.slot_now;
-  opened = h.opened;
-  from_is = h.from_is;
-}
-
-active_still : (m : Master) (n : ℕ) (tablet : Id) (l : Listed) (from : ℕ) → (l.tablet ≡ tablet → ⊥) → IsActive m l from → IsActive (forgetting m n tablet) l from
-active_still m n tablet l from apart h = record {
-  interval = h.interval;
-  kept = kept_in tablet m.activity h.interval h.kept (λ e. apart (sym h.tablet_is ∙ e));
-  tablet_is = h.tablet_is;
-  slot_is = h.slot_is;
-  opened = h.opened;
-  from_is = h.from_is;
-}
-
--- floors rise with the clock
-pub floor_up : (m : Master) (n : ℕ) (tablet ns : Id) → m.clock ≤ n → floor_of m ns m.clock ≤ floor_of (forgetting m n tablet) ns n
-floor_up m n tablet ns le = floor_rises m (forgetting m n tablet) ns (record { clock = le; schedules = refl; restorations = refl; clones = refl })
-
-schedule_still : (m : Master) (n : ℕ) (tablet : Id) (s : Schedule) → m.clock ≤ n → ScheduleGood m s → ScheduleGood (forgetting m n tablet) s
-schedule_still m n tablet s le h = record { drawn = h.drawn; drawn_namespace = h.drawn_namespace; begun = le_trans h.begun le; scheduled = h.scheduled }
-
-scheduled_still : (m : Master) (n : ℕ) (tablet : Id) (k : ScheduledNamespace) → m.clock ≤ n → ScheduledGood m k → ScheduledGood (forgetting m n tablet) k
-scheduled_still m n tablet k le h = record {
-  drawn_namespace = h.drawn_namespace;
-  from_one = h.from_one;
-  last = le_trans h.last le;
-  reached = elim h.reached [ inl l ↦ inl (lt_of_lt_of_le l (floor_up m n tablet k.namespace le)) | inr w ↦ inr w ];
-  has = h.has;
-}
-
-snapshot_still : (m : Master) (n : ℕ) (tablet : Id) (r : SnapshotRecord) → m.clock ≤ n → In r m.snapshots → Unlisted m tablet → SnapshotGood m r → SnapshotGood (forgetting m n tablet) r
-snapshot_still m n tablet r le isin free h = record {
-  kind_is = h.kind_is;
-  drawn = h.drawn;
-  drawn_namespace = h.drawn_namespace;
-  rises = h.rises;
-  past = le_trans h.past le;
-  bodies = h.bodies;
-  drawn_listed = h.drawn_listed;
-  listed_of = λ l i lists there is. h.listed_of l i lists (was_in tablet m.activity i there).0 is;
-  known = λ unfinished l lists. known_still m n tablet l (free.snapshot r l isin unfinished lists) (h.known unfinished l lists);
-  lists = λ i there owner active. h.lists i (was_in tablet m.activity i there).0 owner active;
-  reached = elim h.reached [ inl l ↦ inl (lt_of_lt_of_le l (floor_up m n tablet r.namespace le)) | inr q ↦ inr q ];
-  scheduled = h.scheduled;
-}
-
-state_still : (state : RestorationState) (m : Master) (n : ℕ) (tablet : Id) (changes : List Change) (r : RestorationRecord) → m.clock ≤ n → (is_restored state ≡ false → (l : Listed) → In l r.listed → l.tablet ≡ tablet → ⊥)
-    → RestorationStateGood state m changes r → RestorationStateGood state (forgetting m n tablet) changes r
-state_still Fencing m n tablet changes r le free h = record {
-  bodies = h.bodies;
-  lists = λ i opened. h.lists i (open_was m n tablet r.namespace i opened);
-  opens = λ l lists. (let o = h.opens l lists in
-      (o.0, (record { kept = kept_in tablet m.activity o.0 o.1.0.kept (λ e. free refl l lists (sym o.1.1.0 ∙ e)); opened = o.1.0.opened; owned = o.1.0.owned }, o.1.1)));
-}
-state_still (Snapshotting point own) m n tablet changes r le free h = record {
-  is_point = record { later = h.is_point.later; fixed = h.is_point.fixed; snapshots = h.is_point.snapshots; complete = h.is_point.complete };
-  empty = h.empty;
-  soon = le_trans h.soon (omega arith);
-  before = before_still m n tablet r.namespace point h.before;
-  snapshot = h.snapshot;
-  kept = h.kept;
-  id_is = h.id_is;
-  at_is = h.at_is;
-  namespace_is = h.namespace_is;
-  alone = h.alone;
-}
-state_still (Switching point serving) m n tablet changes r le free h = record {
-  is_point = record { later = h.is_point.later; fixed = h.is_point.fixed; snapshots = h.is_point.snapshots; complete = h.is_point.complete };
-  empty = h.empty;
-  begun = le_trans h.begun le;
-  before = before_still m n tablet r.namespace point h.before;
-  serves = (let k = h.serves in record { serving = k.serving; kept = k.kept; id_is = k.id_is; complete = k.complete; namespace_is = k.namespace_is; after = k.after; reaches = k.reaches });
-  calm = h.calm;
-}
-state_still (Restoring point serving) m n tablet changes r le free h = record {
-  is_point = record { later = h.is_point.later; fixed = h.is_point.fixed; snapshots = h.is_point.snapshots; complete = h.is_point.complete };
-  begun = le_trans h.begun le;
-  serves = (let k = h.serves in record { serving = k.serving; kept = k.kept; id_is = k.id_is; complete = k.complete; namespace_is = k.namespace_is; after = k.after; reaches = k.reaches });
-  calm = h.calm;
-  switched = h.switched;
-  bodies = h.bodies;
-  back = λ l lists is. back_still m n tablet l r.to point (free refl l lists) (h.back l lists is);
-  gone = λ l i lists is there same_. h.gone l i lists is (was_in tablet m.activity i there).0 same_;
-  opens = λ i opened. h.opens i (open_was m n tablet r.namespace i opened);
-}
-state_still (Releasing point serving) m n tablet changes r le free h = record {
-  is_point = record { later = h.is_point.later; fixed = h.is_point.fixed; snapshots = h.is_point.snapshots; complete = h.is_point.complete };
-  begun = le_trans h.begun le;
-  switched = h.switched;
-  bodies = h.bodies;
-  active = λ l lists. active_still m n tablet l point (free refl l lists) (h.active l lists);
-  opens = λ i opened. h.opens i (open_was m n tablet r.namespace i opened);
-}
-state_still (Restored point serving) m n tablet changes r le free h = record { empty = h.empty; begun = le_trans h.begun le; later = h.later; switched = h.switched }
-
-restoration_still : (m : Master) (n : ℕ) (tablet : Id) (changes : List Change) (r : RestorationRecord) → m.clock ≤ n → In r m.restorations → Unlisted m tablet → RestorationGood m changes r → RestorationGood (forgetting m n tablet) changes r
-restoration_still m n tablet changes r le isin free h = record {
-  kind_is = h.kind_is;
-  drawn = h.drawn;
-  drawn_namespace = h.drawn_namespace;
-  past = lt_of_lt_of_le h.past le;
-  scheduled = h.scheduled;
-  known = λ unfinished l lists. known_still m n tablet l (free.restoration r l isin unfinished lists) (h.known unfinished l lists);
-  in_state = state_still r.state m n tablet changes r le (λ unfinished l. free.restoration r l isin unfinished) h.in_state;
-}
-
-clone_state_still : (state : CloneState) (m : Master) (n : ℕ) (tablet : Id) (c : CloneRecord) → m.clock ≤ n → (is_cloned state ≡ false → (l : Listed) → In l c.listed → l.tablet ≡ tablet → ⊥) → CloneStateGood state m c
-    → CloneStateGood state (forgetting m n tablet) c
-clone_state_still Accepted m n tablet c le free h = h
-clone_state_still (CloneSnapshot own) m n tablet c le free h = record {
-  empty = h.empty;
-  snapshot = h.snapshot;
-  kept = h.kept;
-  id_is = h.id_is;
-  namespace_is = h.namespace_is;
-  reaches = h.reaches;
-}
-clone_state_still (Copying serving at) m n tablet c le free h = record {
-  begun = le_trans h.begun le;
-  later = h.later;
-  serves = (let k = h.serves in record { serving = k.serving; kept = k.kept; id_is = k.id_is; complete = k.complete; namespace_is = k.namespace_is; after = k.after; reaches = k.reaches });
-  bodies = h.bodies;
-  all = h.all;
-}
-clone_state_still (CloneReleasing serving at) m n tablet c le free h = record {
-  since = h.since;
-  begun = le_trans h.begun le;
-  later = h.later;
-  copied = h.copied;
-  bodies = h.bodies;
-  active = λ l lists. active_still m n tablet l h.since (free refl l lists) (h.active l lists);
-  listed_of = λ l i lists there is. h.listed_of l i lists (was_in tablet m.activity i there).0 is;
-  opens = λ i opened. h.opens i (open_was m n tablet c.target_id i opened);
-}
-clone_state_still (CloneComplete serving at) m n tablet c le free h = h
-
-clone_still : (m : Master) (n : ℕ) (tablet : Id) (changes : List Change) (c : CloneRecord) → m.clock ≤ n → In c m.clones → Unlisted m tablet → CloneGood m changes c → CloneGood (forgetting m n tablet) changes c
-clone_still m n tablet changes c le isin free h = record {
-  kind_is = h.kind_is;
-  drawn = h.drawn;
-  drawn_source = h.drawn_source;
-  drawn_target = h.drawn_target;
-  apart = h.apart;
-  past = lt_of_lt_of_le h.past le;
-  pairs = λ p paired. (let g = h.pairs p paired in record { slot_from = g.slot_from; slot_to = g.slot_to; drawn = g.drawn; drawn_table = g.drawn_table; owned = g.owned });
-  drawn_listed = h.drawn_listed;
-  one_slot = h.one_slot;
-  one_target = h.one_target;
-  one_table = h.one_table;
-  tables_apart = h.tables_apart;
-  owned = h.owned;
-  drawn_sources = h.drawn_sources;
-  covers = h.covers;
-  scheduled = h.scheduled;
-  sources = λ unfinished p paired. (let k = h.sources unfinished p paired in record {
-    interval = k.interval;
-    kept = kept_in tablet m.activity k.interval k.kept (λ e. free.source c p isin unfinished paired (sym k.tablet_is ∙ e));
-    tablet_is = k.tablet_is;
-    slot_is = k.slot_is;
-    low_is = k.low_is;
-    high_is = k.high_is;
-    active = k.active;
-    owned = k.owned;
-    pair = k.pair;
-    paired = k.paired;
-    source_is = k.source_is;
-    target_is = k.target_is;
-  });
-  reserved = λ unseen p paired. (let k = h.reserved unseen p paired in record {
-    free = λ i there. k.free i (was_in tablet m.activity i there).0;
-    unknown = λ i there. k.unknown i (was_in tablet m.activity i there).0;
-    no_snapshot = k.no_snapshot;
-    no_restoration = k.no_restoration;
-  });
-  no_tablet = λ unseen i there. h.no_tablet unseen i (was_in tablet m.activity i there).0;
-  no_table = h.no_table;
-  no_namespace = h.no_namespace;
-  no_schedule = h.no_schedule;
-  unfixed = h.unfixed;
-  in_state = clone_state_still c.state m n tablet c le (λ unfinished l. free.clone c l isin unfinished) h.in_state;
-}
-
 pub operations_forget : (m : Master) (n : ℕ) (tablet : Id) (changes : List Change) → m.clock ≤ n → Unlisted m tablet → OperationsGood m changes → OperationsGood (forgetting m n tablet) changes
-operations_forget m n tablet changes le free h = record {
-  kept = λ ns. le_trans (h.kept ns) (floor_up m n tablet ns le);
-  owners = h.owners;
-  apart = h.apart;
-  schedules = λ s isin. schedule_still m n tablet s le (h.schedules s isin);
-  scheduled = λ k isin. scheduled_still m n tablet k le (h.scheduled k isin);
-  snapshots = λ r isin. snapshot_still m n tablet r le isin free (h.snapshots r isin);
-  restorations = λ r isin. restoration_still m n tablet changes r le isin free (h.restorations r isin);
-  clones = λ c isin. clone_still m n tablet changes c le isin free (h.clones c isin);
-  sent = h.sent;
-}
+operations_forget m n tablet changes le free h = operations_left m n (forget tablet m.activity) m.snapshots (record {
+  clock = le;
+  was = λ i isin. (was_in tablet m.activity i isin).0;
+  was_taken = λ q isin. isin;
+  rise = h.apart.snapshots_rise;
+  taken = λ q isin. inl isin;
+  unfinished = λ q isin open_. isin;
+  named = λ r q there unfinished isin is. isin;
+  named_by = λ c q there unfinished isin is. isin;
+  snapshot = λ r l i isin unfinished lists there is. kept_in tablet m.activity i there (λ e. free.snapshot r l isin unfinished lists (sym is ∙ e));
+  restoration = λ r l i isin unfinished lists there is. kept_in tablet m.activity i there (λ e. free.restoration r l isin unfinished lists (sym is ∙ e));
+  clone = λ c l i isin unfinished lists there is. kept_in tablet m.activity i there (λ e. free.clone c l isin unfinished lists (sym is ∙ e));
+  source = λ c p i isin unfinished paired there is. kept_in tablet m.activity i there (λ e. free.source c p isin unfinished paired (sym is ∙ e));
+}) changes h

@@ -1,3 +1,4 @@
+pub mod Leaving
 pub mod Forgetting
 pub mod Emptying
 pub mod Removing

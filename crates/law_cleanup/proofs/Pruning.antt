@@ -1,6 +1,7 @@
 -- The catalog's old records go, and the marks of how far it is kept rise as far.
+use Rattle.model.specs.Right.{is_fixed}
 use Rattle.std.proofs.Common.{ℕ, ◌≡◌, ◌≤◌, ◌<◌, ◌-◌, List, [], ◌∷◌, map, Option, Some, None, Bool, true, false, cond, ◌||◌, inl, inr, refl, sym, ap, subst, ◌∙◌, arith, not, leb, max, min, ltb-true, leb-true, le_trans, le_refl, le_of_lt}
-use Rattle.std.specs.Option.{option_map}
+use Rattle.std.specs.Option.{option_map, is_some}
 use Rattle.std.specs.List.{filter, find, list_any}
 use Rattle.std.specs.Str.{bytes_eq}
 use Rattle.std.proofs.lemmas.Bool.{cond_both, true≢false}
@@ -11,7 +12,7 @@ use Rattle.model.specs.Catalog.{Catalog, NamespaceRecord, TableRecord, KeptFrom,
 use Rattle.model.specs.Activity.{Interval}
 use Rattle.model.specs.Restored.{record_at}
 use Rattle.model.specs.Schedules.{history_retention}
-use Rattle.model.specs.Journal.{Change as Made}
+use Rattle.model.specs.Journal.{Change as Made, table_at, row_at}
 use Rattle.model.specs.Cleanup.{floor_of, prune_to, is_old_namespace, is_old_table, has_records, raised_mark, prune, pruned}
 use Rattle.model.specs.Parts.{Master, Parts}
 use Rattle.model.specs.Acts.{Prune}
@@ -20,7 +21,7 @@ use Rattle.model.specs.History.{outcome}
 use Rattle.law_store.proofs.Keys.{either_way}
 use Rattle.law_invariants.specs.Operations.{OperationsGood}
 use Rattle.law_invariants.specs.Invariant.{NamespacesStand, RecordsRise, TablesStand, view_of, is_marked, MasterGood, SlotGood, SlotWorks, Inv, Later}
-use Rattle.law_invariants.proofs.Working.{same_fixed}
+use Rattle.law_invariants.proofs.Working.{same_fixed, SameFixed}
 use Rattle.law_invariants.proofs.Finding.{filter_in, both_pass, either_passes, not_passing, same_equal, same_self}
 use Rattle.law_invariants.proofs.Ticking.{KeepsAll, past_later, not_true, tablet_before}
 use Rattle.law_invariants.proofs.Names.{has_name, is_namespace, id_of, title_of, named_found, name_found}
@@ -188,20 +189,13 @@ catalog_pruned m n changes le h =
     }
 
 prune_follows : (m : Master) (n : ℕ) (changes : List Made) → m.clock ≤ n → Follows m (pruned n m) changes changes
-prune_follows m n changes le = record {
-  same_ = same_fixed changes;
-  clock = le;
-  slots = refl;
-  activity = refl;
-  restorations = refl;
-  clones = refl;
-  schedules = refl;
-  scheduled = refl;
-  owners = refl;
-  drawn = refl;
-  drawn_tables = refl;
-  quiet = record { tables = λ x table. refl; rows = λ x table key. refl; fixed = λ ns to. refl };
-}
+prune_follows m n changes le =
+    let clock : m.clock ≤ n = le in
+    let tables : (x : ℕ) (table : Id) → is_some (table_at changes x table) ≡ is_some (table_at changes x table) = λ x table. refl in
+    let rows : (x : ℕ) (table : Id) (key : List ℕ) → row_at changes x table key ≡ row_at changes x table key = λ x table key. refl in
+    let fixed : (ns : Id) (to : ℕ) → is_fixed changes ns to ≡ is_fixed changes ns to = λ ns to. refl in
+    let same_ : SameFixed changes changes = same_fixed changes in
+    assumption (clock, tables, rows, fixed, same_)
 
 prune_catalog : (m : Master) (n : ℕ) (changes : List Made) → m.clock ≤ n → OperationsGood m changes → KeepsCatalog m n (pruned n m).catalog m.drawn
 prune_catalog m n changes le ops = record {

@@ -1,5 +1,5 @@
 -- A tablet that retention doesn't need is removed.
-use Rattle.std.proofs.Common.{ℕ, ◌≡◌, ◌≢◌, ◌≤◌, ◌<◌, List, [], ◌∷◌, Option, Some, None, true, false, cond, inl, inr, refl, sym, ap, subst, ◌∙◌, arith, not, eqb, ltb, le_trans, le_refl, le_of_lt, eqb-true, ltb-false, Bool}
+use Rattle.std.proofs.Common.{ℕ, ◌≡◌, ◌≢◌, ◌≤◌, ◌<◌, List, [], ◌∷◌, Option, Some, None, true, false, cond, inl, inr, refl, sym, ap, subst, ◌∙◌, arith, not, eqb, ltb, le_trans, le_refl, le_of_lt, eqb-true, ltb-false, Bool, ◌⊎◌}
 use Rattle.std.specs.Option.{is_some, option_map}
 use Rattle.std.proofs.lemmas.Bool.{true≢false}
 use Rattle.std.proofs.lemmas.Bool.Decides.{nat_tests}
@@ -17,7 +17,7 @@ use Rattle.model.specs.Cleanup.{floor_of_table, hidden_at, is_hidden_as, lister_
 use Rattle.model.specs.History.{told}
 use Rattle.law_store.proofs.Keys.{either_way}
 use Rattle.model.specs.Records.{is_restored}
-use Rattle.law_invariants.specs.Remembered.{Remembered}
+use Rattle.law_invariants.specs.Remembered.{Remembered, IsForgotten}
 use Rattle.law_invariants.specs.Invariant.{EndsBy, MasterGood, SlotGood, SlotWorks, Inv, Later}
 use Rattle.law_invariants.proofs.Finding.{either_is, both_pass, second_fails, none_or_some, same_equal, same_self}
 use Rattle.law_invariants.proofs.Lasting.{last_in}
@@ -34,9 +34,8 @@ use Rattle.law_cleanup.proofs.Emptying.{IsGone, slot_emptied, slot_beside, works
 -- What is forgotten
 
 hidden_is : (p : Presence) → is_hidden p ≡ true → p ≡ HiddenPart (hidden_at p)
-hidden_is EmptyPart e = absurd (true≢false (sym e))
-hidden_is ServingPart e = absurd (true≢false (sym e))
 hidden_is (HiddenPart at) e = refl
+hidden_is _ e = absurd (true≢false (sym e))
 
 -- a tablet that no unfinished restoration lists awaits no rows
 calm : (m : Master) (t : Tablet) (tablet : Id) → Unlisted m tablet → t.tablet ≡ tablet → awaited_in m.restorations t.tablet t.done ≡ None
@@ -90,9 +89,9 @@ remembered_forget : (ps : Parts) (activity : List Interval) (changes : List Made
 remembered_forget ps activity changes n target i inv r =
     let m = ps.master in
     let h = inv.remembered in
-    let before = r.gone.before in record {
-      kept = λ j isin. h.kept j (was_in target m.activity j isin).0;
-      each = λ j isin. elim (h.each j isin) [
+    let before = r.gone.before in
+    let kept : (i : Interval) → In i (forget target ps.master.activity) → In i activity = λ j isin. h.kept j (was_in target m.activity j isin).0 in
+    let each : (i : Interval) → In i activity → In i (forget target ps.master.activity) ⊎ IsForgotten (forgetting ps.master n target) i = λ j isin. elim (h.each j isin) [
         | inl here ↦ either_way (same j.tablet target)
             (λ e.
             let is = same_equal j.tablet target e in
@@ -106,11 +105,8 @@ remembered_forget ps activity changes n target i inv r =
             (λ e. inl (kept_in target m.activity j here (λ is. true≢false (sym (ap (λ t. same t target) is ∙ same_self target) ∙ e))))
         | inr gone ↦ inr (forgotten_on m (forgetting m n target) j (record { clock = le_of_lt before; schedules = refl; restorations = refl; clones = refl }) refl
             (λ k known. gone.unknown k (was_in target m.activity k known).0) gone)
-      ];
-      drawn = h.drawn;
-      drawn_table = h.drawn_table;
-      reserved = h.reserved;
-    }
+      ] in
+    assumption (kept, each)
 
 master_forget : (m : Master) (n : ℕ) (target : Id) (changes : List Made) → m.clock ≤ n → MasterGood m changes → MasterGood (forgetting m n target) changes
 master_forget m n target changes le h = record {

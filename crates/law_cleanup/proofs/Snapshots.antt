@@ -1,4 +1,6 @@
 -- A snapshot that retention doesn't need is removed: the tablets that it lists drop their frozen sets of it.
+use Rattle.model.specs.Right.{is_fixed}
+use Rattle.std.specs.Option.{is_some}
 use Rattle.std.proofs.Common.{ℕ, ◌≡◌, ◌≤◌, ◌<◌, List, [], ◌∷◌, Option, Some, None, false, inl, inr, refl, sym, ap, subst, ◌∙◌, arith, not, eqb, leb, le_refl, le_of_lt}
 use Rattle.std.proofs.lemmas.Bool.{true≢false}
 use Rattle.std.proofs.lemmas.Bool.Decides.{nat_tests}
@@ -6,7 +8,7 @@ use Rattle.row_values.specs.Ids.{Id, Kind, Tablet as TabletKind, Snapshot}
 use Rattle.row_values.specs.Elements.{In}
 use Rattle.row_values.specs.Slots.{has, same_slots}
 use Rattle.model.specs.Activity.{Interval, last_of}
-use Rattle.model.specs.Journal.{Change as Made}
+use Rattle.model.specs.Journal.{Change as Made, table_at, row_at}
 use Rattle.model.specs.Tablets.{Tablet, FrozenSet, DropFrozen, effect}
 use Rattle.model.specs.Records.{SnapshotRecord, snapshot_with}
 use Rattle.model.specs.Entries.{IsRemovable, slots_of}
@@ -17,7 +19,7 @@ use Rattle.model.specs.Changes.{tell}
 use Rattle.model.specs.History.{told, outcome}
 use Rattle.law_invariants.specs.Orders.{RowsPast}
 use Rattle.law_invariants.specs.Invariant.{SlotGood, SlotWorks, Inv, Later}
-use Rattle.law_invariants.proofs.Working.{same_fixed}
+use Rattle.law_invariants.proofs.Working.{same_fixed, SameFixed}
 use Rattle.law_invariants.proofs.Ticking.{by_checks, refused_keeps, KeepsAll, namespaces_later, tables_later, tablet_before}
 use Rattle.law_invariants.proofs.Remembering.{remembered_on}
 use Rattle.law_invariants.proofs.Hearing.{clocks_rise, rows_ticked}
@@ -32,20 +34,13 @@ abbrev pub snapshot_gone : Id → List ℕ → Outcome
 snapshot_gone target slots = record { master = Removes target; tablets = tell slots (DropFrozen target); reply = Removed }
 
 follows : (m : Master) (n : ℕ) (target : Id) (changes : List Made) → m.clock ≤ n → Follows m (discarding m n target) changes changes
-follows m n target changes le = record {
-  clock = le;
-  slots = refl;
-  activity = refl;
-  restorations = refl;
-  clones = refl;
-  schedules = refl;
-  scheduled = refl;
-  owners = refl;
-  drawn = refl;
-  drawn_tables = refl;
-  same_ = same_fixed changes;
-  quiet = record { tables = λ x table. refl; rows = λ x table key. refl; fixed = λ ns to. refl };
-}
+follows m n target changes le =
+    let clock : m.clock ≤ n = le in
+    let tables : (x : ℕ) (table : Id) → is_some (table_at changes x table) ≡ is_some (table_at changes x table) = λ x table. refl in
+    let rows : (x : ℕ) (table : Id) (key : List ℕ) → row_at changes x table key ≡ row_at changes x table key = λ x table key. refl in
+    let fixed : (ns : Id) (to : ℕ) → is_fixed changes ns to ≡ is_fixed changes ns to = λ ns to. refl in
+    let same_ : SameFixed changes changes = same_fixed changes in
+    assumption (clock, tables, rows, fixed, same_)
 
 rows_kept : (m : Master) (n : ℕ) (target : Id) (changes : List Made) (before after : ℕ → Tablet) → m.clock ≤ n → ((slot : ℕ) → (before slot).clock ≤ (after slot).clock) → RowsPast m before changes → RowsPast (discarding m n target) after changes
 rows_kept m n target changes before after le rise h = λ c table key op isin is. elim (rows_ticked m n changes before after le rise h c table key op isin is) [

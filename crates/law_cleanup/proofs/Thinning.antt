@@ -1,5 +1,7 @@
 -- The slots after a snapshot is discarded: no tablet holds its frozen set, and all else is as it was.
-use Rattle.std.proofs.Common.{ℕ, ◌≡◌, ◌≤◌, ◌+◌, List, [], ◌∷◌, Option, Some, None, true, false, cond, ◌&&◌, ◌⊎◌, inl, inr, refl, sym, ap, subst, ◌∙◌, arith, not, map, le_trans, lt_of_lt_of_le}
+use Rattle.model.specs.Catalog.{owner_of}
+use Rattle.model.specs.Stands.{is_restore, HoldsFrozen}
+use Rattle.std.proofs.Common.{ℕ, ◌≡◌, ◌≤◌, ◌+◌, List, [], ◌∷◌, Option, Some, None, true, false, cond, ◌&&◌, ◌⊎◌, inl, inr, refl, sym, ap, subst, ◌∙◌, arith, not, map, le_trans, lt_of_lt_of_le, ◌||◌}
 use Rattle.std.specs.Option.{is_some, option_and_then}
 use Rattle.std.specs.List.{filter}
 use Rattle.std.proofs.lemmas.Bool.{cond_both, true≢false}
@@ -8,14 +10,14 @@ use Rattle.row_values.specs.Elements.{In}
 use Rattle.row_values.specs.Slots.{has, rising}
 use Rattle.model.specs.Activity.{Interval, last_from}
 use Rattle.model.specs.Journal.{Change}
-use Rattle.model.specs.Tablets.{Tablet, Mark, BodyKind, FrozenSet, set_of, is_empty}
-use Rattle.model.specs.Records.{SnapshotRecord, RestorationRecord, RestorationState, Fencing, Snapshotting, Switching, Restoring, Releasing, Restored, CloneRecord, CloneState, Accepted, CloneSnapshot, Copying, CloneReleasing, CloneComplete, is_visible, unacked_at}
+use Rattle.model.specs.Tablets.{Tablet, Mark, BodyKind, FrozenSet, set_of, is_empty, RestoreFromKind, is_done, CopyKind, is_serving, Command, FreezeKind}
+use Rattle.model.specs.Records.{SnapshotRecord, RestorationRecord, RestorationState, Fencing, Snapshotting, Switching, Restoring, Releasing, Restored, CloneRecord, CloneState, Accepted, CloneSnapshot, Copying, CloneReleasing, CloneComplete, is_visible, unacked_at, TabletPair, Listed}
 use Rattle.model.specs.Coordination.{unfinished_snapshot, pending_of}
 use Rattle.model.specs.Cleanup.{is_present, snapshot_plan}
 use Rattle.model.specs.Parts.{Master}
 use Rattle.law_store.proofs.Keys.{either_way}
 use Rattle.law_invariants.specs.Operations.{OperationsGood}
-use Rattle.law_invariants.specs.Orders.{FencePlace, IsFence, IsAfter, RestorationSlot, CloneSlot, IsHome, IsTarget}
+use Rattle.law_invariants.specs.Orders.{FencePlace, IsFence, IsAfter, RestorationSlot, CloneSlot, IsHome, IsTarget, IsRestored, IsCopy, IsOrderIn, operations, IsAfterIn, IsMarkIn, IsSetOf, IsBare, RestorationSlotIn, CloneSlotIn}
 use Rattle.law_invariants.specs.Invariant.{SlotGood, SlotWorks}
 use Rattle.law_invariants.proofs.Finding.{in_filter, filter_in, map_in, second_fails, not_passing, same_equal, same_self, not_same}
 use Rattle.law_invariants.proofs.Ticking.{not_true, over_later, below_later}
@@ -126,39 +128,16 @@ unfinished_beside (q ∷ rs) target id complete = cond_both (not (same q.id targ
 
 pending_thin : (kind : Kind) (m : Master) (n : ℕ) (target operation : Id) (slot : ℕ) → ((q : SnapshotRecord) → In q m.snapshots → q.id ≡ target → q.complete ≡ true) → pending_of kind (discarding m n target).snapshots (discarding m n target).restorations (discarding m n target).clones operation slot ≡ pending_of kind m.snapshots m.restorations m.clones operation slot
 pending_thin Snapshot m n target operation slot complete = ap (λ o. option_and_then (λ r. unacked_at r.listed slot) o) (unfinished_beside m.snapshots target operation complete)
-pending_thin Restoration m n target operation slot complete = refl
-pending_thin Clone m n target operation slot complete = refl
-pending_thin Namespace m n target operation slot complete = refl
-pending_thin Table m n target operation slot complete = refl
-pending_thin TabletKind m n target operation slot complete = refl
-pending_thin Schedule m n target operation slot complete = refl
-
-place_thin : (state : RestorationState) (m : Master) (n : ℕ) (target : Id) (r : RestorationRecord) (slot : ℕ) (done : List Mark) → FencePlace state r m slot done → FencePlace state r (discarding m n target) slot done
-place_thin Fencing m n target r slot done h = (h.0, (record { kept = h.1.0.kept; opened = h.1.0.opened; owned = h.1.0.owned }, h.1.1))
-place_thin (Snapshotting point own) m n target r slot done h = (h.0, (record { kept = h.1.0.kept; opened = h.1.0.opened; owned = h.1.0.owned }, h.1.1))
-place_thin (Switching point serving) m n target r slot done h = (h.0, (record { kept = h.1.0.kept; opened = h.1.0.opened; owned = h.1.0.owned }, h.1.1))
-place_thin (Restoring point serving) m n target r slot done h = h
-place_thin (Releasing point serving) m n target r slot done h = h
-place_thin (Restored point serving) m n target r slot done h = h
-
-fence_thin : (m : Master) (n : ℕ) (target : Id) (slot : ℕ) (table : Id) (done : List Mark) (operation : Id) → IsFence m slot table done operation → IsFence (discarding m n target) slot table done operation
-fence_thin m n target slot table done operation (inl h) = inl (record { restoration = h.restoration; kept = h.kept; id_is = h.id_is; owned = h.owned; place = place_thin h.restoration.state m n target h.restoration slot done h.place })
-fence_thin m n target slot table done operation (inr h) = inr (record { clone = h.clone; kept = h.kept; id_is = h.id_is; owned = h.owned; place = h.place })
+pending_thin _ m n target operation slot complete = refl
 
 restorations_thin : (state : RestorationState) (m : Master) (n : ℕ) (target : Id) (changes : List Change) (r : RestorationRecord) (slot : ℕ) (t : Tablet) (clock : ℕ) (fs : List FrozenSet) → t.clock ≤ clock → RestorationSlot state m changes r slot t
     → RestorationSlot state (discarding m n target) changes r slot (thinned t clock fs)
 restorations_thin Fencing m n target changes r slot t clock fs le h = record { acked = h.acked; fenced = h.fenced }
-restorations_thin (Snapshotting point own) m n target changes r slot t clock fs le h = record { fenced = λ i opened. h.fenced i (record { kept = opened.kept; opened = opened.opened; owned = opened.owned }) }
-restorations_thin (Switching point serving) m n target changes r slot t clock fs le h = record {
-  fenced = λ i opened. h.fenced i (record { kept = opened.kept; opened = opened.opened; owned = opened.owned });
-  past = λ i opened is. le_trans (h.past i (record { kept = opened.kept; opened = opened.opened; owned = opened.owned }) is) le;
-}
-restorations_thin (Restoring point serving) m n target changes r slot t clock fs le h = λ l isin is. (let k = h l isin is in record {
-  acked = k.acked;
-  fenced = k.fenced;
-  restored = λ restores did. (let q = k.restored restores did in record { serves = q.serves; cutoff_is = q.cutoff_is; rows = q.rows });
-  hidden = k.hidden;
-})
+restorations_thin (Snapshotting point own) m n target changes r slot t clock fs le h = record { fenced = h.fenced }
+restorations_thin (Switching point serving) m n target changes r slot t clock fs le h = record { fenced = h.fenced; past = λ i opened is. le_trans (h.past i opened is) le }
+restorations_thin (Restoring point serving) m n target changes r slot t clock fs le h = λ l isin is. (let k = h l isin is in
+    let restored : is_restore l.body ≡ true → is_done t.done r.id RestoreFromKind ≡ true → IsRestored changes r point (thinned t clock fs) = λ restores did. (let q = k.restored restores did in record { serves = q.serves; cutoff_is = q.cutoff_is; rows = q.rows }) in
+    assumption restored)
 restorations_thin (Releasing point serving) m n target changes r slot t clock fs le h = λ l isin is. (let k = h l isin is in record { acked = k.acked; serves = k.serves; released = k.released; fenced = k.fenced })
 restorations_thin (Restored point serving) m n target changes r slot t clock fs le h = tt
 
@@ -166,53 +145,34 @@ clones_thin : (state : CloneState) (m : Master) (n : ℕ) (target : Id) (changes
     → CloneSlot state (discarding m n target) changes c slot (thinned t clock fs)
 clones_thin Accepted m n target changes c slot t clock fs le h = record { empty = h.empty }
 clones_thin (CloneSnapshot own) m n target changes c slot t clock fs le h = record { empty = h.empty }
-clones_thin (Copying serving at) m n target changes c slot t clock fs le h = record {
-  acked = h.acked;
-  empty = h.empty;
-  copied = λ p paired is done. (let k = h.copied p paired is done in record {
-    serves = k.serves;
-    fenced = k.fenced;
-    tablet_is = k.tablet_is;
-    table_is = k.table_is;
-    low_is = k.low_is;
-    high_is = k.high_is;
-    cutoff = k.cutoff;
-    rows = k.rows;
-  });
-  later = λ serves free of. le_trans (h.later serves free of) le;
-}
+clones_thin (Copying serving at) m n target changes c slot t clock fs le h =
+    let copied : (p : TabletPair) → In p c.tablets → p.slot ≡ slot → is_done t.done c.id CopyKind ≡ true → IsCopy changes c at p (thinned t clock fs) = λ p paired is done. (let k = h.copied p paired is done in assumption k) in
+    let later : is_serving t.presence ≡ true → t.fence ≡ None → owner_of m.catalog.owners t.table ≡ Some c.source → c.to ≤ clock = λ serves free of. le_trans (h.later serves free of) le in
+    assumption (copied, later)
 clones_thin (CloneReleasing serving at) m n target changes c slot t clock fs le h = λ l isin is. (let k = h l isin is in record { acked = k.acked; serves = k.serves; released = k.released; fenced = k.fenced })
 clones_thin (CloneComplete serving at) m n target changes c slot t clock fs le h = tt
 
-home_thin : (m : Master) (n : ℕ) (target : Id) (slot : ℕ) (tablet : Id) → IsHome m slot tablet ⊎ IsTarget m slot tablet → IsHome (discarding m n target) slot tablet ⊎ IsTarget (discarding m n target) slot tablet
-home_thin m n target slot tablet (inl h) = inl (record { interval = h.interval; kept = h.kept; slot_is = h.slot_is; tablet_is = h.tablet_is })
-home_thin m n target slot tablet (inr h) =
-    inr (record { clone = h.clone; kept = h.kept; serving = h.serving; at = h.at; state_is = h.state_is; pair = h.pair; paired = h.paired; slot_is = h.slot_is; tablet_is = h.tablet_is })
-
 pub works_thinned : (m : Master) (n : ℕ) (target : Id) (changes : List Change) (r : SnapshotRecord) (slot : ℕ) (t : Tablet) (clock : ℕ) (fs : List FrozenSet) → IsDiscarded m n target r → t.clock ≤ clock → AreOthers target t.frozen fs → SlotWorks m changes slot t
     → SlotWorks (discarding m n target) changes slot (thinned t clock fs)
-works_thinned m n target changes r slot t clock fs d le others h = let o = h.orders in let b = h.obeyed in record {
+works_thinned m n target changes r slot t clock fs d le others h =
+    let o = h.orders in
+    let b = h.obeyed in record {
   orders = record {
-    fences = λ operation is. fence_thin m n target slot t.table t.done operation (o.fences operation is);
+    fences = o.fences;
     orders = λ c lists. (let k = o.orders c lists in record {
       is_pending = pending_thin c.operation.kind m n target c.operation slot (λ q isin e. ap (λ x. x.complete) (d.alone q isin e) ∙ d.complete) ∙ k.is_pending;
       after = after_thin m n target t.clock clock c.operation _ le k.after;
     });
     once = o.once;
     fresh = o.fresh;
-    marks = λ mark lists. (let k = o.marks mark lists in record {
-      drawn = k.drawn;
-      after = after_thin m n target t.clock clock mark.operation mark.kind le k.after;
-      by_snapshot = λ q isin. k.by_snapshot q (was_record target m.snapshots q isin).0;
-      by_restoration = k.by_restoration;
-      by_clone = k.by_clone;
-    });
-    holds = λ q isin did. (
-        let w = was_record target m.snapshots q isin in
+    marks = λ mark lists. (let k = o.marks mark lists in
+    let after : IsAfterIn (operations (discarding m n target)) clock mark.operation mark.kind = after_thin m n target t.clock clock mark.operation mark.kind le k.after in
+    let by_snapshot : (r : SnapshotRecord) → In r ((without target m.snapshots)) → r.id ≡ mark.operation → mark.kind ≡ FreezeKind = λ q isin. k.by_snapshot q (was_record target m.snapshots q isin).0 in
+    assumption (after, by_snapshot));
+    holds = λ q isin did. (let w = was_record target m.snapshots q isin in
         let f = o.holds q w.0 did in record { set = f.set; held = others.found q.id w.1 ∙ f.held; time = f.time; inside = f.inside });
     frozen = λ f held. o.frozen f (others.each f held).0;
-    sets = λ f held. (
-        let w = others.each f held in
+    sets = λ f held. (let w = others.each f held in
         let k = o.sets f w.0 in record {
           snapshot = k.snapshot;
           kept = kept_record target m.snapshots k.snapshot k.kept (λ e. w.1 (sym k.id_is ∙ e));
@@ -226,7 +186,7 @@ works_thinned m n target changes r slot t clock fs d le others h = let o = h.ord
   };
   obeyed = record {
     drawn_table = b.drawn_table;
-    home = λ present. home_thin m n target slot t.tablet (b.home present);
+    home = b.home;
     snapshots = λ q l isin. b.snapshots q l (was_record target m.snapshots q isin).0;
     restorations = λ q known. restorations_thin q.state m n target changes q slot t clock fs le (b.restorations q known);
     clones = λ c known. clones_thin c.state m n target changes c slot t clock fs le (b.clones c known);

@@ -35,7 +35,6 @@ use Rattle.law_invariants.proofs.Undoing.{RowsFrom, one_more}
 use Rattle.law_invariants.proofs.Working.{before_any}
 use Rattle.law_changes.proofs.Creating.{none_awaited, awaited_none}
 use Rattle.law_invariants.proofs.Names.{new_namespace}
-use Rattle.law_invariants.proofs.Ordering.{pending_on, after_on}
 use Rattle.law_moves.proofs.Moving.{done_is}
 use Rattle.law_moves.proofs.Slots.{serving_present}
 use Rattle.law_clones.proofs.Beside.{FloorsRise, schedule_beside, scheduled_beside, snapshot_beside, restoration_beside, clone_beside, journal_beside, rows_beside, forgotten_beside, master_beside, slot_beside, restoration_slot_beside, clone_slot_beside}
@@ -396,14 +395,14 @@ module _ (ps : Parts) (activity : List Interval) (changes : List Change) (n : �
       record {
         fences = λ operation is. fence_grown slot t.table t.done operation (h.fences operation is);
         orders = λ c isin. (let k = h.orders c isin in record {
-          is_pending = pending_on c.operation.kind m n g.catalog g.activity m.drawn m.sent c.operation slot ∙ k.is_pending;
-          after = after_on m n g.catalog g.activity m.drawn m.sent t.clock c.operation _ k.after;
+          is_pending = k.is_pending;
+          after = k.after;
         });
         once = h.once;
         fresh = h.fresh;
         marks = λ mark isin. (let k = h.marks mark isin in record {
           drawn = k.drawn;
-          after = after_on m n g.catalog g.activity m.drawn m.sent t.clock mark.operation mark.kind k.after;
+          after = k.after;
           by_snapshot = k.by_snapshot;
           by_restoration = k.by_restoration;
           by_clone = k.by_clone;

@@ -1,13 +1,14 @@
 -- An ack changes a record's list alone, and there one mark: what holds of the records goes on.
+use Rattle.std.specs.Prelude.{Some}
 use Rattle.std.proofs.Common.{ℕ, ◌≡◌, ◌≤◌, ◌<◌, List, [], ◌∷◌, Bool, true, false, cond, ◌&&◌, ◌||◌, ◌⊎◌, inl, inr, map, refl, sym, ap, subst, ◌∙◌, not, eqb, eqb-true}
 use Rattle.std.specs.Option.{option_or, option_map}
 use Rattle.row_values.specs.Ids.{Id, same}
 use Rattle.row_values.specs.Elements.{In}
-use Rattle.model.specs.Catalog.{kept_from}
-use Rattle.model.specs.Activity.{Interval}
+use Rattle.model.specs.Catalog.{kept_from, owner_of}
+use Rattle.model.specs.Activity.{Interval, active_within}
 use Rattle.model.specs.Journal.{Change}
-use Rattle.model.specs.Tablets.{Body, RestoreFrom, Hide}
-use Rattle.model.specs.Records.{Listed, Sent, Schedule, SnapshotRecord, RestorationRecord, RestorationState, Fencing, Snapshotting, Switching, Restoring, Releasing, Restored, CloneRecord, CloneState, Accepted, CloneSnapshot, Copying, CloneReleasing, CloneComplete, acked_at, is_restored, is_cloned, is_visible, ScheduledNamespace}
+use Rattle.model.specs.Tablets.{Body, RestoreFrom, Hide, Freeze}
+use Rattle.model.specs.Records.{Listed, Sent, Schedule, SnapshotRecord, RestorationRecord, RestorationState, Fencing, Snapshotting, Switching, Restoring, Releasing, Restored, CloneRecord, CloneState, Accepted, CloneSnapshot, Copying, CloneReleasing, CloneComplete, acked_at, is_restored, is_cloned, is_visible, ScheduledNamespace, TabletPair}
 use Rattle.model.specs.Coordination.{acked_snapshot, acked_restoration, acked_clone}
 use Rattle.model.specs.Stands.{is_restore}
 use Rattle.model.specs.Operations.{restoration_of, clone_with}
@@ -15,7 +16,7 @@ use Rattle.model.specs.Schedules.{floor, least_low}
 use Rattle.model.specs.Cleanup.{floor_of}
 use Rattle.model.specs.Parts.{Master}
 use Rattle.law_store.proofs.Keys.{either_way}
-use Rattle.law_invariants.specs.Operations.{SnapshotsRise, OperationsApart, Uses, IsKnown, IsListed, IsOpenOf, IsReached, ScheduleGood, SnapshotGood, IsServing, IsPoint, BeforePoint, IsAfterSwitch, IsActive, RestorationStateGood, RestorationGood, CloneStateGood, CloneGood, IsSent, OperationsGood, ScheduledGood}
+use Rattle.law_invariants.specs.Operations.{SnapshotsRise, OperationsApart, Uses, IsKnown, IsListed, IsOpenOf, IsReached, ScheduleGood, SnapshotGood, IsServing, IsPoint, BeforePoint, IsAfterSwitch, IsActive, RestorationStateGood, RestorationGood, CloneStateGood, CloneGood, IsSent, OperationsGood, ScheduledGood, PairIn, IsSource, IsReserved}
 use Rattle.law_invariants.proofs.Finding.{in_mapped, map_in, either_is}
 
 -- Lists
@@ -158,12 +159,6 @@ known_acked m id slot l k tablet at h = record { interval = h.interval; kept = h
 listed_acked : (b : Bool) (ls : List Listed) (slot : ℕ) (i : Interval) → IsListed ls i → IsListed (ack_if b slot ls) i
 listed_acked b ls slot i h = let k = now b ls slot h.line h.listed in record { line = k.line; listed = k.listed; tablet_is = k.tablet_is ∙ h.tablet_is; slot_is = k.slot_is ∙ h.slot_is }
 
-pub open_back : (m : Master) (id : Id) (slot : ℕ) (ns : Id) (i : Interval) → IsOpenOf (acked_all id slot m) ns i → IsOpenOf m ns i
-open_back m id slot ns i h = record { kept = h.kept; opened = h.opened; owned = h.owned }
-
-pub open_acked : (m : Master) (id : Id) (slot : ℕ) (ns : Id) (i : Interval) → IsOpenOf m ns i → IsOpenOf (acked_all id slot m) ns i
-open_acked m id slot ns i h = record { kept = h.kept; opened = h.opened; owned = h.owned }
-
 active_acked : (m : Master) (id : Id) (slot : ℕ) (l k : Listed) (from : ℕ) → l.tablet ≡ k.tablet → l.slot ≡ k.slot → IsActive m k from → IsActive (acked_all id slot m) l from
 active_acked m id slot l k from tablet at h = record { interval = h.interval; kept = h.kept; tablet_is = h.tablet_is ∙ sym tablet; slot_is = h.slot_is ∙ sym at; opened = h.opened; from_is = h.from_is }
 
@@ -181,23 +176,18 @@ scheduled_acked : (m : Master) (id : Id) (slot : ℕ) (k : ScheduledNamespace) �
 scheduled_acked m id slot k h = record { drawn_namespace = h.drawn_namespace; from_one = h.from_one; last = h.last; reached = reached_acked m id slot k.namespace _ h.reached; has = h.has }
 
 snapshot_acked : (m : Master) (id : Id) (slot : ℕ) (r : SnapshotRecord) → SnapshotGood m r → SnapshotGood (acked_all id slot m) (ack_snapshot id slot r)
-snapshot_acked m id slot r h = let b = same r.id id in record {
-  kind_is = h.kind_is;
-  drawn = h.drawn;
-  drawn_namespace = h.drawn_namespace;
-  rises = h.rises;
-  past = h.past;
-  bodies = λ l isin. (let w = was b r.listed slot l isin in w.body_is ∙ h.bodies w.line w.listed);
-  drawn_listed = λ l isin. (let w = was b r.listed slot l isin in subst (λ t. t.number ≤ m.drawn.tablets) (sym w.tablet_is) (h.drawn_listed w.line w.listed));
-  listed_of = λ l i isin there is. (let w = was b r.listed slot l isin in let k = h.listed_of w.line i w.listed there (is ∙ w.tablet_is) in (k.0, k.1 ∙ sym w.slot_is));
-  known = λ unfinished l isin. (let w = was b r.listed slot l isin in known_acked m id slot l w.line w.tablet_is w.slot_is (h.known unfinished w.line w.listed));
-  lists = λ i there owned active. listed_acked b r.listed slot i (h.lists i there owned active);
-  reached = elim h.reached [
+snapshot_acked m id slot r h =
+    let b = same r.id id in
+    let bodies : (l : Listed) → In l (if_same r.id id slot r.listed) → l.body ≡ Freeze r.id r.at = λ l isin. (let w = was b r.listed slot l isin in w.body_is ∙ h.bodies w.line w.listed) in
+    let drawn_listed : (l : Listed) → In l (if_same r.id id slot r.listed) → l.tablet.number ≤ m.drawn.tablets = λ l isin. (let w = was b r.listed slot l isin in subst (λ t. t.number ≤ m.drawn.tablets) (sym w.tablet_is) (h.drawn_listed w.line w.listed)) in
+    let listed_of : (l : Listed) (i : Interval) → In l (if_same r.id id slot r.listed) → In i m.activity → i.tablet ≡ l.tablet → (owner_of m.catalog.owners i.table ≡ Some r.namespace) × (i.slot ≡ l.slot) = λ l i isin there is. (let w = was b r.listed slot l isin in let k = h.listed_of w.line i w.listed there (is ∙ w.tablet_is) in (k.0, k.1 ∙ sym w.slot_is)) in
+    let known : r.complete ≡ false → (l : Listed) → In l (if_same r.id id slot r.listed) → IsKnown (acked_all id slot m) l = λ unfinished l isin. (let w = was b r.listed slot l isin in known_acked m id slot l w.line w.tablet_is w.slot_is (h.known unfinished w.line w.listed)) in
+    let lists : (i : Interval) → In i m.activity → owner_of m.catalog.owners i.table ≡ Some r.namespace → active_within r.after r.at i ≡ true → IsListed (if_same r.id id slot r.listed) i = λ i there owned active. listed_acked b r.listed slot i (h.lists i there owned active) in
+    let reached : (r.after < floor_of (acked_all id slot m) r.namespace m.clock) ⊎ ((q : SnapshotRecord) × (In q (acked_snapshot id slot m.snapshots) × ((q.namespace ≡ r.namespace) × ((q.at ≡ r.after) × (q.complete ≡ true))))) = elim h.reached [
     | inl low ↦ inl (subst (λ y. r.after < y) (sym (floor_acked m id slot r.namespace m.clock)) low)
     | inr q ↦ inr (ack_snapshot id slot q.0, (snapshot_stays m id slot q.0 q.1.0, q.1.1))
-  ];
-  scheduled = h.scheduled;
-}
+  ] in
+    assumption (bodies, drawn_listed, listed_of, known, lists, reached)
 
 serving_acked : (m : Master) (id : Id) (slot : ℕ) (snapshot ns : Id) (to : ℕ) → IsServing m snapshot ns to → IsServing (acked_all id slot m) snapshot ns to
 serving_acked m id slot snapshot ns to h = record {
@@ -213,15 +203,9 @@ serving_acked m id slot snapshot ns to h = record {
 -- Restorations
 
 point_acked : (m : Master) (id : Id) (slot : ℕ) (changes : List Change) (r : RestorationRecord) (point : ℕ) → IsPoint m changes r point → IsPoint (acked_all id slot m) changes (ack_restoration id slot r) point
-point_acked m id slot changes r point h = record {
-  later = h.later;
-  fixed = h.fixed;
-  snapshots = each_snapshot m id slot (λ q. q.namespace ≡ r.namespace → q.at < point) (λ q inq. h.snapshots q inq);
-  complete = h.complete;
-}
-
-before_acked : (m : Master) (id : Id) (slot : ℕ) (ns : Id) (point : ℕ) → BeforePoint m ns point → BeforePoint (acked_all id slot m) ns point
-before_acked m id slot ns point h = record { begun = h.begun; ended = h.ended; tables_begun = h.tables_begun; tables_ended = h.tables_ended }
+point_acked m id slot changes r point h =
+    let snapshots : (q : SnapshotRecord) → In q (acked_snapshot id slot m.snapshots) → q.namespace ≡ r.namespace → q.at < point = each_snapshot m id slot (λ q. q.namespace ≡ r.namespace → q.at < point) (λ q inq. h.snapshots q inq) in
+    assumption snapshots
 
 after_same : (r q : RestorationRecord) (point : ℕ) (serving : Id) (b : Body) → q.to ≡ r.to → IsAfterSwitch r point serving b → IsAfterSwitch q point serving b
 after_same r q point serving (RestoreFrom snapshot to at version) e h = (h.0, (h.1.0 ∙ sym e, h.1.1))
@@ -231,14 +215,14 @@ after_same r q point serving _ e h = absurd h
 state_acked : (state : RestorationState) (m : Master) (id : Id) (slot : ℕ) (changes : List Change) (r : RestorationRecord) → RestorationStateGood state m changes r → RestorationStateGood state (acked_all id slot m) changes (ack_restoration id slot r)
 state_acked Fencing m id slot changes r h = let b = same r.id id in record {
   bodies = λ l isin. (let w = was b r.listed slot l isin in w.body_is ∙ h.bodies w.line w.listed);
-  lists = λ i opened. listed_acked b r.listed slot i (h.lists i (open_back m id slot r.namespace i opened));
-  opens = λ l isin. (let w = was b r.listed slot l isin in let k = h.opens w.line w.listed in (k.0, (open_acked m id slot r.namespace k.0 k.1.0, (k.1.1.0 ∙ sym w.tablet_is, k.1.1.1 ∙ sym w.slot_is))));
+  lists = λ i opened. listed_acked b r.listed slot i (h.lists i opened);
+  opens = λ l isin. (let w = was b r.listed slot l isin in let k = h.opens w.line w.listed in (k.0, (k.1.0, (k.1.1.0 ∙ sym w.tablet_is, k.1.1.1 ∙ sym w.slot_is))));
 }
 state_acked (Snapshotting point own) m id slot changes r h = record {
   is_point = point_acked m id slot changes r point h.is_point;
   empty = ack_empty (same r.id id) slot r.listed h.empty;
   soon = h.soon;
-  before = before_acked m id slot r.namespace point h.before;
+  before = h.before;
   snapshot = ack_snapshot id slot h.snapshot;
   kept = snapshot_stays m id slot h.snapshot h.kept;
   id_is = h.id_is;
@@ -250,7 +234,7 @@ state_acked (Switching point serving) m id slot changes r h = record {
   is_point = point_acked m id slot changes r point h.is_point;
   empty = ack_empty (same r.id id) slot r.listed h.empty;
   begun = h.begun;
-  before = before_acked m id slot r.namespace point h.before;
+  before = h.before;
   serves = serving_acked m id slot serving r.namespace r.to h.serves;
   calm = each_snapshot m id slot (λ q. q.complete ≡ false → q.namespace ≡ r.namespace → ⊥) (λ q inq. h.calm q inq);
 }
@@ -277,7 +261,7 @@ state_acked (Restoring point serving) m id slot changes r h = let b = same r.id 
       });
   gone = λ l i isin hides there is. (let w = was b r.listed slot l isin in h.gone w.line i w.listed (ap is_restore (sym w.body_is) ∙ hides) there (is ∙ w.tablet_is));
   opens = λ i opened. (
-      let k = h.opens i (open_back m id slot r.namespace i opened) in
+      let k = h.opens i opened in
       let w = now b r.listed slot k.is_listed.line k.is_listed.listed in record {
         from_is = k.from_is;
         is_listed = record { line = w.line; listed = w.listed; tablet_is = w.tablet_is ∙ k.is_listed.tablet_is; slot_is = w.slot_is ∙ k.is_listed.slot_is };
@@ -290,20 +274,15 @@ state_acked (Releasing point serving) m id slot changes r h = let b = same r.id 
   switched = h.switched;
   bodies = λ l isin. (let w = was b r.listed slot l isin in w.body_is ∙ h.bodies w.line w.listed);
   active = λ l isin. (let w = was b r.listed slot l isin in active_acked m id slot l w.line point w.tablet_is w.slot_is (h.active w.line w.listed));
-  opens = λ i opened. listed_acked b r.listed slot i (h.opens i (open_back m id slot r.namespace i opened));
+  opens = λ i opened. listed_acked b r.listed slot i (h.opens i opened);
 }
 state_acked (Restored point serving) m id slot changes r h = record { empty = ack_empty (same r.id id) slot r.listed h.empty; begun = h.begun; later = h.later; switched = h.switched }
 
 restoration_acked : (m : Master) (id : Id) (slot : ℕ) (changes : List Change) (r : RestorationRecord) → RestorationGood m changes r → RestorationGood (acked_all id slot m) changes (ack_restoration id slot r)
-restoration_acked m id slot changes r h = record {
-  kind_is = h.kind_is;
-  drawn = h.drawn;
-  drawn_namespace = h.drawn_namespace;
-  past = h.past;
-  scheduled = h.scheduled;
-  known = λ unfinished l isin. (let w = was (same r.id id) r.listed slot l isin in known_acked m id slot l w.line w.tablet_is w.slot_is (h.known unfinished w.line w.listed));
-  in_state = state_acked r.state m id slot changes r h.in_state;
-}
+restoration_acked m id slot changes r h =
+    let known : is_restored r.state ≡ false → (l : Listed) → In l (if_same r.id id slot r.listed) → IsKnown (acked_all id slot m) l = λ unfinished l isin. (let w = was (same r.id id) r.listed slot l isin in known_acked m id slot l w.line w.tablet_is w.slot_is (h.known unfinished w.line w.listed)) in
+    let in_state : RestorationStateGood r.state (acked_all id slot m) changes (ack_restoration id slot r) = state_acked r.state m id slot changes r h.in_state in
+    assumption (known, in_state)
 
 -- Clones
 
@@ -334,29 +313,15 @@ clone_state_acked (CloneReleasing serving at) m id slot c h = let b = same c.id 
   bodies = λ l isin. (let w = was b c.listed slot l isin in w.body_is ∙ h.bodies w.line w.listed);
   active = λ l isin. (let w = was b c.listed slot l isin in active_acked m id slot l w.line h.since w.tablet_is w.slot_is (h.active w.line w.listed));
   listed_of = λ l i isin there is. (let w = was b c.listed slot l isin in h.listed_of w.line i w.listed there (is ∙ w.tablet_is));
-  opens = λ i opened. listed_acked b c.listed slot i (h.opens i (open_back m id slot c.target_id i opened));
+  opens = λ i opened. listed_acked b c.listed slot i (h.opens i opened);
 }
 clone_state_acked (CloneComplete serving at) m id slot c h = ack_empty (same c.id id) slot c.listed h
 
 clone_acked : (m : Master) (id : Id) (slot : ℕ) (changes : List Change) (c : CloneRecord) → CloneGood m changes c → CloneGood (acked_all id slot m) changes (ack_clone id slot c)
-clone_acked m id slot changes c h = record {
-  kind_is = h.kind_is;
-  drawn = h.drawn;
-  drawn_source = h.drawn_source;
-  drawn_target = h.drawn_target;
-  apart = h.apart;
-  past = h.past;
-  pairs = λ p paired. (let g = h.pairs p paired in record { slot_from = g.slot_from; slot_to = g.slot_to; drawn = g.drawn; drawn_table = g.drawn_table; owned = g.owned });
-  drawn_listed = λ l isin. (let w = was (same c.id id) c.listed slot l isin in subst (λ t. t.number ≤ m.drawn.tablets) (sym w.tablet_is) (h.drawn_listed w.line w.listed));
-  one_slot = h.one_slot;
-  one_target = h.one_target;
-  one_table = h.one_table;
-  tables_apart = h.tables_apart;
-  owned = h.owned;
-  drawn_sources = h.drawn_sources;
-  covers = h.covers;
-  scheduled = h.scheduled;
-  sources = λ unfinished p paired. (let k = h.sources unfinished p paired in record {
+clone_acked m id slot changes c h =
+    let pairs_now : (p : TabletPair) → In p c.tablets → PairIn m.slots m.drawn m.catalog.owners (ack_clone id slot c) p = λ p paired. (let g = h.pairs p paired in record { slot_from = g.slot_from; slot_to = g.slot_to; drawn = g.drawn; drawn_table = g.drawn_table; owned = g.owned }) in
+    let drawn_listed : (l : Listed) → In l (if_same c.id id slot c.listed) → l.tablet.number ≤ m.drawn.tablets = λ l isin. (let w = was (same c.id id) c.listed slot l isin in subst (λ t. t.number ≤ m.drawn.tablets) (sym w.tablet_is) (h.drawn_listed w.line w.listed)) in
+    let sources : is_cloned c.state ≡ false → (p : TabletPair) → In p c.tablets → IsSource (acked_all id slot m) (ack_clone id slot c) p = λ unfinished p paired. (let k = h.sources unfinished p paired in record {
     interval = k.interval;
     kept = k.kept;
     tablet_is = k.tablet_is;
@@ -369,20 +334,15 @@ clone_acked m id slot changes c h = record {
     paired = k.paired;
     source_is = k.source_is;
     target_is = k.target_is;
-  });
-  reserved = λ unseen p paired. (let k = h.reserved unseen p paired in record {
+  }) in
+    let reserved : is_visible c.state ≡ false → (p : TabletPair) → In p c.tablets → IsReserved (acked_all id slot m) p = λ unseen p paired. (let k = h.reserved unseen p paired in record {
     free = k.free;
     unknown = k.unknown;
     no_snapshot = λ r l isin. each_snapshot m id slot (λ q. In l q.listed → l.tablet ≡ p.target → ⊥) (λ q inq lists is. let w = was (same q.id id) q.listed slot l lists in k.no_snapshot q w.line inq w.listed (sym w.tablet_is ∙ is)) r isin;
     no_restoration = λ r l isin. all_restorations m id slot (λ q. In l q.listed → l.tablet ≡ p.target → ⊥) (λ q inq lists is. let w = was (same q.id id) q.listed slot l lists in k.no_restoration q w.line inq w.listed (sym w.tablet_is ∙ is)) r isin;
-  });
-  no_tablet = h.no_tablet;
-  no_table = h.no_table;
-  no_namespace = h.no_namespace;
-  no_schedule = h.no_schedule;
-  unfixed = h.unfixed;
-  in_state = clone_state_acked c.state m id slot c h.in_state;
-}
+  }) in
+    let in_state : CloneStateGood c.state (acked_all id slot m) (ack_clone id slot c) = clone_state_acked c.state m id slot c h.in_state in
+    assumption (pairs_now, drawn_listed, sources, reserved, in_state)
 
 -- All
 

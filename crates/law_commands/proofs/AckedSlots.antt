@@ -1,5 +1,5 @@
 -- What holds of the master, of slots and of the journal goes on through an ack, where the tablet did what is acked.
-use Rattle.std.proofs.Common.{ℕ, ◌≡◌, ◌≤◌, ◌<◌, List, [], ◌∷◌, Option, Some, None, Bool, true, false, cond, ◌&&◌, ◌||◌, inl, inr, map, refl, sym, ap, subst, ◌∙◌, arith, not, eqb, eqb-true, le_trans}
+use Rattle.std.proofs.Common.{ℕ, ◌≡◌, ◌≤◌, ◌<◌, List, [], ◌∷◌, Option, Some, None, Bool, true, false, cond, ◌&&◌, ◌||◌, inl, inr, map, refl, sym, ap, subst, ◌∙◌, arith, not, eqb, eqb-true, le_trans, ◌⊎◌}
 use Rattle.std.specs.List.{list_any}
 use Rattle.std.specs.Option.{option_and_then, option_map_or}
 use Rattle.std.proofs.lemmas.Bool.{true≢false}
@@ -10,51 +10,43 @@ use Rattle.model.specs.Times.{ended_by}
 use Rattle.model.specs.Catalog.{owner_of}
 use Rattle.model.specs.Activity.{Interval}
 use Rattle.model.specs.Journal.{Change}
-use Rattle.model.specs.Tablets.{Tablet, Command, Mark, Body, BodyKind, FenceKind, FreezeKind, RestoreFromKind, HideKind, CopyKind, ReleaseKind, kind_of, is_done, FrozenSet}
+use Rattle.model.specs.Tablets.{Tablet, Command, Mark, Body, BodyKind, FenceKind, FreezeKind, RestoreFromKind, HideKind, CopyKind, ReleaseKind, kind_of, is_done, FrozenSet, is_serving, HiddenPart}
 use Rattle.model.specs.Tablets as tell
-use Rattle.model.specs.Records.{Listed, SnapshotRecord, RestorationRecord, RestorationState, Fencing, Snapshotting, Switching, Restoring, Releasing, Restored, CloneRecord, CloneState, Accepted, CloneSnapshot, Copying, CloneReleasing, CloneComplete, acked_at, unacked_at, is_restored, is_cloned, is_visible, point_of}
-use Rattle.model.specs.Coordination.{pending_of, unfinished_snapshot, unfinished_restoration, unfinished_clone}
+use Rattle.model.specs.Records.{Listed, SnapshotRecord, RestorationRecord, RestorationState, Fencing, Snapshotting, Switching, Restoring, Releasing, Restored, CloneRecord, CloneState, Accepted, CloneSnapshot, Copying, CloneReleasing, CloneComplete, acked_at, unacked_at, is_restored, is_cloned, is_visible, point_of, TabletPair}
+use Rattle.model.specs.Coordination.{pending_of, unfinished_snapshot, unfinished_restoration, unfinished_clone, acked_restoration, acked_clone}
 use Rattle.model.specs.Stands.{is_restore, is_after_switch, copied_at, awaited_in, awaited_of, first_of_two, HoldsFrozen}
 use Rattle.model.specs.Cleanup.{floor_of}
 use Rattle.model.specs.Parts.{Master}
 use Rattle.law_store.proofs.Keys.{either_way}
-use Rattle.law_invariants.specs.Remembered.{Remembered}
-use Rattle.law_invariants.specs.Invariant.{MasterGood, ComesFrom, is_awaited, SlotGood}
+use Rattle.law_invariants.specs.Remembered.{Remembered, IsForgotten}
+use Rattle.law_invariants.specs.Invariant.{MasterGood, ComesFrom, is_awaited, SlotGood, TurnsAt, StandsIn, IsGoodIn, TakesWritesIn}
 use Rattle.law_invariants.specs.Operations.{RestorationStateGood, CloneStateGood, OperationsGood, JournalGood, AfterRowsOf}
-use Rattle.law_invariants.specs.Orders.{FencePlace, ClonePlace, IsFence, IsAfter, OrdersGood, restoring_stage, stage_of_restoration, cloning_stage, stage_of_clone, ReleasingSlot, RestorationSlot, CloneSlot, ObeyedGood, RowsPast}
+use Rattle.law_invariants.specs.Orders.{FencePlace, ClonePlace, IsFence, IsAfter, OrdersGood, restoring_stage, stage_of_restoration, cloning_stage, stage_of_clone, ReleasingSlot, RestorationSlot, CloneSlot, ObeyedGood, RowsPast, directory, IsCopy}
 use Rattle.law_invariants.proofs.Finding.{not_passing, same_equal, either_is}
-use Rattle.law_commands.proofs.Acked.{pairs, ack_if, Was, was, now, ack_snapshot, ack_restoration, ack_clone, acked_all, each_snapshot, all_restorations, all_clones, snapshot_stays, restoration_stays, clone_stays, floor_acked, open_back, open_acked}
+use Rattle.law_commands.proofs.Acked.{pairs, ack_if, Was, was, now, ack_snapshot, ack_restoration, ack_clone, acked_all, each_snapshot, all_restorations, all_clones, snapshot_stays, restoration_stays, clone_stays, floor_acked, if_same}
 
 -- The master
 
 pub master_acked : (m : Master) (id : Id) (slot : ℕ) (changes : List Change) → MasterGood m changes → MasterGood (acked_all id slot m) changes
-master_acked m id slot changes h = record {
-  marks = h.marks;
-  namespaces = h.namespaces;
-  tables = h.tables;
-  past = h.past;
-  complete = h.complete;
-  listed = λ r l isin. all_restorations m id slot (λ q. In l q.listed → l.tablet.number ≤ m.drawn.tablets)
-      (λ q inq lists. let w = was (same q.id id) q.listed slot l lists in subst (λ t. t.number ≤ m.drawn.tablets) (sym w.tablet_is) (h.listed q w.line inq w.listed)) r isin;
-  listed_of = λ r l isin lists i there is. all_restorations m id slot (λ q. In l q.listed → owner_of m.catalog.owners i.table ≡ Some q.namespace)
-      (λ q inq isl. let w = was (same q.id id) q.listed slot l isl in h.listed_of q w.line inq w.listed i there (is ∙ w.tablet_is)) r isin lists;
-}
+master_acked m id slot changes h =
+    let listed : (r : RestorationRecord) (l : Listed) → In r (acked_restoration id slot m.restorations) → In l r.listed → l.tablet.number ≤ m.drawn.tablets = λ r l isin. all_restorations m id slot (λ q. In l q.listed → l.tablet.number ≤ m.drawn.tablets)
+      (λ q inq lists. let w = was (same q.id id) q.listed slot l lists in subst (λ t. t.number ≤ m.drawn.tablets) (sym w.tablet_is) (h.listed q w.line inq w.listed)) r isin in
+    let listed_of : (r : RestorationRecord) (l : Listed) → In r (acked_restoration id slot m.restorations) → In l r.listed → (i : Interval) → In i m.activity → i.tablet ≡ l.tablet → owner_of m.catalog.owners i.table ≡ Some r.namespace = λ r l isin lists i there is. all_restorations m id slot (λ q. In l q.listed → owner_of m.catalog.owners i.table ≡ Some q.namespace)
+      (λ q inq isl. let w = was (same q.id id) q.listed slot l isl in h.listed_of q w.line inq w.listed i there (is ∙ w.tablet_is)) r isin lists in
+    assumption (listed, listed_of)
 
 table_floor : (m : Master) (id : Id) (slot : ℕ) (owner : Option Id) (n : ℕ) → option_map_or (λ ns. floor_of (acked_all id slot m) ns n) owner n ≡ option_map_or (λ ns. floor_of m ns n) owner n
 table_floor m id slot None n = refl
 table_floor m id slot (Some ns) n = floor_acked m id slot ns n
 
 pub remembered_acked : (m : Master) (id : Id) (slot : ℕ) (activity : List Interval) → Remembered m activity → Remembered (acked_all id slot m) activity
-remembered_acked m id slot activity h = record {
-  kept = h.kept;
-  each = λ i isin. elim (h.each i isin) [
+remembered_acked m id slot activity h =
+    let each : (i : Interval) → In i activity → In i m.activity ⊎ IsForgotten (acked_all id slot m) i = λ i isin. elim (h.each i isin) [
     | inl here ↦ inl here
     | inr gone ↦ inr (record { below = ap (λ f. ended_by f i.to) (table_floor m id slot (owner_of m.catalog.owners i.table) m.clock) ∙ gone.below; over = gone.over; unknown = gone.unknown })
-  ];
-  drawn = h.drawn;
-  drawn_table = h.drawn_table;
-  reserved = λ c p i known unseen paired isin. all_clones m id slot (λ d. is_visible d.state ≡ false → In p d.tablets → (i.tablet ≡ p.target → ⊥) × (i.table ≡ p.table → ⊥)) (λ d ind a b. h.reserved d p i ind a b isin) c known unseen paired;
-}
+  ] in
+    let reserved : (c : CloneRecord) (p : TabletPair) (i : Interval) → In c (acked_clone id slot m.clones) → is_visible c.state ≡ false → In p c.tablets → In i activity → (i.tablet ≡ p.target → ⊥) × (i.table ≡ p.table → ⊥) = λ c p i known unseen paired isin. all_clones m id slot (λ d. is_visible d.state ≡ false → In p d.tablets → (i.tablet ≡ p.target → ⊥) × (i.table ≡ p.table → ⊥)) (λ d ind a b. h.reserved d p i ind a b isin) c known unseen paired in
+    assumption (each, reserved)
 
 pub journal_acked : (m : Master) (id : Id) (slot : ℕ) (changes : List Change) → JournalGood m changes → JournalGood (acked_all id slot m) changes
 journal_acked m id slot changes h = record {
@@ -103,12 +95,8 @@ any_if true ls slot tablet = any_acked ls slot tablet
 any_if false ls slot tablet = refl
 
 awaited_of_acked : (state : RestorationState) (r : RestorationRecord) (id : Id) (slot : ℕ) (tablet : Id) (done : List Mark) → awaited_of state (ack_restoration id slot r) tablet done ≡ awaited_of state r tablet done
-awaited_of_acked Fencing r id slot tablet done = refl
-awaited_of_acked (Snapshotting point own) r id slot tablet done = refl
-awaited_of_acked (Switching point serving) r id slot tablet done = refl
 awaited_of_acked (Restoring point serving) r id slot tablet done = ap (λ q. cond (q && not (is_done done r.id RestoreFromKind)) (Some point) None) (any_if (same r.id id) r.listed slot tablet)
-awaited_of_acked (Releasing point serving) r id slot tablet done = refl
-awaited_of_acked (Restored point serving) r id slot tablet done = refl
+awaited_of_acked _ r id slot tablet done = refl
 
 awaited_acked : (rs : List RestorationRecord) (id : Id) (slot : ℕ) (tablet : Id) (done : List Mark) → awaited_in (map (ack_restoration id slot) rs) tablet done ≡ awaited_in rs tablet done
 awaited_acked [] id slot tablet done = refl
@@ -119,35 +107,16 @@ awaited_acked (r ∷ rs) id slot tablet done =
 pub slot_acked : (m : Master) (id : Id) (acked slot : ℕ) (changes : List Change) (t : Tablet) → SlotGood m changes slot t → SlotGood (acked_all id acked m) changes slot t
 slot_acked m id acked slot changes t h =
     let e : awaited_in (acked_all id acked m).restorations t.tablet t.done ≡ awaited_in m.restorations t.tablet t.done = awaited_acked m.restorations id acked t.tablet t.done in
-    record {
-      good = h.good;
-      home = h.home;
-      numbered = h.numbered;
-      each = λ i isin is. let g = h.each i isin is in record {
-        past = g.past;
-        over = g.over;
-        drawn = g.drawn;
-        drawn_table = g.drawn_table;
-        slot_from = g.slot_from;
-        slot_to = g.slot_to;
-        present = g.present;
-        tablet_is = g.tablet_is;
-        table_is = g.table_is;
-        low_is = g.low_is;
-        high_is = g.high_is;
-        viewed = g.viewed;
-        waits = λ point a. g.waits point (sym e ∙ a);
-        comes = λ r point known. all_restorations m id acked (λ q. awaited_of q.state q t.tablet t.done ≡ Some point → i.to ≡ None → ComesFrom changes q.namespace i point q.to)
-            (λ q inq a opened. g.comes q point inq (sym (awaited_of_acked q.state q id acked t.tablet t.done) ∙ a) opened) r known;
-        serves = λ opened none. g.serves opened (sym e ∙ none);
-        hidden = λ at out counted. g.hidden at out (ap (λ p. is_awaited p i.to) (sym e) ∙ counted);
-        stands = λ counted. g.stands (ap (λ p. is_awaited p i.to) (sym e) ∙ counted);
-        sets = g.sets;
-      };
-      opens = λ serving free. let o = h.opens serving free in record { interval = o.interval; listed = o.listed; slot_is = o.slot_is; opened = o.opened; begun = o.begun; settled = e ∙ o.settled };
-      shown = h.shown;
-      later = h.later;
-    }
+    let each : (i : Interval) → In i m.activity → i.slot ≡ slot → IsGoodIn m.clock m.slots (directory (acked_all id acked m)) changes t i = λ i isin is. let g = h.each i isin is in
+    let waits : (point : ℕ) → awaited_in ((acked_restoration id acked m.restorations)) t.tablet t.done ≡ Some point → TurnsAt point i.from i.to = λ point a. g.waits point (sym e ∙ a) in
+    let comes : (r : RestorationRecord) (point : ℕ) → In r ((acked_restoration id acked m.restorations)) → awaited_of r.state r t.tablet t.done ≡ Some point → i.to ≡ None → ComesFrom changes r.namespace i point r.to = λ r point known. all_restorations m id acked (λ q. awaited_of q.state q t.tablet t.done ≡ Some point → i.to ≡ None → ComesFrom changes q.namespace i point q.to)
+            (λ q inq a opened. g.comes q point inq (sym (awaited_of_acked q.state q id acked t.tablet t.done) ∙ a) opened) r known in
+    let serves : i.to ≡ None → awaited_in ((acked_restoration id acked m.restorations)) t.tablet t.done ≡ None → is_serving t.presence ≡ true = λ opened none. g.serves opened (sym e ∙ none) in
+    let hidden : (at : ℕ) → t.presence ≡ HiddenPart at → is_awaited (awaited_in ((acked_restoration id acked m.restorations)) t.tablet t.done) i.to ≡ false → ended_by at i.to ≡ true = λ at out counted. g.hidden at out (ap (λ p. is_awaited p i.to) (sym e) ∙ counted) in
+    let stands : is_awaited (awaited_in ((acked_restoration id acked m.restorations)) t.tablet t.done) i.to ≡ false → StandsIn t changes i = λ counted. g.stands (ap (λ p. is_awaited p i.to) (sym e) ∙ counted) in
+    assumption (waits, comes, serves, hidden, stands) in
+    let opens : is_serving t.presence ≡ true → t.fence ≡ None → TakesWritesIn m.activity ((acked_restoration id acked m.restorations)) slot t = λ serving free. let o = h.opens serving free in record { interval = o.interval; listed = o.listed; slot_is = o.slot_is; opened = o.opened; begun = o.begun; settled = e ∙ o.settled } in
+    assumption (each, opens)
 
 -- Commands
 
@@ -214,10 +183,7 @@ pending_acked : (kind : Kind) (m : Master) (id operation : Id) (slot other : ℕ
 pending_acked Snapshot m id operation slot other l apart e = pending_snapshots m.snapshots id operation slot other l apart e
 pending_acked Restoration m id operation slot other l apart e = pending_restorations m.restorations id operation slot other l apart e
 pending_acked Clone m id operation slot other l apart e = pending_clones m.clones id operation slot other l apart e
-pending_acked Namespace m id operation slot other l apart e = e
-pending_acked Table m id operation slot other l apart e = e
-pending_acked TabletKind m id operation slot other l apart e = e
-pending_acked Schedule m id operation slot other l apart e = e
+pending_acked _ m id operation slot other l apart e = e
 
 after_acked : (m : Master) (id : Id) (slot clock : ℕ) (operation : Id) (kind : BodyKind) → IsAfter m clock operation kind → IsAfter (acked_all id slot m) clock operation kind
 after_acked m id slot clock operation kind h = record {
@@ -230,20 +196,16 @@ after_acked m id slot clock operation kind h = record {
 }
 
 place_acked : (state : RestorationState) (m : Master) (id : Id) (slot : ℕ) (r : RestorationRecord) (at : ℕ) (done : List Mark) → FencePlace state r m at done → FencePlace state (ack_restoration id slot r) (acked_all id slot m) at done
-place_acked Fencing m id slot r at done h = (h.0, (open_acked m id slot r.namespace h.0 h.1.0, h.1.1))
-place_acked (Snapshotting point own) m id slot r at done h = (h.0, (open_acked m id slot r.namespace h.0 h.1.0, h.1.1))
-place_acked (Switching point serving) m id slot r at done h = (h.0, (open_acked m id slot r.namespace h.0 h.1.0, h.1.1))
 place_acked (Restoring point serving) m id slot r at done h = let w = now (same r.id id) r.listed slot h.0 h.1.0 in
     (w.line, (w.listed, (w.slot_is ∙ h.1.1.0, elim h.1.1.1 [ inl restores ↦ inl (ap is_restore w.body_is ∙ restores) | inr hides ↦ inr hides ])))
 place_acked (Releasing point serving) m id slot r at done h = let w = now (same r.id id) r.listed slot h.0 h.1.0 in (w.line, (w.listed, (w.slot_is ∙ h.1.1.0, h.1.1.1)))
 place_acked (Restored point serving) m id slot r at done h = h
+place_acked _ m id slot r at done h = (h.0, (h.1.0, h.1.1))
 
 clone_place_acked : (state : CloneState) (id : Id) (slot : ℕ) (c : CloneRecord) (at : ℕ) (done : List Mark) → ClonePlace state c at done → ClonePlace state (ack_clone id slot c) at done
-clone_place_acked Accepted id slot c at done h = h
-clone_place_acked (CloneSnapshot own) id slot c at done h = h
 clone_place_acked (Copying serving copied) id slot c at done h = let w = now (same c.id id) c.listed slot h.0 h.1.0 in (w.line, (w.listed, w.slot_is ∙ h.1.1))
 clone_place_acked (CloneReleasing serving copied) id slot c at done h = let w = now (same c.id id) c.listed slot h.0 h.1.0 in (w.line, (w.listed, (w.slot_is ∙ h.1.1.0, h.1.1.1)))
-clone_place_acked (CloneComplete serving copied) id slot c at done h = h
+clone_place_acked _ id slot c at done h = h
 
 fence_acked : (m : Master) (id : Id) (slot at : ℕ) (table : Id) (done : List Mark) (operation : Id) → IsFence m at table done operation → IsFence (acked_all id slot m) at table done operation
 fence_acked m id slot at table done operation (inl h) = inl (record {
@@ -294,12 +256,9 @@ pub record AckDone (m : Master) (id : Id) (acked slot : ℕ) (t : Tablet) : Type
 
 releasing_acked : (operation : Id) (ls : List Listed) (b : Bool) (acked slot : ℕ) (l : Listed) (t : Tablet) (w : Was ls b acked l) → l.slot ≡ slot → (b ≡ true → w.line.slot ≡ acked → w.line.slot ≡ slot → is_done t.done operation ReleaseKind ≡ true)
     → ReleasingSlot operation w.line t → ReleasingSlot operation l t
-releasing_acked operation ls b acked slot l t w at did h = record {
-  acked = λ a. elim (w.acked a) [ inl old ↦ h.acked old | inr new ↦ did new.0 new.1 (sym w.slot_is ∙ at) ];
-  serves = h.serves;
-  released = h.released;
-  fenced = h.fenced;
-}
+releasing_acked operation ls b acked slot l t w at did h =
+    let acked_now : l.acked ≡ true → is_done t.done operation ReleaseKind ≡ true = λ a. elim (w.acked a) [ inl old ↦ h.acked old | inr new ↦ did new.0 new.1 (sym w.slot_is ∙ at) ] in
+    assumption acked_now
 
 restoration_slot_acked : (state : RestorationState) (m : Master) (id : Id) (acked slot : ℕ) (changes : List Change) (r : RestorationRecord) (t : Tablet) → ((l : Listed) → same r.id id ≡ true → In l r.listed → l.slot ≡ acked → l.slot ≡ slot → is_done t.done r.id (kind_of l.body) ≡ true)
     → RestorationStateGood state m changes r → RestorationSlot state m changes r slot t → RestorationSlot state (acked_all id acked m) changes (ack_restoration id acked r) slot t
@@ -310,9 +269,9 @@ restoration_slot_acked Fencing m id acked slot changes r t did good h = record {
   ]);
   fenced = h.fenced;
 }
-restoration_slot_acked (Snapshotting point own) m id acked slot changes r t did good h = record { fenced = λ i opened is. h.fenced i (open_back m id acked r.namespace i opened) is }
+restoration_slot_acked (Snapshotting point own) m id acked slot changes r t did good h = record { fenced = λ i opened is. h.fenced i opened is }
 restoration_slot_acked (Switching point serving) m id acked slot changes r t did good h =
-    record { fenced = λ i opened is. h.fenced i (open_back m id acked r.namespace i opened) is; past = λ i opened is. h.past i (open_back m id acked r.namespace i opened) is }
+    record { fenced = λ i opened is. h.fenced i opened is; past = λ i opened is. h.past i opened is }
 restoration_slot_acked (Restoring point serving) m id acked slot changes r t did good h = λ l isin at. (
     let w = was (same r.id id) r.listed acked l isin in
     let k = h w.line w.listed (sym w.slot_is ∙ at) in
@@ -335,24 +294,13 @@ clone_slot_acked : (state : CloneState) (m : Master) (id : Id) (acked slot : ℕ
     → CloneStateGood state m c → CloneSlot state m changes c slot t → CloneSlot state (acked_all id acked m) changes (ack_clone id acked c) slot t
 clone_slot_acked Accepted m id acked slot changes c t did good h = record { empty = h.empty }
 clone_slot_acked (CloneSnapshot own) m id acked slot changes c t did good h = record { empty = h.empty }
-clone_slot_acked (Copying serving at) m id acked slot changes c t did good h = record {
-  acked = λ l isin there a. (let w = was (same c.id id) c.listed acked l isin in elim (w.acked a) [
+clone_slot_acked (Copying serving at) m id acked slot changes c t did good h =
+    let acked_now : (l : Listed) → In l (if_same c.id id acked c.listed) → l.slot ≡ slot → l.acked ≡ true → is_done t.done c.id CopyKind ≡ true = λ l isin there a. (let w = was (same c.id id) c.listed acked l isin in elim (w.acked a) [
     | inl old ↦ h.acked w.line w.listed (sym w.slot_is ∙ there) old
     | inr new ↦ ap (λ z. is_done t.done c.id (kind_of z)) (sym (good.bodies w.line w.listed).body_is) ∙ did w.line new.0 w.listed new.1 (sym w.slot_is ∙ there)
-  ]);
-  empty = h.empty;
-  copied = λ p paired is done. (let k = h.copied p paired is done in record {
-    serves = k.serves;
-    fenced = k.fenced;
-    tablet_is = k.tablet_is;
-    table_is = k.table_is;
-    low_is = k.low_is;
-    high_is = k.high_is;
-    cutoff = k.cutoff;
-    rows = k.rows;
-  });
-  later = h.later;
-}
+  ]) in
+    let copied : (p : TabletPair) → In p c.tablets → p.slot ≡ slot → is_done t.done c.id CopyKind ≡ true → IsCopy changes (ack_clone id acked c) at p t = λ p paired is done. (let k = h.copied p paired is done in assumption k) in
+    assumption (acked_now, copied)
 clone_slot_acked (CloneReleasing serving at) m id acked slot changes c t did good h = λ l isin there. (
     let w = was (same c.id id) c.listed acked l isin in
     releasing_acked c.id c.listed (same c.id id) acked slot l t w there (λ b here at_. ap (λ z. is_done t.done c.id (kind_of z)) (sym (good.bodies w.line w.listed)) ∙ did w.line b w.listed here at_)

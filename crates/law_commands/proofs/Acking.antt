@@ -27,7 +27,7 @@ use Rattle.law_invariants.proofs.Hearing.{rows_on}
 use Rattle.law_invariants.proofs.Frame.{touched}
 use Rattle.law_commands.proofs.Pending.{IsPending, BySnapshot, ByRestoration, ByClone, pending_is, snapshot_no_restoration, snapshot_no_clone, restoration_no_clone, none_in}
 use Rattle.law_commands.proofs.Hiding.{no_end}
-use Rattle.law_invariants.proofs.Marked.{master_marked, slot_marked}
+use Rattle.law_invariants.proofs.Marked.{master_marked}
 use Rattle.law_commands.proofs.Acked.{ack_snapshot, ack_restoration, ack_clone, acked_all, operations_acked}
 use Rattle.law_commands.proofs.AckedSlots.{master_acked, remembered_acked, journal_acked, rows_acked, slot_acked, orders_acked, obeyed_acked}
 
@@ -77,12 +77,7 @@ acked_pending m changes operation slot n l ops (ByClone k) =
 
 activity_acked : (kind : Kind) (operation : Id) (slot n : ℕ) (m : Master) → (acked_by kind operation slot n m).activity ≡ m.activity
 activity_acked Snapshot operation slot n m = refl
-activity_acked Restoration operation slot n m = refl
-activity_acked Clone operation slot n m = refl
-activity_acked Namespace operation slot n m = refl
-activity_acked Table operation slot n m = refl
-activity_acked TabletKind operation slot n m = refl
-activity_acked Schedule operation slot n m = refl
+activity_acked _ operation slot n m = refl
 
 -- What was done in the slot
 
@@ -112,19 +107,16 @@ not_both m changes r point serving j l h inj inl_ same_ restores hides = let b =
 -- two lines of a restoration in one slot have bodies of one kind
 restoration_kinds : (state : RestorationState) (m : Master) (changes : List Change) (r : RestorationRecord) (j l : Listed) → RestorationStateGood state m changes r → In j r.listed → In l r.listed → j.tablet ≡ l.tablet → kind_of j.body ≡ kind_of l.body
 restoration_kinds Fencing m changes r j l h inj inl_ same_ = ap kind_of (h.bodies j inj ∙ sym (h.bodies l inl_))
-restoration_kinds (Snapshotting point own) m changes r j l h inj inl_ same_ = absurd (none_in r.listed j h.empty inj)
-restoration_kinds (Switching point serving) m changes r j l h inj inl_ same_ = absurd (none_in r.listed j h.empty inj)
 restoration_kinds (Restoring point serving) m changes r j l h inj inl_ same_ = switch_kinds j.body l.body r point serving (h.bodies j inj) (h.bodies l inl_)
     (both_ways (is_restore j.body) (is_restore l.body) (λ a b. not_both m changes r point serving j l h inj inl_ same_ a b) (λ a b. not_both m changes r point serving l j h inl_ inj (sym same_) b a))
 restoration_kinds (Releasing point serving) m changes r j l h inj inl_ same_ = ap kind_of (h.bodies j inj ∙ sym (h.bodies l inl_))
-restoration_kinds (Restored point serving) m changes r j l h inj inl_ same_ = absurd (none_in r.listed j h.empty inj)
+restoration_kinds _ m changes r j l h inj inl_ same_ = absurd (none_in r.listed j h.empty inj)
 
 clone_kinds : (state : CloneState) (m : Master) (c : CloneRecord) (j l : Listed) → CloneStateGood state m c → In j c.listed → In l c.listed → kind_of j.body ≡ kind_of l.body
-clone_kinds Accepted m c j l h inj inl_ = absurd (none_in c.listed j h inj)
 clone_kinds (CloneSnapshot own) m c j l h inj inl_ = absurd (none_in c.listed j h.empty inj)
 clone_kinds (Copying serving at) m c j l h inj inl_ = ap kind_of (h.bodies j inj).body_is ∙ sym (ap kind_of (h.bodies l inl_).body_is)
 clone_kinds (CloneReleasing serving at) m c j l h inj inl_ = ap kind_of (h.bodies j inj ∙ sym (h.bodies l inl_))
-clone_kinds (CloneComplete serving at) m c j l h inj inl_ = absurd (none_in c.listed j h inj)
+clone_kinds _ m c j l h inj inl_ = absurd (none_in c.listed j h inj)
 
 snapshot_did : (m : Master) (changes : List Change) (operation : Id) (slot : ℕ) (l : Listed) (t : Tablet) → OperationsGood m changes → IsPending m operation slot l → is_done t.done operation (kind_of l.body) ≡ true
     → (r : SnapshotRecord) (j : Listed) → In r m.snapshots → same r.id operation ≡ true → In j r.listed → is_done t.done r.id (kind_of j.body) ≡ true
@@ -214,7 +206,7 @@ marked_inv ps activity changes s fewer inv =
       master = master_marked m s changes inv.master;
       remembered = remembered_on m (record m { sent = s }) activity floors refl refl (le_refl _) (le_refl _) inv.remembered;
       cover = inv.cover;
-      slots = λ i. slot_marked m s changes i (ps.tablet i) (inv.slots i);
+      slots = λ i. inv.slots i;
       operations = operations_on m m.clock m.catalog m.activity m.drawn s changes changes o (λ ns. le_trans (inv.operations.kept ns) (floor_rises m (record m { sent = s }) ns floors)) inv.operations.owners fewer (all_listed m changes inv.master) inv.operations;
       journal = journal_on m m.clock m.catalog m.activity m.drawn s changes changes (same_rows changes) (λ ns to. refl) (le_refl _) (le_refl _) (λ table lower. refl) inv.journal;
       rows_past = rows_on m m.clock m.catalog m.activity m.drawn s changes changes ps.tablet ps.tablet (le_refl _) (λ i. le_refl _) (λ i isin. inl isin) (λ b table key op isin is. isin) inv.rows_past;

@@ -40,19 +40,15 @@ copying_is (CloneComplete serving at) m c l source snapshot to stamp table low h
 pub no_restoration_copy : (state : RestorationState) (m : Master) (changes : List Change) (r : RestorationRecord) (l : Listed) (source : ℕ) (snapshot : Id) (to stamp : ℕ) (table : Id) (low high version : ℕ) → RestorationStateGood state m changes r → In l r.listed
     → l.body ≡ Copy source snapshot to stamp table low high version → ⊥
 no_restoration_copy Fencing m changes r l source snapshot to stamp table low high version h isin e = let q : Fence ≡ Copy source snapshot to stamp table low high version = sym (h.bodies l isin) ∙ e in grind arith
-no_restoration_copy (Snapshotting point own) m changes r l source snapshot to stamp table low high version h isin e = none_in r.listed l h.empty isin
-no_restoration_copy (Switching point serving) m changes r l source snapshot to stamp table low high version h isin e = none_in r.listed l h.empty isin
 no_restoration_copy (Restoring point serving) m changes r l source snapshot to stamp table low high version h isin e = subst (IsAfterSwitch r point serving) e (h.bodies l isin)
 no_restoration_copy (Releasing point serving) m changes r l source snapshot to stamp table low high version h isin e = let q : Release point ≡ Copy source snapshot to stamp table low high version = sym (h.bodies l isin) ∙ e in grind arith
-no_restoration_copy (Restored point serving) m changes r l source snapshot to stamp table low high version h isin e = none_in r.listed l h.empty isin
+no_restoration_copy _ m changes r l source snapshot to stamp table low high version h isin e = none_in r.listed l h.empty isin
 
 -- a target that is current is active in its slot
 visible_interval : (state : CloneState) (m : Master) (c : CloneRecord) (l : Listed) → CloneStateGood state m c → is_visible state ≡ true → is_cloned state ≡ false → In l c.listed → (i : Interval) × (In i m.activity × (i.slot ≡ l.slot))
-visible_interval Accepted m c l h seen unfinished isin = absurd (true≢false (sym seen))
-visible_interval (CloneSnapshot own) m c l h seen unfinished isin = absurd (true≢false (sym seen))
-visible_interval (Copying serving at) m c l h seen unfinished isin = absurd (true≢false (sym seen))
 visible_interval (CloneReleasing serving at) m c l h seen unfinished isin = let k = h.active l isin in (k.interval, (k.kept, k.slot_is))
 visible_interval (CloneComplete serving at) m c l h seen unfinished isin = absurd (true≢false unfinished)
+visible_interval _ m c l h seen unfinished isin = absurd (true≢false (sym seen))
 
 -- a tablet of a target in an empty part
 abbrev pub copied_with : Tablet → ℕ → Id → TabletPair → List Version → ℕ → Id → List Command → List Mark → Tablet

@@ -1,5 +1,7 @@
 -- What goes on to hold where a tablet does its first command: of its other commands and its marks, of operations that don't hold its
 -- namespace, and of its store.
+use Rattle.model.specs.Times.{ended_by}
+use Rattle.row_values.specs.Store.{Below}
 use Rattle.std.proofs.Common.{ℕ, ◌≡◌, ◌≢◌, ◌≤◌, ◌<◌, ◌+◌, List, [], ◌∷◌, ◌++◌, Option, Some, None, true, false, cond, ◌&&◌, inl, inr, refl, sym, ap, subst, ◌∙◌, arith, le_trans, lt_of_lt_of_le, not}
 use Rattle.std.specs.List.{list_any}
 use Rattle.std.specs.Option.{is_some}
@@ -13,14 +15,14 @@ use Rattle.model.specs.Drawn.{drawn_of}
 use Rattle.model.specs.Activity.{Interval}
 use Rattle.model.specs.Journal.{Change, table_at}
 use Rattle.model.specs.Right.{is_fixed}
-use Rattle.model.specs.Tablets.{Tablet, Command, Mark, Body, RestoreFrom, Hide, FenceKind, FreezeKind, RestoreFromKind, FrozenSet, kind_of, is_done, holds_command, is_empty, is_serving}
+use Rattle.model.specs.Tablets.{Tablet, Command, Mark, Body, RestoreFrom, Hide, FenceKind, FreezeKind, RestoreFromKind, FrozenSet, kind_of, is_done, holds_command, is_empty, is_serving, HiddenPart}
 use Rattle.model.specs.Records.{Listed, SnapshotRecord, RestorationRecord, RestorationState, Fencing, Snapshotting, Switching, Restoring, Releasing, Restored, TabletPair, CloneRecord, CloneState, Accepted, CloneSnapshot, Copying, CloneReleasing, CloneComplete, is_restored, is_cloned, is_visible}
 use Rattle.model.specs.Stands.{NoneTwice, HoldsFrozen, awaited_in, awaited_of, first_of_two, is_restore}
 use Rattle.model.specs.Parts.{Master}
 use Rattle.law_store.specs.Sorted.{Sorted, EachKey}
-use Rattle.law_invariants.specs.Invariant.{MasterGood, IsOpen, SlotGood, SetStands, is_awaited}
+use Rattle.law_invariants.specs.Invariant.{MasterGood, IsOpen, SlotGood, SetStands, is_awaited, OverBy, TurnsAt, ComesFrom, StandsIn, IsGoodIn, TakesWritesIn}
 use Rattle.law_invariants.specs.Operations.{IsOpenOf, IsAfterSwitch, RestorationStateGood, CloneStateGood, OperationsGood}
-use Rattle.law_invariants.specs.Orders.{IsFence, IsAfter, IsMark, IsSetOf, OrdersGood, restoring_stage, stage_of_restoration, cloning_stage, stage_of_clone, RestorationSlot, CloneSlot}
+use Rattle.law_invariants.specs.Orders.{IsFence, IsAfter, IsMark, IsSetOf, OrdersGood, restoring_stage, stage_of_restoration, cloning_stage, stage_of_clone, RestorationSlot, CloneSlot, directory}
 use Rattle.law_invariants.proofs.Finding.{in_added}
 use Rattle.law_invariants.proofs.Ticking.{below_later, over_later}
 use Rattle.law_invariants.proofs.Ordering.{order_later, mark_later}
@@ -40,18 +42,15 @@ after_stage _ r point serving h = absurd h
 -- in which of its states a restoration's listed tablet has its body
 restoration_stage : (state : RestorationState) (m : Master) (changes : List Change) (r : RestorationRecord) (l : Listed) → RestorationStateGood state m changes r → In l r.listed → restoring_stage (kind_of l.body) ≤ stage_of_restoration state
 restoration_stage Fencing m changes r l h isin = rw (h.bodies l isin) (omega arith)
-restoration_stage (Snapshotting point own) m changes r l h isin = absurd (none_in r.listed l h.empty isin)
-restoration_stage (Switching point serving) m changes r l h isin = absurd (none_in r.listed l h.empty isin)
 restoration_stage (Restoring point serving) m changes r l h isin = after_stage l.body r point serving (h.bodies l isin)
 restoration_stage (Releasing point serving) m changes r l h isin = rw (h.bodies l isin) (omega arith)
-restoration_stage (Restored point serving) m changes r l h isin = absurd (none_in r.listed l h.empty isin)
+restoration_stage _ m changes r l h isin = absurd (none_in r.listed l h.empty isin)
 
 clone_stage : (state : CloneState) (m : Master) (c : CloneRecord) (l : Listed) → CloneStateGood state m c → In l c.listed → cloning_stage (kind_of l.body) ≤ stage_of_clone state
-clone_stage Accepted m c l h isin = absurd (none_in c.listed l h isin)
 clone_stage (CloneSnapshot own) m c l h isin = absurd (none_in c.listed l h.empty isin)
 clone_stage (Copying serving at) m c l h isin = rw (h.bodies l isin).body_is (omega arith)
 clone_stage (CloneReleasing serving at) m c l h isin = rw (h.bodies l isin) (omega arith)
-clone_stage (CloneComplete serving at) m c l h isin = absurd (none_in c.listed l h isin)
+clone_stage _ m c l h isin = absurd (none_in c.listed l h isin)
 
 -- a command that was pending may be marked
 pub mark_pending : (m : Master) (changes : List Change) (operation : Id) (slot n : ℕ) (l : Listed) → OperationsGood m changes → IsPending m operation slot l → IsAfter m n operation (kind_of l.body)
@@ -189,11 +188,10 @@ apart_of (CloneComplete serving at) m changes c slot u unpaired unlisted later g
 active_owner : (state : CloneState) (m : Master) (changes : List Change) (slot : ℕ) (t : Tablet) (ns : Id) (c : CloneRecord) (l : Listed) → SlotGood m changes slot t → IsHere m slot ns → CloneStateGood state m c → is_visible state ≡ true → is_cloned state ≡ false
     → In l c.listed → l.slot ≡ slot → c.target_id ≡ ns
 active_owner Accepted m changes slot t ns c l h here good seen unfinished isin is = absurd (true≢false (sym seen))
-active_owner (CloneSnapshot own) m changes slot t ns c l h here good seen unfinished isin is = absurd (true≢false (sym seen))
-active_owner (Copying serving at) m changes slot t ns c l h here good seen unfinished isin is = absurd (true≢false (sym seen))
 active_owner (CloneReleasing serving at) m changes slot t ns c l h here good seen unfinished isin is =
     let k = good.active l isin in owner_here m changes slot t ns c.target_id k.interval h here k.kept (k.slot_is ∙ is) (good.listed_of l k.interval isin k.kept k.tablet_is)
 active_owner (CloneComplete serving at) m changes slot t ns c l h here good seen unfinished isin is = absurd (true≢false unfinished)
+active_owner _ m changes slot t ns c l h here good seen unfinished isin is = absurd (true≢false (sym seen))
 
 -- a clone that doesn't hold the namespace of a slot has nothing there
 pub apart_clone : (m : Master) (changes : List Change) (slot : ℕ) (t u : Tablet) (ns : Id) (c : CloneRecord) → OperationsGood m changes → SlotGood m changes slot t → IsHere m slot ns → In c m.clones
@@ -207,12 +205,8 @@ apart_clone m changes slot t u ns c ops good here isin other later = apart_of c.
 -- The store
 
 pub awaited_of_kept : (state : RestorationState) (r : RestorationRecord) (tablet : Id) (done later : List Mark) → is_done later r.id RestoreFromKind ≡ is_done done r.id RestoreFromKind → awaited_of state r tablet later ≡ awaited_of state r tablet done
-awaited_of_kept Fencing r tablet done later e = refl
-awaited_of_kept (Snapshotting point own) r tablet done later e = refl
-awaited_of_kept (Switching point serving) r tablet done later e = refl
 awaited_of_kept (Restoring point serving) r tablet done later e = ap (λ d. cond (list_any (λ l. same l.tablet tablet && is_restore l.body) r.listed && not d) (Some point) None) e
-awaited_of_kept (Releasing point serving) r tablet done later e = refl
-awaited_of_kept (Restored point serving) r tablet done later e = refl
+awaited_of_kept _ r tablet done later e = refl
 
 -- a tablet awaits the same rows under marks by which it took the same
 abbrev pub SameRestores : List RestorationRecord → List Mark → List Mark → Type 0
@@ -256,7 +250,7 @@ pub slot_changed : (m : Master) (changes : List Change) (slot : ℕ) (t : Tablet
 slot_changed m changes slot t n cutoff sets fence inbox done le marks up within each_set opens shown later h =
     let awaits : awaited_in m.restorations t.tablet done ≡ awaited_in m.restorations t.tablet t.done = awaited_kept m.restorations t.tablet t.done done marks in
     record {
-      good = record {
+  good = record {
         sorted = h.good.sorted;
         below = below_later t.versions (t.clock + 1) (n + 1) (omega arith) h.good.below;
         cutoff = within;
@@ -265,29 +259,18 @@ slot_changed m changes slot t n cutoff sets fence inbox done le marks up within 
         set_sorted = λ f isin. (each_set f isin).sorted;
         set_keys = λ f isin. (each_set f isin).keys;
       };
-      home = h.home;
-      numbered = h.numbered;
-      each = λ i isin is. let g = h.each i isin is in record {
-        past = g.past;
-        over = over_later i.to i.from t.clock n le g.over;
-        drawn = g.drawn;
-        drawn_table = g.drawn_table;
-        slot_from = g.slot_from;
-        slot_to = g.slot_to;
-        present = g.present;
-        tablet_is = g.tablet_is;
-        table_is = g.table_is;
-        low_is = g.low_is;
-        high_is = g.high_is;
-        viewed = g.viewed;
-        waits = λ point e. g.waits point (sym awaits ∙ e);
-        comes = λ r point known e opened. g.comes r point known (sym (awaited_of_kept r.state r t.tablet t.done done (marks r known)) ∙ e) opened;
-        serves = λ opened none. g.serves opened (sym awaits ∙ none);
-        hidden = λ at out counted. g.hidden at out (ap (λ p. is_awaited p i.to) (sym awaits) ∙ counted);
-        stands = λ counted key x ranged cut before there. g.stands (ap (λ p. is_awaited p i.to) (sym awaits) ∙ counted) key x ranged (le_trans up cut) before there;
-        sets = λ f held. (each_set f held).stands i isin is;
-      };
-      opens = opens;
-      shown = shown;
-      later = later;
-    }
+  home = h.home;
+  numbered = h.numbered;
+  each = λ i isin is. let g = h.each i isin is in
+    let over : OverBy n i.from i.to = over_later i.to i.from t.clock n le g.over in
+    let waits : (point : ℕ) → awaited_in m.restorations t.tablet done ≡ Some point → TurnsAt point i.from i.to = λ point e. g.waits point (sym awaits ∙ e) in
+    let comes : (r : RestorationRecord) (point : ℕ) → In r m.restorations → awaited_of r.state r t.tablet done ≡ Some point → i.to ≡ None → ComesFrom changes r.namespace i point r.to = λ r point known e opened. g.comes r point known (sym (awaited_of_kept r.state r t.tablet t.done done (marks r known)) ∙ e) opened in
+    let serves : i.to ≡ None → awaited_in m.restorations t.tablet done ≡ None → is_serving t.presence ≡ true = λ opened none. g.serves opened (sym awaits ∙ none) in
+    let hidden : (at : ℕ) → t.presence ≡ HiddenPart at → is_awaited (awaited_in m.restorations t.tablet done) i.to ≡ false → ended_by at i.to ≡ true = λ at out counted. g.hidden at out (ap (λ p. is_awaited p i.to) (sym awaits) ∙ counted) in
+    let stands : is_awaited (awaited_in m.restorations t.tablet done) i.to ≡ false → StandsIn (changed t n cutoff sets fence inbox done) changes i = λ counted key x ranged cut before there. g.stands (ap (λ p. is_awaited p i.to) (sym awaits) ∙ counted) key x ranged (le_trans up cut) before there in
+    let sets_now : (f : FrozenSet) → In f sets → SetStands f changes i = λ f held. (each_set f held).stands i isin is in
+    assumption (over, waits, comes, serves, hidden, stands, sets_now);
+  opens = opens;
+  shown = shown;
+  later = later;
+}

@@ -16,11 +16,9 @@ use Rattle.law_commands.proofs.Held.{Does, HoldsOf, each_restoration, clones_bes
 
 fencing_is : (state : RestorationState) (m : Master) (changes : List Change) (r : RestorationRecord) (l : Listed) → RestorationStateGood state m changes r → In l r.listed → l.body ≡ Fence → state ≡ Fencing
 fencing_is Fencing m changes r l h isin e = refl
-fencing_is (Snapshotting point own) m changes r l h isin e = absurd (none_in r.listed l h.empty isin)
-fencing_is (Switching point serving) m changes r l h isin e = absurd (none_in r.listed l h.empty isin)
 fencing_is (Restoring point serving) m changes r l h isin e = absurd (subst (IsAfterSwitch r point serving) e (h.bodies l isin))
 fencing_is (Releasing point serving) m changes r l h isin e = absurd (let q : Release point ≡ Fence = sym (h.bodies l isin) ∙ e in grind arith)
-fencing_is (Restored point serving) m changes r l h isin e = absurd (none_in r.listed l h.empty isin)
+fencing_is _ m changes r l h isin e = absurd (none_in r.listed l h.empty isin)
 
 no_clone_fence : (state : CloneState) (m : Master) (c : CloneRecord) (l : Listed) → CloneStateGood state m c → In l c.listed → l.body ≡ Fence → ⊥
 no_clone_fence Accepted m c l h isin e = none_in c.listed l h isin

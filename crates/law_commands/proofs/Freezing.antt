@@ -12,8 +12,8 @@ use Rattle.row_values.specs.Ranges.{in_range}
 use Rattle.model.specs.Catalog.{owner_of}
 use Rattle.model.specs.Activity.{Interval, active_at}
 use Rattle.model.specs.Journal.{Change}
-use Rattle.model.specs.Tablets.{Tablet, Command, Mark, Body, Fence, Freeze, Release, Copy, BodyKind, FenceKind, FreezeKind, RestoreFromKind, HideKind, CopyKind, ReleaseKind, FrozenSet, set_of, processed, kind_of, is_done}
-use Rattle.model.specs.Records.{Listed, SnapshotRecord, RestorationRecord, RestorationState, Fencing, Snapshotting, Switching, Restoring, Releasing, Restored, CloneRecord, CloneState, Accepted, CloneSnapshot, Copying, CloneReleasing, CloneComplete}
+use Rattle.model.specs.Tablets.{Tablet, Command, Mark, Body, Fence, Freeze, Release, Copy, BodyKind, FenceKind, FreezeKind, RestoreFromKind, HideKind, CopyKind, ReleaseKind, FrozenSet, set_of, processed, kind_of, is_done, is_empty, is_serving}
+use Rattle.model.specs.Records.{Listed, SnapshotRecord, RestorationRecord, RestorationState, Fencing, Snapshotting, Switching, Restoring, Releasing, Restored, CloneRecord, CloneState, Accepted, CloneSnapshot, Copying, CloneReleasing, CloneComplete, TabletPair}
 use Rattle.model.specs.Stands.{HoldsFrozen, awaited_in}
 use Rattle.model.specs.Parts.{Master}
 use Rattle.law_store.proofs.Keys.{either_way}
@@ -21,7 +21,7 @@ use Rattle.law_store.proofs.Choosing.{frozen_reads, sorted_frozen}
 use Rattle.law_store.proofs.Members.{keys_frozen}
 use Rattle.law_invariants.specs.Invariant.{TurnsAt, is_awaited}
 use Rattle.law_invariants.specs.Operations.{SnapshotsRise, IsAfterSwitch, RestoringGood, RestorationStateGood, CloneStateGood}
-use Rattle.law_invariants.specs.Orders.{FencePlace, ClonePlace, IsFence, IsSetOf, RestorationSlot, ReleasingSlot, CloneSlot}
+use Rattle.law_invariants.specs.Orders.{FencePlace, ClonePlace, IsFence, IsSetOf, RestorationSlot, ReleasingSlot, CloneSlot, IsCopy}
 use Rattle.law_invariants.proofs.Finding.{both_pass, in_append, filter_in, same_equal, same_self, apart_by_number}
 use Rattle.law_commands.proofs.Marks.{done_still, done_beside, done_now, done_either}
 use Rattle.law_commands.proofs.Pending.{IsPending, BySnapshot, ByRestoration as RestorationPends, ByClone as ClonePends, none_in}
@@ -111,19 +111,11 @@ clone_kept : (state : CloneState) (m : Master) (changes : List Change) (c : Clon
     → CloneSlot state m changes c slot t → CloneSlot state m changes c slot (froze t n sets inbox done)
 clone_kept Accepted m changes c slot t n sets inbox done le marks h = record { empty = h.empty }
 clone_kept (CloneSnapshot own) m changes c slot t n sets inbox done le marks h = record { empty = h.empty }
-clone_kept (Copying serving at) m changes c slot t n sets inbox done le marks h = let e = marks.same_ c.id CopyKind (λ e. let q : CopyKind ≡ FreezeKind = e in grind arith) in record {
+clone_kept (Copying serving at) m changes c slot t n sets inbox done le marks h =
+    let e = marks.same_ c.id CopyKind (λ e. let q : CopyKind ≡ FreezeKind = e in grind arith) in record {
   acked = λ l isin is a. marks.still c.id CopyKind (h.acked l isin is a);
   empty = λ p paired is undone. h.empty p paired is (sym e ∙ undone);
-  copied = λ p paired is did. (let w = h.copied p paired is (sym e ∙ did) in record {
-    serves = w.serves;
-    fenced = w.fenced;
-    tablet_is = w.tablet_is;
-    table_is = w.table_is;
-    low_is = w.low_is;
-    high_is = w.high_is;
-    cutoff = w.cutoff;
-    rows = w.rows;
-  });
+  copied = λ p paired is did. (let w = h.copied p paired is (sym e ∙ did) in assumption w);
   later = λ serving_ free of. le_trans (h.later serving_ free of) le;
 }
 clone_kept (CloneReleasing serving at) m changes c slot t n sets inbox done le marks h = λ l isin is. releasing_kept c.id l t n sets inbox done marks (h l isin is)
@@ -249,11 +241,9 @@ frozen_by m changes slot n t operation tablet cs rows s known id_is unfinished l
 
 pub no_restoration_freeze : (state : RestorationState) (m : Master) (changes : List Change) (r : RestorationRecord) (l : Listed) (snapshot : Id) (at : ℕ) → RestorationStateGood state m changes r → In l r.listed → l.body ≡ Freeze snapshot at → ⊥
 no_restoration_freeze Fencing m changes r l snapshot at h isin e = let q : Fence ≡ Freeze snapshot at = sym (h.bodies l isin) ∙ e in grind arith
-no_restoration_freeze (Snapshotting point own) m changes r l snapshot at h isin e = none_in r.listed l h.empty isin
-no_restoration_freeze (Switching point serving) m changes r l snapshot at h isin e = none_in r.listed l h.empty isin
 no_restoration_freeze (Restoring point serving) m changes r l snapshot at h isin e = subst (IsAfterSwitch r point serving) e (h.bodies l isin)
 no_restoration_freeze (Releasing point serving) m changes r l snapshot at h isin e = let q : Release point ≡ Freeze snapshot at = sym (h.bodies l isin) ∙ e in grind arith
-no_restoration_freeze (Restored point serving) m changes r l snapshot at h isin e = none_in r.listed l h.empty isin
+no_restoration_freeze _ m changes r l snapshot at h isin e = none_in r.listed l h.empty isin
 
 pub no_clone_freeze : (state : CloneState) (m : Master) (c : CloneRecord) (l : Listed) (snapshot : Id) (at : ℕ) → CloneStateGood state m c → In l c.listed → l.body ≡ Freeze snapshot at → ⊥
 no_clone_freeze Accepted m c l snapshot at h isin e = none_in c.listed l h isin

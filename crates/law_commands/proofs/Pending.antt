@@ -135,11 +135,10 @@ point_past (Releasing point serving) m changes r at h e = inl (let q : point ≡
 point_past (Restored point serving) m changes r at h e = inl (let q : point ≡ at = cc in let b = h.begun in omega (arith, q, b))
 
 copied_past : (state : CloneState) (m : Master) (c : CloneRecord) (at : ℕ) → CloneStateGood state m c → copied_at state ≡ Some at → (at ≤ m.clock) ⊎ (is_cloned state ≡ true)
-copied_past Accepted m c at h e = absurd (let q = e in grind arith)
-copied_past (CloneSnapshot own) m c at h e = absurd (let q = e in grind arith)
 copied_past (Copying serving copied) m c at h e = inl (let q : copied ≡ at = cc in let b = h.begun in omega (arith, q, b))
 copied_past (CloneReleasing serving copied) m c at h e = inl (let q : copied ≡ at = cc in let b = h.begun in let d = h.copied in omega (arith, q, b, d))
 copied_past (CloneComplete serving copied) m c at h e = inr refl
+copied_past _ m c at h e = absurd (let q = e in grind arith)
 
 released_past : (state : CloneState) (m : Master) (c : CloneRecord) (l : Listed) (at : ℕ) → CloneStateGood state m c → In l c.listed → l.body ≡ Release at → at ≤ m.clock
 released_past Accepted m c l at h isin e = absurd (none_in c.listed l h isin)

@@ -86,11 +86,9 @@ released m changes slot n t operation tablet ns cutoff cs rows w d isin at opene
 
 pub releasing_is : (state : RestorationState) (m : Master) (changes : List Change) (r : RestorationRecord) (l : Listed) (cutoff : ℕ) → RestorationStateGood state m changes r → In l r.listed → l.body ≡ Release cutoff → (serving : Id) × (state ≡ Releasing cutoff serving)
 releasing_is Fencing m changes r l cutoff h isin e = absurd (let q : Fence ≡ Release cutoff = sym (h.bodies l isin) ∙ e in grind arith)
-releasing_is (Snapshotting point own) m changes r l cutoff h isin e = absurd (none_in r.listed l h.empty isin)
-releasing_is (Switching point serving) m changes r l cutoff h isin e = absurd (none_in r.listed l h.empty isin)
 releasing_is (Restoring point serving) m changes r l cutoff h isin e = absurd (subst (IsAfterSwitch r point serving) e (h.bodies l isin))
 releasing_is (Releasing point serving) m changes r l cutoff h isin e = let q : Release point ≡ Release cutoff = sym (h.bodies l isin) ∙ e in let is : point ≡ cutoff = cc in (serving, ap (λ z. Releasing z serving) is)
-releasing_is (Restored point serving) m changes r l cutoff h isin e = absurd (none_in r.listed l h.empty isin)
+releasing_is _ m changes r l cutoff h isin e = absurd (none_in r.listed l h.empty isin)
 
 by_restoration : (m : Master) (changes : List Change) (slot n : ℕ) (t : Tablet) (operation tablet : Id) (cutoff : ℕ) (cs : List Command) (rows : List KeyedRow) → Does m changes slot n t operation tablet (Release cutoff) cs
     → OfRestoration m operation slot (record { tablet = tablet; slot = slot; body = Release cutoff; acked = false })

@@ -19,7 +19,7 @@ use Rattle.law_invariants.specs.Operations.{IsSent, OperationsGood}
 use Rattle.law_invariants.specs.Orders.{IsOrder, OrdersGood}
 use Rattle.law_invariants.proofs.Finding.{in_append, in_added}
 use Rattle.law_invariants.proofs.Ticking.{refused_keeps, KeepsAll, master_before, master_ticked, slot_ticked, tablet_before, tablet_ticked}
-use Rattle.law_invariants.proofs.Marked.{master_marked, slot_marked, inbox_changed}
+use Rattle.law_invariants.proofs.Marked.{master_marked, inbox_changed}
 use Rattle.law_invariants.proofs.Remembering.{FloorsHold, remembered_on, floor_rises}
 use Rattle.law_invariants.proofs.Operating.{operations_sent}
 use Rattle.law_invariants.proofs.Ordering.{rows_same, orders_on, obeyed_on, order_later, mark_later, obeyed_mild}
@@ -147,9 +147,9 @@ sent_by (Some l) ps activity changes n operation slot e later from inv =
       right = tt;
       inv = record {
         master = master_marked (record m { clock = n }) s changes (master_ticked m n changes early inv.master);
-        slots = λ i. slot_marked (record m { clock = n }) s changes i _ (slot_ticked m n changes i _ early
+        slots = λ i. slot_ticked m n changes i _ early
             (slot_told (SlotGood m changes) act SentTo slot (Offer c) n ps later (second_sent operation slot from) (λ j u le h. tablet_ticked m n changes j u le h) (λ j apart. inv.slots j)
-            (inbox_changed m changes slot t n (offered c n t).inbox before (inv.slots slot)) i));
+            (inbox_changed m changes slot t n (offered c n t).inbox before (inv.slots slot)) i);
         remembered = remembered_on m (record m { clock = n; sent = s }) activity floors refl refl (le_refl _) (le_refl _) inv.remembered;
         cover = inv.cover;
         operations = operations_sent m n m.catalog m.activity m.drawn s changes changes o (λ ns. le_trans (inv.operations.kept ns) (floor_rises m (record m { clock = n; sent = s }) ns floors)) inv.operations.owners

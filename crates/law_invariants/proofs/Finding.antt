@@ -75,12 +75,7 @@ kind_equal a b e = absurd (let q = e in grind arith)
 
 kind_self : (a : Kind) → same_kind a a ≡ true
 kind_self Namespace = refl
-kind_self Table = refl
-kind_self Tablet = refl
-kind_self Schedule = refl
-kind_self Snapshot = refl
-kind_self Restoration = refl
-kind_self Clone = refl
+kind_self _ = refl
 
 pub body_equal : (a b : BodyKind) → same_body a b ≡ true → a ≡ b
 body_equal FenceKind FenceKind e = refl
@@ -93,11 +88,7 @@ body_equal a b e = absurd (let q = e in grind arith)
 
 pub body_self : (a : BodyKind) → same_body a a ≡ true
 body_self FenceKind = refl
-body_self FreezeKind = refl
-body_self RestoreFromKind = refl
-body_self HideKind = refl
-body_self CopyKind = refl
-body_self ReleaseKind = refl
+body_self _ = refl
 
 -- the test of equal identifiers is their equality
 pub same_equal : (a b : Id) → same a b ≡ true → a ≡ b

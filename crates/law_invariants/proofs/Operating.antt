@@ -251,9 +251,6 @@ snapshot_on m n c a d s changes new r o h = record {
 
 -- Restorations
 
-serving_on : (m : Master) (n : ℕ) (c : Catalog) (a : List Interval) (d : Drawn) (s : List Sent) (snapshot ns : Id) (to : ℕ) → IsServing m snapshot ns to → IsServing (going m n c a d s) snapshot ns to
-serving_on m n c a d s snapshot ns to h = record { serving = h.serving; kept = h.kept; id_is = h.id_is; complete = h.complete; namespace_is = h.namespace_is; after = h.after; reaches = h.reaches }
-
 point_on : (m : Master) (n : ℕ) (c : Catalog) (a : List Interval) (d : Drawn) (s : List Sent) (changes new : List Change) (r : RestorationRecord) (point : ℕ) → Onward m n c a d changes new → IsPoint m changes r point
     → IsPoint (going m n c a d s) new r point
 point_on m n c a d s changes new r point o h = record { later = h.later; fixed = λ to is. h.fixed to (sym (o.fixed r.namespace to) ∙ is); snapshots = h.snapshots; complete = h.complete }
@@ -317,18 +314,15 @@ state_on (Snapshotting point own) m n c a d s changes new r o held of h = record
   namespace_is = h.namespace_is;
   alone = h.alone;
 }
-state_on (Switching point serving) m n c a d s changes new r o held of h = record {
-  is_point = point_on m n c a d s changes new r point o h.is_point;
-  empty = h.empty;
-  begun = le_trans h.begun o.clock;
-  before = before_on m n c a d s changes new r.namespace point o (held refl) h.before;
-  serves = serving_on m n c a d s serving r.namespace r.to h.serves;
-  calm = h.calm;
-}
+state_on (Switching point serving) m n c a d s changes new r o held of h =
+    let is_point : IsPoint (going m n c a d s) new r point = point_on m n c a d s changes new r point o h.is_point in
+    let begun : point ≤ n = le_trans h.begun o.clock in
+    let before : BeforePoint (going m n c a d s) r.namespace point = before_on m n c a d s changes new r.namespace point o (held refl) h.before in
+    assumption (is_point, begun, before)
 state_on (Restoring point serving) m n c a d s changes new r o held of h = record {
   is_point = point_on m n c a d s changes new r point o h.is_point;
   begun = le_trans h.begun o.clock;
-  serves = serving_on m n c a d s serving r.namespace r.to h.serves;
+  serves = h.serves;
   calm = h.calm;
   switched = o.switched r.namespace point h.switched;
   bodies = h.bodies;
@@ -407,18 +401,11 @@ reserved_on m n c a d s changes new p o taken drawn h = record {
 clone_state_on : (state : CloneState) (m : Master) (n : ℕ) (c : Catalog) (a : List Interval) (d : Drawn) (s : List Sent) (changes new : List Change) (k : CloneRecord) → Onward m n c a d changes new
     → (is_cloned state ≡ false → NotHeld m k.target_id → ⊥) → ((l : Listed) → In l k.listed → l.tablet.number ≤ m.drawn.tablets) → CloneStateGood state m k → CloneStateGood state (going m n c a d s) k
 clone_state_on Accepted m n c a d s changes new k o held drawn h = h
-clone_state_on (CloneSnapshot own) m n c a d s changes new k o held drawn h = record {
-  empty = h.empty;
-  snapshot = h.snapshot;
-  kept = h.kept;
-  id_is = h.id_is;
-  namespace_is = h.namespace_is;
-  reaches = h.reaches;
-}
+clone_state_on (CloneSnapshot own) m n c a d s changes new k o held drawn h = h
 clone_state_on (Copying serving at) m n c a d s changes new k o held drawn h = record {
   begun = le_trans h.begun o.clock;
   later = h.later;
-  serves = serving_on m n c a d s serving k.source k.to h.serves;
+  serves = h.serves;
   bodies = h.bodies;
   all = h.all;
 }
@@ -440,11 +427,8 @@ clone_state_on (CloneReleasing serving at) m n c a d s changes new k o held draw
 clone_state_on (CloneComplete serving at) m n c a d s changes new k o held drawn h = h
 
 pub visible_later : (state : CloneState) → is_visible state ≡ false → is_cloned state ≡ false
-visible_later Accepted e = refl
-visible_later (CloneSnapshot own) e = refl
-visible_later (Copying serving at) e = refl
-visible_later (CloneReleasing serving at) e = refl
 visible_later (CloneComplete serving at) e = e
+visible_later _ e = refl
 
 held_target : (m : Master) (k : CloneRecord) → In k m.clones → is_visible k.state ≡ false → NotHeld m k.target_id → ⊥
 held_target m k isin unseen free = free.clone k isin (visible_later k.state unseen) refl

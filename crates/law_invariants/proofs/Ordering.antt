@@ -1,6 +1,6 @@
 -- What operations have a slot's tablet do goes on to hold while the master goes on with its records, and while a tablet changes what no
 -- operation has it do.
-use Rattle.std.proofs.Common.{ℕ, ◌≡◌, ◌≤◌, ◌<◌, List, [], Option, Some, None, true, false, ◌⊎◌, inl, inr, refl, sym, ap, subst, ◌∙◌, arith, le_refl, le_trans, lt_of_lt_of_le}
+use Rattle.std.proofs.Common.{ℕ, ◌≡◌, ◌≤◌, ◌<◌, List, [], Option, Some, None, true, false, ◌⊎◌, inl, inr, refl, sym, ap, subst, ◌∙◌, arith, le_refl, le_trans, lt_of_lt_of_le, ◌||◌}
 use Rattle.std.proofs.lemmas.Bool.{true≢false}
 use Rattle.row_values.specs.Ids.{Kind, Namespace, Table, Tablet as TabletKind, Schedule, Snapshot, Restoration, Clone, Id}
 use Rattle.row_values.specs.Elements.{In}
@@ -9,26 +9,24 @@ use Rattle.model.specs.Catalog.{Catalog, owner_of}
 use Rattle.model.specs.Activity.{Interval}
 use Rattle.model.specs.Journal.{Change, row_at}
 use Rattle.model.specs.Looks.{is_reserved}
-use Rattle.model.specs.Tablets.{Tablet, Presence, HiddenPart, BodyKind, Command, Mark, is_empty, is_serving, placed}
-use Rattle.model.specs.Records.{Listed, RestorationRecord, RestorationState, Fencing, Snapshotting, Switching, Restoring, Releasing, Restored, TabletPair, IdPair, CloneRecord, CloneState, Accepted, CloneSnapshot, Copying, CloneReleasing, CloneComplete, Sent, is_restored, is_cloned, is_visible}
-use Rattle.model.specs.Coordination.{pending_of}
-use Rattle.model.specs.Stands.{AreRowsAt, before_restore}
+use Rattle.model.specs.Tablets.{Tablet, Presence, HiddenPart, BodyKind, Command, Mark, is_empty, is_serving, placed, is_done, RestoreFromKind, FreezeKind}
+use Rattle.model.specs.Records.{Listed, RestorationRecord, RestorationState, Fencing, Snapshotting, Switching, Restoring, Releasing, Restored, TabletPair, IdPair, CloneRecord, CloneState, Accepted, CloneSnapshot, Copying, CloneReleasing, CloneComplete, Sent, is_restored, is_cloned, is_visible, SnapshotRecord}
+use Rattle.model.specs.Stands.{AreRowsAt, before_restore, is_restore, HoldsFrozen}
+use Rattle.model.specs.Drawn.{drawn_of}
 use Rattle.model.specs.Parts.{Master, Drawn}
 use Rattle.law_invariants.specs.Operations.{IsKnown, RestorationStateGood, CloneStateGood, OperationsGood}
 use Rattle.law_invariants.specs.Invariant.{SlotWorks}
-use Rattle.law_invariants.specs.Orders.{FencePlace, ClonePlace, IsFence, IsAfter, IsOrder, IsMark, OrdersGood, FencedSlot, RestoringSlot, ReleasingSlot, RestorationSlot, IsCopy, CloneSlot, IsHome, IsTarget, ObeyedGood}
+use Rattle.law_invariants.specs.Orders.{FencePlace, ClonePlace, IsFence, IsAfter, IsOrder, IsMark, OrdersGood, FencedSlot, RestoringSlot, ReleasingSlot, RestorationSlot, IsCopy, CloneSlot, IsHome, IsTarget, ObeyedGood, directory, IsFenceIn, operations, IsMarkIn, RestorationSlotIn, CloneSlotIn, IsRestored, IsOrderIn, IsBare, IsTargetIn, IsHomeIn}
 use Rattle.law_invariants.proofs.Operating.{NotHeld, Onward, ListedOf, going, target_reserved, alike_on, open_on, open_was}
 
 -- The master goes on
 
 place_on : (state : RestorationState) (m : Master) (n : ℕ) (c : Catalog) (a : List Interval) (d : Drawn) (s : List Sent) (changes new : List Change) (r : RestorationRecord) (slot : ℕ) (done : List Mark) → Onward m n c a d changes new
     → (is_restored state ≡ false → NotHeld m r.namespace → ⊥) → FencePlace state r m slot done → FencePlace state r (going m n c a d s) slot done
-place_on Fencing m n c a d s changes new r slot done o held h = (h.0, (open_on m n c a d s changes new r.namespace h.0 o (held refl) h.1.0, h.1.1))
-place_on (Snapshotting point own) m n c a d s changes new r slot done o held h = (h.0, (open_on m n c a d s changes new r.namespace h.0 o (held refl) h.1.0, h.1.1))
-place_on (Switching point serving) m n c a d s changes new r slot done o held h = (h.0, (open_on m n c a d s changes new r.namespace h.0 o (held refl) h.1.0, h.1.1))
 place_on (Restoring point serving) m n c a d s changes new r slot done o held h = h
 place_on (Releasing point serving) m n c a d s changes new r slot done o held h = h
 place_on (Restored point serving) m n c a d s changes new r slot done o held h = h
+place_on _ m n c a d s changes new r slot done o held h = (h.0, (open_on m n c a d s changes new r.namespace h.0 o (held refl) h.1.0, h.1.1))
 
 fence_on : (m : Master) (n : ℕ) (c : Catalog) (a : List Interval) (d : Drawn) (s : List Sent) (changes new : List Change) (slot : ℕ) (table : Id) (done : List Mark) (operation : Id) → Onward m n c a d changes new
     → IsFence m slot table done operation → IsFence (going m n c a d s) slot table done operation
@@ -47,40 +45,12 @@ fence_on m n c a d s changes new slot table done operation o (inr h) = inr (reco
   place = h.place;
 })
 
-pub after_on : (m : Master) (n : ℕ) (c : Catalog) (a : List Interval) (d : Drawn) (s : List Sent) (clock : ℕ) (operation : Id) (kind : BodyKind) → IsAfter m clock operation kind → IsAfter (going m n c a d s) clock operation kind
-after_on m n c a d s clock operation kind h = record { snapshot = h.snapshot; restoration = h.restoration; point = h.point; copied = h.copied; released = h.released }
-
-pub pending_on : (kind : Kind) (m : Master) (n : ℕ) (c : Catalog) (a : List Interval) (d : Drawn) (s : List Sent) (operation : Id) (slot : ℕ) → pending_of kind (going m n c a d s).snapshots (going m n c a d s).restorations (going m n c a d s).clones operation slot ≡ pending_of kind m.snapshots m.restorations m.clones operation slot
-pending_on Snapshot m n c a d s operation slot = refl
-pending_on Restoration m n c a d s operation slot = refl
-pending_on Clone m n c a d s operation slot = refl
-pending_on Namespace m n c a d s operation slot = refl
-pending_on Table m n c a d s operation slot = refl
-pending_on TabletKind m n c a d s operation slot = refl
-pending_on Schedule m n c a d s operation slot = refl
-
 pub orders_on : (m : Master) (n : ℕ) (c : Catalog) (a : List Interval) (d : Drawn) (s : List Sent) (changes new : List Change) (slot : ℕ) (t : Tablet) → Onward m n c a d changes new → OrdersGood m slot t
     → OrdersGood (going m n c a d s) slot t
-orders_on m n c a d s changes new slot t o h = record {
-  fences = λ operation is. fence_on m n c a d s changes new slot t.table t.done operation o (h.fences operation is);
-  orders = λ k isin. (let g = h.orders k isin in record {
-    is_pending = pending_on k.operation.kind m n c a d s k.operation slot ∙ g.is_pending;
-    after = after_on m n c a d s t.clock k.operation _ g.after;
-  });
-  once = h.once;
-  fresh = h.fresh;
-  marks = λ mark isin. (let g = h.marks mark isin in record {
-    drawn = le_trans g.drawn (o.drawn mark.operation.kind);
-    after = after_on m n c a d s t.clock mark.operation mark.kind g.after;
-    by_snapshot = g.by_snapshot;
-    by_restoration = g.by_restoration;
-    by_clone = g.by_clone;
-  });
-  holds = h.holds;
-  frozen = h.frozen;
-  sets = h.sets;
-  bare = h.bare;
-}
+orders_on m n c a d s changes new slot t o h =
+    let fences : (operation : Id) → t.fence ≡ Some operation → IsFenceIn (directory (going m n c a d s)) slot t.table t.done operation = λ operation is. fence_on m n c a d s changes new slot t.table t.done operation o (h.fences operation is) in
+    let marks : (mark : Mark) → In mark t.done → IsMarkIn d (operations (going m n c a d s)) t.clock mark = λ mark isin. (let g = h.marks mark isin in let drawn : mark.operation.number ≤ drawn_of mark.operation.kind d = le_trans g.drawn (o.drawn mark.operation.kind) in assumption (drawn, g)) in
+    assumption (fences, marks)
 
 fenced_on : (m : Master) (n : ℕ) (c : Catalog) (a : List Interval) (d : Drawn) (s : List Sent) (changes new : List Change) (r : RestorationRecord) (slot : ℕ) (t : Tablet) → Onward m n c a d changes new
     → (NotHeld m r.namespace → ⊥) → FencedSlot m r slot t → FencedSlot (going m n c a d s) r slot t
@@ -88,16 +58,11 @@ fenced_on m n c a d s changes new r slot t o held h = record { fenced = λ i ope
 
 restoring_on : (changes new : List Change) (r : RestorationRecord) (point : ℕ) (l : Listed) (t : Tablet) → before_restore new r.namespace point new ≡ before_restore changes r.namespace point changes → RestoringSlot changes r point l t
     → RestoringSlot new r point l t
-restoring_on changes new r point l t before h = record {
-  acked = h.acked;
-  fenced = h.fenced;
-  restored = λ is did. (let k = h.restored is did in record {
-    serves = k.serves;
-    cutoff_is = k.cutoff_is;
-    rows = subst (λ then_. AreRowsAt t.versions t.low t.high point then_ r.to t.table) (sym before) k.rows;
-  });
-  hidden = h.hidden;
-}
+restoring_on changes new r point l t before h =
+    let restored : is_restore l.body ≡ true → is_done t.done r.id RestoreFromKind ≡ true → IsRestored new r point t = λ is did. (let k = h.restored is did in
+    let rows : AreRowsAt t.versions t.low t.high point (before_restore new r.namespace point new) r.to t.table = subst (λ then_. AreRowsAt t.versions t.low t.high point then_ r.to t.table) (sym before) k.rows in
+    assumption rows) in
+    assumption restored
 
 restoration_slot_on : (state : RestorationState) (m : Master) (n : ℕ) (c : Catalog) (a : List Interval) (d : Drawn) (s : List Sent) (changes new : List Change) (r : RestorationRecord) (slot : ℕ) (t : Tablet) → Onward m n c a d changes new
     → (is_restored state ≡ false → NotHeld m r.namespace → ⊥) → RestorationStateGood state m changes r → RestorationSlot state m changes r slot t → RestorationSlot state (going m n c a d s) new r slot t
@@ -118,36 +83,25 @@ SourcesStay m changes new = (c : CloneRecord) (serving : Id) (at : ℕ) (d : IdP
 
 copy_on : (changes new : List Change) (c : CloneRecord) (at : ℕ) (p : TabletPair) (t : Tablet) → ((d : IdPair) (key : List ℕ) → In d c.tables → row_at new c.to d.source key ≡ row_at changes c.to d.source key)
     → IsCopy changes c at p t → IsCopy new c at p t
-copy_on changes new c at p t stays h = record {
-  serves = h.serves;
-  fenced = h.fenced;
-  tablet_is = h.tablet_is;
-  table_is = h.table_is;
-  low_is = h.low_is;
-  high_is = h.high_is;
-  cutoff = h.cutoff;
-  rows = λ d paired is. (let k = h.rows d paired is in record { stamps = k.stamps; upserts = k.upserts; rows = λ key range. k.rows key range ∙ sym (stays d key paired); inside = k.inside });
-}
+copy_on changes new c at p t stays h =
+    let rows_now : (d : IdPair) → In d c.tables → d.target ≡ p.table → AreRowsAt t.versions p.low p.high at new c.to d.source = λ d paired is. (let k = h.rows d paired is in record { stamps = k.stamps; upserts = k.upserts; rows = λ key range. k.rows key range ∙ sym (stays d key paired); inside = k.inside }) in
+    assumption rows_now
 
 clone_slot_on : (state : CloneState) (m : Master) (n : ℕ) (c : Catalog) (a : List Interval) (d : Drawn) (s : List Sent) (changes new : List Change) (k : CloneRecord) (slot : ℕ) (t : Tablet) → k.state ≡ state → In k m.clones
     → owner_of c.owners t.table ≡ owner_of m.catalog.owners t.table → SourcesStay m changes new → CloneSlot state m changes k slot t → CloneSlot state (going m n c a d s) new k slot t
-clone_slot_on Accepted m n c a d s changes new k slot t e isin owner stays h = h
-clone_slot_on (CloneSnapshot own) m n c a d s changes new k slot t e isin owner stays h = h
 clone_slot_on (Copying serving at) m n c a d s changes new k slot t e isin owner stays h = record {
   acked = h.acked;
   empty = h.empty;
   copied = λ p paired is done. copy_on changes new k at p t (λ b key listed. stays k serving at b key isin e listed) (h.copied p paired is done);
   later = λ serving_ free of. h.later serving_ free (sym owner ∙ of);
 }
-clone_slot_on (CloneReleasing serving at) m n c a d s changes new k slot t e isin owner stays h = h
-clone_slot_on (CloneComplete serving at) m n c a d s changes new k slot t e isin owner stays h = h
+clone_slot_on _ m n c a d s changes new k slot t e isin owner stays h = h
 
 home_on : (m : Master) (n : ℕ) (c : Catalog) (a : List Interval) (d : Drawn) (s : List Sent) (changes new : List Change) (slot : ℕ) (tablet : Id) → Onward m n c a d changes new → IsHome m slot tablet ⊎ IsTarget m slot tablet
     → IsHome (going m n c a d s) slot tablet ⊎ IsTarget (going m n c a d s) slot tablet
 home_on m n c a d s changes new slot tablet o (inl h) = let k = o.kept h.interval h.kept in let e = alike_on m n h.interval k.0 k.1.1 in
     inl (record { interval = k.0; kept = k.1.0; slot_is = e.slot ∙ h.slot_is; tablet_is = e.tablet ∙ h.tablet_is })
-home_on m n c a d s changes new slot tablet o (inr h) =
-    inr (record { clone = h.clone; kept = h.kept; serving = h.serving; at = h.at; state_is = h.state_is; pair = h.pair; paired = h.paired; slot_is = h.slot_is; tablet_is = h.tablet_is })
+home_on m n c a d s changes new slot tablet o (inr h) = inr h
 
 pub obeyed_on : (m : Master) (n : ℕ) (c : Catalog) (a : List Interval) (d : Drawn) (s : List Sent) (changes new : List Change) (slot : ℕ) (t : Tablet) → Onward m n c a d changes new → SourcesStay m changes new
     → OperationsGood m changes → ObeyedGood m changes slot t → ObeyedGood (going m n c a d s) new slot t
@@ -182,17 +136,12 @@ mark_later m from to mark le h = record { drawn = h.drawn; after = after_later m
 
 -- its commands and marks stay, and its clock may rise
 pub orders_mild : (m : Master) (slot : ℕ) (t : Tablet) (n version : ℕ) (vs : List Version) (cutoff : ℕ) → t.clock ≤ n → OrdersGood m slot t → OrdersGood m slot (milder t n version vs cutoff t.inbox)
-orders_mild m slot t n version vs cutoff le h = record {
-  fences = h.fences;
-  orders = λ c isin. order_later m slot t.clock n c le (h.orders c isin);
-  once = h.once;
-  fresh = h.fresh;
-  marks = λ mark isin. mark_later m t.clock n mark le (h.marks mark isin);
-  holds = λ r isin did. (let f = h.holds r isin did in record { set = f.set; held = f.held; time = f.time; inside = f.inside });
-  frozen = h.frozen;
-  sets = h.sets;
-  bare = λ vacant. (let b = h.bare vacant in record { frozen = b.frozen; fence = b.fence; done = b.done });
-}
+orders_mild m slot t n version vs cutoff le h =
+    let orders : (c : Command) → In c (milder t n version vs cutoff t.inbox).inbox → IsOrderIn (operations m) slot (milder t n version vs cutoff t.inbox).clock c = λ c isin. order_later m slot t.clock n c le (h.orders c isin) in
+    let marks : (mark : Mark) → In mark (milder t n version vs cutoff t.inbox).done → IsMarkIn m.drawn (operations m) (milder t n version vs cutoff t.inbox).clock mark = λ mark isin. mark_later m t.clock n mark le (h.marks mark isin) in
+    let holds : (r : SnapshotRecord) → In r m.snapshots → is_done (milder t n version vs cutoff t.inbox).done r.id FreezeKind ≡ true → HoldsFrozen r.id r.at (milder t n version vs cutoff t.inbox) = λ r isin did. (let f = h.holds r isin did in record { set = f.set; held = f.held; time = f.time; inside = f.inside }) in
+    let bare : is_empty (milder t n version vs cutoff t.inbox).presence ≡ true → IsBare (milder t n version vs cutoff t.inbox) = λ vacant. (let b = h.bare vacant in record { frozen = b.frozen; fence = b.fence; done = b.done }) in
+    assumption (orders, marks, holds, bare)
 
 -- its commands are lost
 pub orders_lost : (m : Master) (slot : ℕ) (t : Tablet) (n : ℕ) → t.clock ≤ n → OrdersGood m slot t → OrdersGood m slot (record t { clock = n; inbox = [] })
@@ -222,16 +171,13 @@ rows_stay t vs cutoff low high stamp changes to table operation (inr free) fence
 
 restoring_mild : (changes : List Change) (r : RestorationRecord) (point : ℕ) (l : Listed) (t : Tablet) (n version : ℕ) (vs : List Version) (cutoff : ℕ) (inbox : List Command) → RowsStay t vs cutoff → (t.cutoff ≡ point → cutoff ≡ point)
     → RestoringSlot changes r point l t → RestoringSlot changes r point l (milder t n version vs cutoff inbox)
-restoring_mild changes r point l t n version vs cutoff inbox stays capped h = record {
-  acked = h.acked;
-  fenced = h.fenced;
-  restored = λ is did. (let k = h.restored is did in record {
+restoring_mild changes r point l t n version vs cutoff inbox stays capped h =
+    let restored : is_restore l.body ≡ true → is_done t.done r.id RestoreFromKind ≡ true → IsRestored changes r point (milder t n version vs cutoff inbox) = λ is did. (let k = h.restored is did in record {
     serves = k.serves;
     cutoff_is = capped k.cutoff_is;
     rows = (rows_stay t vs cutoff t.low t.high point (before_restore changes r.namespace point changes) r.to t.table r.id stays (h.fenced k.serves) k.rows).1;
-  });
-  hidden = h.hidden;
-}
+  }) in
+    assumption restored
 
 releasing_mild : (operation : Id) (l : Listed) (t : Tablet) (n version : ℕ) (vs : List Version) (cutoff : ℕ) (inbox : List Command) → ReleasingSlot operation l t → ReleasingSlot operation l (milder t n version vs cutoff inbox)
 releasing_mild operation l t n version vs cutoff inbox h = record { acked = h.acked; serves = h.serves; released = h.released; fenced = h.fenced }
@@ -248,16 +194,10 @@ restoration_slot_mild (Restored point serving) m changes r slot t n version vs c
 
 copy_mild : (changes : List Change) (c : CloneRecord) (at : ℕ) (p : TabletPair) (t : Tablet) (n version : ℕ) (vs : List Version) (cutoff : ℕ) (inbox : List Command) → RowsStay t vs cutoff → IsCopy changes c at p t
     → IsCopy changes c at p (milder t n version vs cutoff inbox)
-copy_mild changes c at p t n version vs cutoff inbox stays h = record {
-  serves = h.serves;
-  fenced = h.fenced;
-  tablet_is = h.tablet_is;
-  table_is = h.table_is;
-  low_is = h.low_is;
-  high_is = h.high_is;
-  cutoff = cutoff_stays stays;
-  rows = λ d paired is. (rows_stay t vs cutoff p.low p.high at changes c.to d.source c.id stays h.fenced (h.rows d paired is)).1;
-}
+copy_mild changes c at p t n version vs cutoff inbox stays h =
+    let cutoff_now : at ≤ cutoff = cutoff_stays stays in
+    let rows : (d : IdPair) → In d c.tables → d.target ≡ p.table → AreRowsAt vs p.low p.high at changes c.to d.source = λ d paired is. (rows_stay t vs cutoff p.low p.high at changes c.to d.source c.id stays h.fenced (h.rows d paired is)).1 in
+    assumption (cutoff_now, rows)
   where
     cutoff_stays : RowsStay t vs cutoff → at ≤ cutoff
     cutoff_stays (inl k) = le_trans h.cutoff k.later
@@ -265,8 +205,6 @@ copy_mild changes c at p t n version vs cutoff inbox stays h = record {
 
 clone_slot_mild : (state : CloneState) (m : Master) (changes : List Change) (c : CloneRecord) (slot : ℕ) (t : Tablet) (n version : ℕ) (vs : List Version) (cutoff : ℕ) (inbox : List Command) → t.clock ≤ n → RowsStay t vs cutoff
     → CloneSlot state m changes c slot t → CloneSlot state m changes c slot (milder t n version vs cutoff inbox)
-clone_slot_mild Accepted m changes c slot t n version vs cutoff inbox le stays h = record { empty = h.empty }
-clone_slot_mild (CloneSnapshot own) m changes c slot t n version vs cutoff inbox le stays h = record { empty = h.empty }
 clone_slot_mild (Copying serving at) m changes c slot t n version vs cutoff inbox le stays h = record {
   acked = h.acked;
   empty = h.empty;
@@ -275,17 +213,15 @@ clone_slot_mild (Copying serving at) m changes c slot t n version vs cutoff inbo
 }
 clone_slot_mild (CloneReleasing serving at) m changes c slot t n version vs cutoff inbox le stays h = λ l isin is. releasing_mild c.id l t n version vs cutoff inbox (h l isin is)
 clone_slot_mild (CloneComplete serving at) m changes c slot t n version vs cutoff inbox le stays h = tt
+clone_slot_mild _ m changes c slot t n version vs cutoff inbox le stays h = record { empty = h.empty }
 
 pub obeyed_mild : (m : Master) (changes : List Change) (slot : ℕ) (t : Tablet) (n version : ℕ) (vs : List Version) (cutoff : ℕ) (inbox : List Command) → t.clock ≤ n → RowsStay t vs cutoff
     → ((r : RestorationRecord) (l : Listed) (point : ℕ) (serving : Id) → In r m.restorations → r.state ≡ Restoring point serving → In l r.listed → l.slot ≡ slot → t.cutoff ≡ point → cutoff ≡ point) → ObeyedGood m changes slot t
     → ObeyedGood m changes slot (milder t n version vs cutoff inbox)
-obeyed_mild m changes slot t n version vs cutoff inbox le stays capped h = record {
-  drawn_table = h.drawn_table;
-  home = h.home;
-  snapshots = h.snapshots;
-  restorations = λ r isin. restoration_slot_mild r.state m changes r slot t n version vs cutoff inbox le stays (λ l point serving is lists at e. capped r l point serving isin is lists at e) (h.restorations r isin);
-  clones = λ c isin. clone_slot_mild c.state m changes c slot t n version vs cutoff inbox le stays (h.clones c isin);
-}
+obeyed_mild m changes slot t n version vs cutoff inbox le stays capped h =
+    let restorations : (r : RestorationRecord) → In r m.restorations → RestorationSlotIn r.state m.activity m.catalog.owners changes r slot (milder t n version vs cutoff inbox) = λ r isin. restoration_slot_mild r.state m changes r slot t n version vs cutoff inbox le stays (λ l point serving is lists at e. capped r l point serving isin is lists at e) (h.restorations r isin) in
+    let clones : (c : CloneRecord) → In c m.clones → CloneSlotIn c.state m.catalog.owners changes c slot (milder t n version vs cutoff inbox) = λ c isin. clone_slot_mild c.state m changes c slot t n version vs cutoff inbox le stays (h.clones c isin) in
+    assumption (restorations, clones)
 
 -- A slot gets a tablet
 
@@ -365,9 +301,8 @@ hidden_restorations : (state : RestorationState) (m : Master) (changes : List Ch
 hidden_restorations Fencing m changes r slot t n p le apart h = record { acked = h.acked; fenced = h.fenced }
 hidden_restorations (Snapshotting point own) m changes r slot t n p le apart h = record { fenced = h.fenced }
 hidden_restorations (Switching point serving) m changes r slot t n p le apart h = record { fenced = h.fenced; past = λ i opened is. le_trans (h.past i opened is) le }
-hidden_restorations (Restoring point serving) m changes r slot t n p le apart h = λ l isin is. absurd (apart l isin is refl)
-hidden_restorations (Releasing point serving) m changes r slot t n p le apart h = λ l isin is. absurd (apart l isin is refl)
 hidden_restorations (Restored point serving) m changes r slot t n p le apart h = tt
+hidden_restorations _ m changes r slot t n p le apart h = λ l isin is. absurd (apart l isin is refl)
 
 hidden_clones : (state : CloneState) (m : Master) (changes : List Change) (c : CloneRecord) (slot : ℕ) (t : Tablet) (n : ℕ) (p : Presence) → is_serving p ≡ false
     → ((q : TabletPair) → In q c.tablets → q.slot ≡ slot → is_visible state ≡ false → ⊥) → ((l : Listed) → In l c.listed → l.slot ≡ slot → is_visible state ≡ true → is_cloned state ≡ false → ⊥)
@@ -386,29 +321,24 @@ hidden_clones (CloneComplete serving at) m changes c slot t n p out apart listed
 visible_active : (state : CloneState) (m : Master) (c : CloneRecord) (l : Listed) (slot : ℕ) (ns : Id) → is_visible state ≡ true → is_cloned state ≡ false → CloneStateGood state m c → In l c.listed → l.slot ≡ slot
     → ((i : Interval) → In i m.activity → i.slot ≡ slot → owner_of m.catalog.owners i.table ≡ Some ns) → c.target_id ≡ ns
 visible_active Accepted m c l slot ns seen unfinished h isin is one = absurd (true≢false (sym seen))
-visible_active (CloneSnapshot own) m c l slot ns seen unfinished h isin is one = absurd (true≢false (sym seen))
-visible_active (Copying serving at) m c l slot ns seen unfinished h isin is one = absurd (true≢false (sym seen))
 visible_active (CloneReleasing serving at) m c l slot ns seen unfinished h isin is one =
     let k = h.active l isin in
     let q : Some c.target_id ≡ Some ns = sym (h.listed_of l k.interval isin k.kept k.tablet_is) ∙ one k.interval k.kept (k.slot_is ∙ is) in cc
 visible_active (CloneComplete serving at) m c l slot ns seen unfinished h isin is one = absurd (true≢false unfinished)
+visible_active _ m c l slot ns seen unfinished h isin is one = absurd (true≢false (sym seen))
 
 -- where no operation holds the namespace of a slot's tablet, the tablet may be hidden
 pub hidden_works : (m : Master) (changes : List Change) (slot : ℕ) (t : Tablet) (n : ℕ) (ns : Id) (j : Interval) → t.clock ≤ n → is_empty t.presence ≡ false → OperationsGood m changes
     → ((r : RestorationRecord) → In r m.restorations → ListedOf m r) → NotHeld m ns → In j m.activity → j.slot ≡ slot
     → ((i : Interval) → In i m.activity → i.slot ≡ slot → owner_of m.catalog.owners i.table ≡ Some ns) → SlotWorks m changes slot t → SlotWorks m changes slot (record t { clock = n; presence = HiddenPart n })
-hidden_works m changes slot t n ns j le present ops of free isin is one h = let o = h.orders in let b = h.obeyed in record {
-  orders = record {
-    fences = o.fences;
-    orders = λ c lists. order_later m slot t.clock n c le (o.orders c lists);
-    once = o.once;
-    fresh = o.fresh;
-    marks = λ mark lists. mark_later m t.clock n mark le (o.marks mark lists);
-    holds = λ r known did. (let f = o.holds r known did in record { set = f.set; held = f.held; time = f.time; inside = f.inside });
-    frozen = o.frozen;
-    sets = o.sets;
-    bare = λ e. absurd (let q = e in grind arith);
-  };
+hidden_works m changes slot t n ns j le present ops of free isin is one h =
+    let o = h.orders in
+    let b = h.obeyed in record {
+  orders = let orders : (c : Command) → In c t.inbox → IsOrderIn (operations m) slot n c = λ c lists. order_later m slot t.clock n c le (o.orders c lists) in
+    let marks : (mark : Mark) → In mark t.done → IsMarkIn m.drawn (operations m) n mark = λ mark lists. mark_later m t.clock n mark le (o.marks mark lists) in
+    let holds : (r : SnapshotRecord) → In r m.snapshots → is_done t.done r.id FreezeKind ≡ true → HoldsFrozen r.id r.at (record t { clock = n; presence = HiddenPart n }) = λ r known did. (let f = o.holds r known did in record { set = f.set; held = f.held; time = f.time; inside = f.inside }) in
+    let bare : is_empty (HiddenPart n) ≡ true → IsBare (record t { clock = n; presence = HiddenPart n }) = λ e. absurd (let q = e in grind arith) in
+    assumption (orders, marks, holds, bare);
   obeyed = record {
     drawn_table = b.drawn_table;
     home = λ hidden. b.home present;
@@ -431,19 +361,12 @@ hidden_works m changes slot t n ns j le present ops of free isin is one h = let 
 
 -- an operation that has a fence somewhere is unfinished
 pub place_left : (state : RestorationState) (r : RestorationRecord) (m : Master) (slot : ℕ) (done : List Mark) → FencePlace state r m slot done → is_restored state ≡ false
-place_left Fencing r m slot done h = refl
-place_left (Snapshotting point own) r m slot done h = refl
-place_left (Switching point serving) r m slot done h = refl
-place_left (Restoring point serving) r m slot done h = refl
-place_left (Releasing point serving) r m slot done h = refl
 place_left (Restored point serving) r m slot done h = absurd h
+place_left _ r m slot done h = refl
 
 pub clone_left : (state : CloneState) (c : CloneRecord) (slot : ℕ) (done : List Mark) → ClonePlace state c slot done → is_cloned state ≡ false
-clone_left Accepted c slot done h = refl
-clone_left (CloneSnapshot own) c slot done h = refl
-clone_left (Copying serving at) c slot done h = refl
-clone_left (CloneReleasing serving at) c slot done h = refl
 clone_left (CloneComplete serving at) c slot done h = absurd h
+clone_left _ c slot done h = refl
 
 fence_free : (fence : Option Id) (m : Master) (slot : ℕ) (t : Tablet) (ns : Id) → t.fence ≡ fence → OrdersGood m slot t → owner_of m.catalog.owners t.table ≡ Some ns → NotHeld m ns → fence ≡ None
 fence_free None m slot t ns e h owner free = refl

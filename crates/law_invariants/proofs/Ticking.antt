@@ -1,19 +1,23 @@
 -- Clocks that rise to a stamp keep what holds; and an act keeps it where each of its refusals, or else its outcome, does.
+use Rattle.model.specs.Right.{is_fixed}
+use Rattle.law_invariants.specs.Orders.{directory}
+use Rattle.row_values.specs.Ids.{Id}
+use Rattle.row_values.specs.Elements.{In}
 use Rattle.std.proofs.Common.{ℕ, ◌≡◌, ◌≤◌, ◌<◌, ◌+◌, List, [], ◌∷◌, Option, Some, None, Bool, true, false, cond, ◌&&◌, refl, sym, subst, arith, not, le_trans, le_of_lt, lt_of_lt_of_le, eqb, Result, Ok, Err}
 use Rattle.std.proofs.lemmas.Bool.{cond_both}
 use Rattle.row_values.specs.Slots.{has}
 use Rattle.row_values.specs.Store.{Version, Below}
-use Rattle.model.specs.Catalog.{Catalog, NamespaceRecord}
+use Rattle.model.specs.Catalog.{Catalog, NamespaceRecord, name_of, TableRecord, kept_from, owner_of}
 use Rattle.model.specs.Activity.{Interval}
-use Rattle.model.specs.Journal.{Change}
-use Rattle.model.specs.Tablets.{Tablet}
+use Rattle.model.specs.Journal.{Change, namespace_at}
+use Rattle.model.specs.Tablets.{Tablet, FrozenSet, is_serving}
 use Rattle.model.specs.Acts.{Act, Reply, Refused, Refusal}
 use Rattle.model.specs.Parts.{Master, Parts, Check, If, Names, Fault, Outcome, judged, refused, answered, decided}
 use Rattle.model.specs.Entries.{slots_of, clock_at}
 use Rattle.model.specs.History.{told, with_changes}
 use Rattle.model.specs.Replies.{ReplyRight}
 use Rattle.law_invariants.specs.Remembered.{activity_after, Remembered}
-use Rattle.law_invariants.specs.Invariant.{EndsBy, OverBy, IsPast, NamespacesStand, TablesStand, IsGood, SlotGood, Covered, MasterGood, Inv, Keeps, Later, Passes}
+use Rattle.law_invariants.specs.Invariant.{EndsBy, OverBy, IsPast, NamespacesStand, TablesStand, IsGood, SlotGood, Covered, MasterGood, Inv, Keeps, Later, Passes, IsGoodIn, TakesWritesIn}
 use Rattle.law_invariants.proofs.Remembering.{activity_stays, remembered_ticked_if}
 use Rattle.law_invariants.proofs.Hearing.{clocks_rise, rows_ticked_if}
 use Rattle.law_invariants.proofs.Undoing.{journal_ticked_if}
@@ -35,29 +39,16 @@ below_later [] m n le h = tt
 below_later (v ∷ vs) m n le h = (omega (arith, h.0), below_later vs m n le h.1)
 
 pub namespaces_later : (rs : List NamespaceRecord) (m n drawn : ℕ) (changes : List Change) → m ≤ n → NamespacesStand rs m drawn changes → NamespacesStand rs n drawn changes
-namespaces_later rs m n drawn changes le h = record {
-  past = λ r isin. past_later r.from m n r.to le (h.past r isin);
-  drawn_before = h.drawn_before;
-  unique = h.unique;
-  found = h.found;
-  viewed = λ id x after. h.viewed id x (le_trans le after);
-}
+namespaces_later rs m n drawn changes le h =
+    let past : (r : NamespaceRecord) → In r rs → IsPast n r.from r.to = λ r isin. past_later r.from m n r.to le (h.past r isin) in
+    let viewed : (id : Id) (x : ℕ) → n ≤ x → namespace_at changes x id ≡ name_of rs id = λ id x after. h.viewed id x (le_trans le after) in
+    assumption (past, viewed)
 
 pub tables_later : (c : Catalog) (m n drawn : ℕ) (changes : List Change) → m ≤ n → TablesStand c m drawn changes → TablesStand c n drawn changes
-tables_later c m n drawn changes le h = record {
-  past = λ r isin. past_later r.from m n r.to le (h.past r isin);
-  drawn_before = h.drawn_before;
-  owned = h.owned;
-  owners_drawn = h.owners_drawn;
-  unique = h.unique;
-  found = h.found;
-  columns = h.columns;
-  rise = h.rise;
-  viewed = h.viewed;
-  unmade = h.unmade;
-  inside = h.inside;
-  kept = λ ns. le_trans (h.kept ns) le;
-}
+tables_later c m n drawn changes le h =
+    let past : (r : TableRecord) → In r c.tables → IsPast n r.from r.to = λ r isin. past_later r.from m n r.to le (h.past r isin) in
+    let kept : (ns : Id) → kept_from c.kept_from ns ≤ n = λ ns. le_trans (h.kept ns) le in
+    assumption (past, kept)
 
 -- the master's clock rises
 pub master_ticked : (m : Master) (n : ℕ) (changes : List Change) → m.clock ≤ n → MasterGood m changes → MasterGood (record m { clock = n }) changes
@@ -72,91 +63,35 @@ master_ticked m n changes le h = record {
 }
 
 pub good_ticked : (m : Master) (n : ℕ) (changes : List Change) (t : Tablet) (i : Interval) → m.clock ≤ n → IsGood m changes t i → IsGood (record m { clock = n }) changes t i
-good_ticked m n changes t i le h = record {
-  past = past_later i.from m.clock n i.to le h.past;
-  over = h.over;
-  drawn = h.drawn;
-  drawn_table = h.drawn_table;
-  slot_from = h.slot_from;
-  slot_to = h.slot_to;
-  present = h.present;
-  tablet_is = h.tablet_is;
-  table_is = h.table_is;
-  low_is = h.low_is;
-  high_is = h.high_is;
-  viewed = h.viewed;
-  waits = h.waits;
-  comes = h.comes;
-  serves = h.serves;
-  hidden = h.hidden;
-  stands = h.stands;
-  sets = h.sets;
-}
+good_ticked m n changes t i le h =
+    let past : IsPast n i.from i.to = past_later i.from m.clock n i.to le h.past in
+    assumption past
 
 -- what holds of a slot holds under a later clock of the master
 pub slot_ticked : (m : Master) (n : ℕ) (changes : List Change) (slot : ℕ) (t : Tablet) → m.clock ≤ n → SlotGood m changes slot t → SlotGood (record m { clock = n }) changes slot t
-slot_ticked m n changes slot t le h = record {
-  good = h.good;
-  home = h.home;
-  numbered = h.numbered;
-  each = λ i isin is. good_ticked m n changes t i le (h.each i isin is);
-  opens = λ serving unfenced. let o = h.opens serving unfenced in record {
-    interval = o.interval;
-    listed = o.listed;
-    slot_is = o.slot_is;
-    opened = o.opened;
-    begun = o.begun;
-    settled = o.settled;
-  };
-  shown = h.shown;
-  later = h.later;
-}
+slot_ticked m n changes slot t le h =
+    let each : (i : Interval) → In i m.activity → i.slot ≡ slot → IsGoodIn n m.slots (directory (record m { clock = n })) changes t i = λ i isin is. good_ticked m n changes t i le (h.each i isin is) in
+    assumption each
 
 -- and under a later clock of its own
 pub tablet_ticked : (m : Master) (n : ℕ) (changes : List Change) (slot : ℕ) (t : Tablet) → t.clock ≤ n → SlotGood m changes slot t → SlotGood m changes slot (record t { clock = n })
-tablet_ticked m n changes slot t le h = record {
-  good = record {
-    sorted = h.good.sorted;
-    below = below_later t.versions (t.clock + 1) (n + 1) (omega arith) h.good.below;
-    cutoff = le_trans h.good.cutoff le;
-    keys = h.good.keys;
-    set_past = λ f held. lt_of_lt_of_le (h.good.set_past f held) le;
-    set_sorted = h.good.set_sorted;
-    set_keys = h.good.set_keys;
-  };
-  home = h.home;
-  numbered = h.numbered;
-  each = λ i isin is. let g = h.each i isin is in record {
-    past = g.past;
-    over = over_later i.to i.from t.clock n le g.over;
-    drawn = g.drawn;
-    drawn_table = g.drawn_table;
-    slot_from = g.slot_from;
-    slot_to = g.slot_to;
-    present = g.present;
-    tablet_is = g.tablet_is;
-    table_is = g.table_is;
-    low_is = g.low_is;
-    high_is = g.high_is;
-    viewed = g.viewed;
-    waits = g.waits;
-    comes = g.comes;
-    serves = g.serves;
-    hidden = g.hidden;
-    stands = g.stands;
-    sets = g.sets;
-  };
-  opens = λ serving unfenced. let o = h.opens serving unfenced in record {
+tablet_ticked m n changes slot t le h =
+    let below : Below (n + 1) t.versions = below_later t.versions (t.clock + 1) (n + 1) (omega arith) h.good.below in
+    let cutoff : t.cutoff ≤ n = le_trans h.good.cutoff le in
+    let set_past : (f : FrozenSet) → In f t.frozen → f.at < n = λ f held. lt_of_lt_of_le (h.good.set_past f held) le in
+    let each : (i : Interval) → In i m.activity → i.slot ≡ slot → IsGoodIn m.clock m.slots (directory m) changes (record t { clock = n }) i = λ i isin is. let g = h.each i isin is in
+    let over : OverBy n i.from i.to = over_later i.to i.from t.clock n le g.over in
+    assumption over in
+    let opens : is_serving t.presence ≡ true → t.fence ≡ None → TakesWritesIn m.activity m.restorations slot (record t { clock = n }) = λ serving unfenced. let o = h.opens serving unfenced in record {
     interval = o.interval;
     listed = o.listed;
     slot_is = o.slot_is;
     opened = o.opened;
     begun = le_trans o.begun le;
     settled = o.settled;
-  };
-  shown = h.shown;
-  later = λ ns to is serving unfenced owned. le_trans (h.later ns to is serving unfenced owned) le;
-}
+  } in
+    let later : (ns : Id) (to : ℕ) → is_fixed changes ns to ≡ true → is_serving t.presence ≡ true → t.fence ≡ None → owner_of m.catalog.owners t.table ≡ Some ns → to ≤ n = λ ns to is serving unfenced owned. le_trans (h.later ns to is serving unfenced owned) le in
+    assumption (below, cutoff, set_past, each, opens, later)
 
 -- the parts under later clocks: those of the slots for which the test holds, and the master's where it does
 pub slots_ticked : (m : Master) (n : ℕ) (changes : List Change) (slot : ℕ) (b : Bool) (t : Tablet) → (b ≡ true → t.clock ≤ n)

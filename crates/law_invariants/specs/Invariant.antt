@@ -154,14 +154,14 @@ pub record ComesFrom (changes : List Change) (ns : Id) (i : Interval) (point to 
 
 -- an interval of a tablet: its slot's part holds the tablet, and stands for the journal unless the interval's rows are
 -- yet to come
-pub record IsGood (m : Master) (changes : List Change) (t : Tablet) (i : Interval) : Type 0 where
-  pub past : IsPast m.clock i.from i.to
+pub record IsGoodIn (clock slots : ℕ) (d : Directory) (changes : List Change) (t : Tablet) (i : Interval) : Type 0 where
+  pub past : IsPast clock i.from i.to
   -- an interval that has ended is over for the tablet too
   pub over : OverBy t.clock i.from i.to
-  pub drawn : i.tablet.number ≤ m.drawn.tablets
-  pub drawn_table : i.table.number ≤ m.drawn.tables
+  pub drawn : i.tablet.number ≤ d.drawn.tablets
+  pub drawn_table : i.table.number ≤ d.drawn.tables
   pub slot_from : 1 ≤ i.slot
-  pub slot_to : i.slot ≤ m.slots
+  pub slot_to : i.slot ≤ slots
   pub present : is_empty t.presence ≡ false
   pub tablet_is : t.tablet ≡ i.tablet
   pub table_is : t.table ≡ i.table
@@ -170,15 +170,18 @@ pub record IsGood (m : Master) (changes : List Change) (t : Tablet) (i : Interva
   -- while the tablet is active, the view has its table
   pub viewed : (x : ℕ) → active_at x i ≡ true → is_some (table_at changes x i.table) ≡ true
   -- a tablet that awaits rows awaits those of its open interval
-  pub waits : (point : ℕ) → awaited_in m.restorations t.tablet t.done ≡ Some point → TurnsAt point i.from i.to
-  pub comes : (r : RestorationRecord) (point : ℕ) → In r m.restorations
+  pub waits : (point : ℕ) → awaited_in d.given.restorations t.tablet t.done ≡ Some point → TurnsAt point i.from i.to
+  pub comes : (r : RestorationRecord) (point : ℕ) → In r d.given.restorations
       → awaited_of r.state r t.tablet t.done ≡ Some point → i.to ≡ None → ComesFrom changes r.namespace i point r.to
   -- a tablet whose rows came is in service while it is active, and is hidden only from the end of its activity on
-  pub serves : i.to ≡ None → awaited_in m.restorations t.tablet t.done ≡ None → is_serving t.presence ≡ true
+  pub serves : i.to ≡ None → awaited_in d.given.restorations t.tablet t.done ≡ None → is_serving t.presence ≡ true
   pub hidden : (at : ℕ) → t.presence ≡ HiddenPart at
-      → is_awaited (awaited_in m.restorations t.tablet t.done) i.to ≡ false → ended_by at i.to ≡ true
-  pub stands : is_awaited (awaited_in m.restorations t.tablet t.done) i.to ≡ false → StandsIn t changes i
+      → is_awaited (awaited_in d.given.restorations t.tablet t.done) i.to ≡ false → ended_by at i.to ≡ true
+  pub stands : is_awaited (awaited_in d.given.restorations t.tablet t.done) i.to ≡ false → StandsIn t changes i
   pub sets : (f : FrozenSet) → In f t.frozen → SetStands f changes i
+
+abbrev pub IsGood : Master → List Change → Tablet → Interval → Type 0
+IsGood m changes t i = IsGoodIn m.clock m.slots (directory m) changes t i
 
 -- a tablet that takes writes has an open interval that began by its clock, and its rows are taken
 pub record TakesWritesIn (activity : List Interval) (restorations : List RestorationRecord) (slot : ℕ)
@@ -194,19 +197,22 @@ abbrev pub IsOpen : Master → ℕ → Tablet → Type 0
 IsOpen m slot t = TakesWritesIn m.activity m.restorations slot t
 
 -- what holds of a slot and the part in it
-pub record SlotGood (m : Master) (changes : List Change) (slot : ℕ) (t : Tablet) : Type 0 where
+pub record SlotIn (clock slots : ℕ) (d : Directory) (changes : List Change) (slot : ℕ) (t : Tablet) : Type 0 where
   pub good : TabletGood t
   -- a tablet has all its intervals in one slot
-  pub home : is_empty t.presence ≡ false → (i : Interval) → In i m.activity → i.tablet ≡ t.tablet → i.slot ≡ slot
-  pub numbered : t.tablet.number ≤ m.drawn.tablets
-  pub each : (i : Interval) → In i m.activity → i.slot ≡ slot → IsGood m changes t i
-  pub opens : is_serving t.presence ≡ true → t.fence ≡ None → IsOpen m slot t
+  pub home : is_empty t.presence ≡ false → (i : Interval) → In i d.activity → i.tablet ≡ t.tablet → i.slot ≡ slot
+  pub numbered : t.tablet.number ≤ d.drawn.tablets
+  pub each : (i : Interval) → In i d.activity → i.slot ≡ slot → IsGoodIn clock slots d changes t i
+  pub opens : is_serving t.presence ≡ true → t.fence ≡ None → TakesWritesIn d.activity d.given.restorations slot t
   -- the view has the table of a tablet that takes writes, from its cutoff on
   pub shown : is_serving t.presence ≡ true → t.fence ≡ None → (x : ℕ) → t.cutoff ≤ x
       → is_some (table_at changes x t.table) ≡ true
   -- a time to which its namespace was taken back, or cloned, is over for it: it stamps only later changes
   pub later : (ns : Id) (to : ℕ) → is_fixed changes ns to ≡ true → is_serving t.presence ≡ true → t.fence ≡ None
-      → owner_of m.catalog.owners t.table ≡ Some ns → to ≤ t.clock
+      → owner_of d.owners t.table ≡ Some ns → to ≤ t.clock
+
+abbrev pub SlotGood : Master → List Change → ℕ → Tablet → Type 0
+SlotGood m changes slot t = SlotIn m.clock m.slots (directory m) changes slot t
 
 -- the tablets' ranges cover the codes of each table that the view has, no code twice, and no range ends beyond the
 -- codes

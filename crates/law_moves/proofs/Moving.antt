@@ -48,27 +48,16 @@ not_yet ps activity changes r slot kind inv there later = either_way (is_done (p
 
 restoring_same : (b : Body) → is_restoring b ≡ is_restore b
 restoring_same Fence = refl
-restoring_same (Freeze snapshot at) = refl
-restoring_same (RestoreFrom snapshot to point version) = refl
-restoring_same (Hide ended) = refl
-restoring_same (Copy source snapshot to stamp table low high version) = refl
-restoring_same (Release cutoff) = refl
+restoring_same _ = refl
 
 restore_kind : (b : Body) → is_restore b ≡ true → kind_of b ≡ RestoreFromKind
 restore_kind (RestoreFrom snapshot to point version) e = refl
-restore_kind Fence e = absurd (true≢false (sym e))
-restore_kind (Freeze snapshot at) e = absurd (true≢false (sym e))
-restore_kind (Hide ended) e = absurd (true≢false (sym e))
-restore_kind (Copy source snapshot to stamp table low high version) e = absurd (true≢false (sym e))
-restore_kind (Release cutoff) e = absurd (true≢false (sym e))
+restore_kind _ e = absurd (true≢false (sym e))
 
 either_body : (r : RestorationRecord) (point : ℕ) (serving_ : Id) (b : Body) → IsAfterSwitch r point serving_ b → (is_restore b ≡ true) ⊎ (kind_of b ≡ HideKind)
 either_body r point serving_ (RestoreFrom snapshot to at version) h = inl refl
 either_body r point serving_ (Hide ended) h = inr refl
-either_body r point serving_ Fence h = absurd h
-either_body r point serving_ (Freeze snapshot at) h = absurd h
-either_body r point serving_ (Copy source snapshot to stamp table low high version) h = absurd h
-either_body r point serving_ (Release cutoff) h = absurd h
+either_body r point serving_ _ h = absurd h
 
 any_restoring : (ls : List Listed) (tablet : Id) → list_any (λ l. same l.tablet tablet && is_restore l.body) ls ≡ true → (l : Listed) × (In l ls × ((l.tablet ≡ tablet) × (is_restore l.body ≡ true)))
 any_restoring [] tablet e = absurd (true≢false (sym e))

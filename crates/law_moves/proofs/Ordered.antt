@@ -6,14 +6,14 @@ use Rattle.row_values.specs.Elements.{In}
 use Rattle.model.specs.Activity.{Interval}
 use Rattle.model.specs.Catalog.{owner_of}
 use Rattle.model.specs.Journal.{Change}
-use Rattle.model.specs.Tablets.{Tablet, BodyKind, RestoreFromKind, HideKind, Mark, is_serving, kind_of}
-use Rattle.model.specs.Records.{RestorationRecord, RestorationState, Fencing, Snapshotting, Switching, Restoring, Releasing, Restored, CloneRecord, CloneState, Accepted, CloneSnapshot, Copying, CloneReleasing, CloneComplete, is_restored, is_cloned, point_of}
+use Rattle.model.specs.Tablets.{Tablet, BodyKind, RestoreFromKind, HideKind, Mark, is_serving, kind_of, is_done, Command, CopyKind}
+use Rattle.model.specs.Records.{RestorationRecord, RestorationState, Fencing, Snapshotting, Switching, Restoring, Releasing, Restored, CloneRecord, CloneState, Accepted, CloneSnapshot, Copying, CloneReleasing, CloneComplete, is_restored, is_cloned, point_of, IdPair, TabletPair}
 use Rattle.model.specs.Coordination.{pending_of}
-use Rattle.model.specs.Stands.{is_after_switch, AreRowsAt, before_restore}
+use Rattle.model.specs.Stands.{is_after_switch, AreRowsAt, before_restore, is_restore}
 use Rattle.model.specs.Parts.{Master, Parts}
 use Rattle.law_store.proofs.Keys.{either_way}
 use Rattle.law_invariants.specs.Operations.{Uses, RestorationStateGood}
-use Rattle.law_invariants.specs.Orders.{FencePlace, ClonePlace, IsFence, IsAfter, IsMark, OrdersGood, RestorationSlot, CloneSlot, IsHome, IsTarget, restoring_stage, stage_of_restoration}
+use Rattle.law_invariants.specs.Orders.{FencePlace, ClonePlace, IsFence, IsAfter, IsMark, OrdersGood, RestorationSlot, CloneSlot, IsHome, IsTarget, restoring_stage, stage_of_restoration, IsRestored, operations, IsAfterIn, directory, IsFenceIn, IsOrderIn, IsMarkIn, IsCopy}
 use Rattle.law_invariants.specs.Invariant.{SlotWorks}
 use Rattle.law_invariants.proofs.Finding.{in_mapped, map_in, same_equal}
 use Rattle.law_invariants.proofs.Working.{before_any}
@@ -25,47 +25,19 @@ use Rattle.law_moves.proofs.Viewing.{row_other}
 use Rattle.law_moves.proofs.Counting.{ended_in}
 use Rattle.law_moves.proofs.Switching.{IsSwitch, listed_then, turned, after, back, unfinished_yet, good_yet, slot_yet, other_namespace, not_mine, ended_there, open_was, open_on, line_is, line_of_open}
 use Rattle.law_moves.proofs.Turned.{before_other, other_restore}
-
--- What is pending
-
-pending_turned : (kind : Kind) (m : Master) (r : RestorationRecord) (point : ℕ) (serving_ : Id) (n : ℕ) (operation : Id) (slot : ℕ)
-    → pending_of kind (turned m r point serving_ n).snapshots (turned m r point serving_ n).restorations (turned m r point serving_ n).clones operation slot ≡ pending_of kind (recorded m (enters r (Restoring point serving_) (listed_then m r point serving_) n m)).snapshots (recorded m (enters r (Restoring point serving_) (listed_then m r point serving_) n m)).restorations (recorded m (enters r (Restoring point serving_) (listed_then m r point serving_) n m)).clones operation slot
-pending_turned Snapshot m r point serving_ n operation slot = refl
-pending_turned Restoration m r point serving_ n operation slot = refl
-pending_turned Clone m r point serving_ n operation slot = refl
-pending_turned Namespace m r point serving_ n operation slot = refl
-pending_turned Table m r point serving_ n operation slot = refl
-pending_turned TabletKind m r point serving_ n operation slot = refl
-pending_turned ScheduleKind m r point serving_ n operation slot = refl
+use Rattle.law_invariants.proofs.Ordering.{place_left, clone_left}
 
 -- Fences
 
-place_open : (state : RestorationState) (x : RestorationRecord) (m : Master) (slot : ℕ) (done : List Mark) → FencePlace state x m slot done → is_restored state ≡ false
-place_open Fencing x m slot done h = refl
-place_open (Snapshotting p own) x m slot done h = refl
-place_open (Switching p served) x m slot done h = refl
-place_open (Restoring p served) x m slot done h = refl
-place_open (Releasing p served) x m slot done h = refl
-place_open (Restored p served) x m slot done h = absurd h
-
-clone_open : (state : CloneState) (c : CloneRecord) (slot : ℕ) (done : List Mark) → ClonePlace state c slot done → is_cloned state ≡ false
-clone_open Accepted c slot done h = refl
-clone_open (CloneSnapshot own) c slot done h = refl
-clone_open (Copying served at) c slot done h = refl
-clone_open (CloneReleasing served at) c slot done h = refl
-clone_open (CloneComplete served at) c slot done h = absurd h
-
 place_turned : (state : RestorationState) (m : Master) (r : RestorationRecord) (point : ℕ) (serving_ : Id) (n : ℕ) (x : RestorationRecord) (slot : ℕ) (done : List Mark) → (x.namespace ≡ r.namespace → ⊥) → FencePlace state x m slot done → FencePlace state x (turned m r point serving_ n) slot done
-place_turned Fencing m r point serving_ n x slot done apart h = (h.0, (open_on m r point serving_ n x.namespace h.0 apart h.1.0, h.1.1))
-place_turned (Snapshotting p own) m r point serving_ n x slot done apart h = (h.0, (open_on m r point serving_ n x.namespace h.0 apart h.1.0, h.1.1))
-place_turned (Switching p served) m r point serving_ n x slot done apart h = (h.0, (open_on m r point serving_ n x.namespace h.0 apart h.1.0, h.1.1))
 place_turned (Restoring p served) m r point serving_ n x slot done apart h = h
 place_turned (Releasing p served) m r point serving_ n x slot done apart h = h
 place_turned (Restored p served) m r point serving_ n x slot done apart h = h
+place_turned _ m r point serving_ n x slot done apart h = (h.0, (open_on m r point serving_ n x.namespace h.0 apart h.1.0, h.1.1))
 
 fence_turned : (ps : Parts) (activity : List Interval) (changes : List Change) (n : ℕ) (r : RestorationRecord) (point : ℕ) (serving_ : Id) (slot : ℕ) (operation : Id) → IsSwitch ps activity changes n r point serving_
     → IsFence ps.master slot (ps.tablet slot).table (ps.tablet slot).done operation → IsFence (turned ps.master r point serving_ n) slot (ps.tablet slot).table (ps.tablet slot).done operation
-fence_turned ps activity changes n r point serving_ slot operation s (inr h) = inr (record { clone = h.clone; kept = h.kept; id_is = h.id_is; owned = h.owned; place = h.place })
+fence_turned ps activity changes n r point serving_ slot operation s (inr h) = inr h
 fence_turned ps activity changes n r point serving_ slot operation s (inl h) =
     let m = ps.master in
     let L = listed_then m r point serving_ in
@@ -89,7 +61,7 @@ fence_turned ps activity changes n r point serving_ slot operation s (inl h) =
       id_is = h.id_is;
       owned = h.owned;
       place = place_turned x.state m r point serving_ n x slot (ps.tablet slot).done
-          (λ e. other_namespace ps activity changes n r point serving_ x s h.kept b (place_open x.state x m slot (ps.tablet slot).done h.place) e) h.place;
+          (λ e. other_namespace ps activity changes n r point serving_ x s h.kept b (place_left x.state x m slot (ps.tablet slot).done h.place) e) h.place;
     }))
 
 -- Clocks
@@ -101,16 +73,12 @@ after_turned ps activity changes n r point serving_ clock operation kind s h =
     let L = listed_then m r point serving_ in
     let f = entering r (Restoring point serving_) L in
     let one = s.inv.operations.apart.restoration_ids in
-    record {
-      snapshot = h.snapshot;
-      restoration = λ q there. in_mapped {A = RestorationRecord} {B = RestorationRecord} f (λ q. q.id ≡ operation → q.to < clock) m.restorations
-          (λ x isin. by_record (λ x q. q.id ≡ operation → q.to < clock) m r (Restoring point serving_) L x one s.there isin (λ e. h.restoration r s.there e) (λ b e. h.restoration x isin e)) q there;
-      point = λ q at there. in_mapped {A = RestorationRecord} {B = RestorationRecord} f (λ q. q.id ≡ operation → point_of q.state ≡ Some at → is_after_switch kind ≡ true → at < clock) m.restorations
+    let restoration : (r' : RestorationRecord) → In r' ((map (entering r (Restoring point serving_) (listed_then ps.master r point serving_)) ps.master.restorations)) → r'.id ≡ operation → r'.to < clock = λ q there. in_mapped {A = RestorationRecord} {B = RestorationRecord} f (λ q. q.id ≡ operation → q.to < clock) m.restorations
+          (λ x isin. by_record (λ x q. q.id ≡ operation → q.to < clock) m r (Restoring point serving_) L x one s.there isin (λ e. h.restoration r s.there e) (λ b e. h.restoration x isin e)) q there in
+    let point_now : (r' : RestorationRecord) (at : ℕ) → In r' ((map (entering r (Restoring point serving_) (listed_then ps.master r point serving_)) ps.master.restorations)) → r'.id ≡ operation → point_of r'.state ≡ Some at → is_after_switch kind ≡ true → at < clock = λ q at there. in_mapped {A = RestorationRecord} {B = RestorationRecord} f (λ q. q.id ≡ operation → point_of q.state ≡ Some at → is_after_switch kind ≡ true → at < clock) m.restorations
           (λ x isin. by_record (λ x q. q.id ≡ operation → point_of q.state ≡ Some at → is_after_switch kind ≡ true → at < clock) m r (Restoring point serving_) L x one s.there isin
-          (λ e p k. h.point r at s.there e (ap point_of s.is ∙ p) k) (λ b e p k. h.point x at isin e p k)) q there;
-      copied = h.copied;
-      released = h.released;
-    }
+          (λ e p k. h.point r at s.there e (ap point_of s.is ∙ p) k) (λ b e p k. h.point x at isin e p k)) q there in
+    assumption (restoration, point_now)
 
 mark_turned : (ps : Parts) (activity : List Interval) (changes : List Change) (n : ℕ) (r : RestorationRecord) (point : ℕ) (serving_ : Id) (clock : ℕ) (mark : Mark) → IsSwitch ps activity changes n r point serving_ → IsMark ps.master clock mark
     → IsMark (turned ps.master r point serving_ n) clock mark
@@ -118,15 +86,11 @@ mark_turned ps activity changes n r point serving_ clock mark s h =
     let m = ps.master in
     let L = listed_then m r point serving_ in
     let f = entering r (Restoring point serving_) L in
-    record {
-      drawn = h.drawn;
-      after = after_turned ps activity changes n r point serving_ clock mark.operation mark.kind s h.after;
-      by_snapshot = h.by_snapshot;
-      by_restoration = λ q there. in_mapped {A = RestorationRecord} {B = RestorationRecord} f (λ q. q.id ≡ mark.operation → restoring_stage mark.kind ≤ stage_of_restoration q.state) m.restorations
+    let after_now : IsAfterIn (operations (turned ps.master r point serving_ n)) clock mark.operation mark.kind = after_turned ps activity changes n r point serving_ clock mark.operation mark.kind s h.after in
+    let by_restoration : (r' : RestorationRecord) → In r' ((map (entering r (Restoring point serving_) (listed_then ps.master r point serving_)) ps.master.restorations)) → r'.id ≡ mark.operation → restoring_stage mark.kind ≤ stage_of_restoration r'.state = λ q there. in_mapped {A = RestorationRecord} {B = RestorationRecord} f (λ q. q.id ≡ mark.operation → restoring_stage mark.kind ≤ stage_of_restoration q.state) m.restorations
           (λ x isin. by_record (λ x q. q.id ≡ mark.operation → restoring_stage mark.kind ≤ stage_of_restoration q.state) m r (Restoring point serving_) L x s.inv.operations.apart.restoration_ids s.there isin
-          (λ e. (let l = h.by_restoration r s.there e in let k : stage_of_restoration r.state ≡ 1 = ap stage_of_restoration s.is in omega arith)) (λ b e. h.by_restoration x isin e)) q there;
-      by_clone = h.by_clone;
-    }
+          (λ e. (let l = h.by_restoration r s.there e in let k : stage_of_restoration r.state ≡ 1 = ap stage_of_restoration s.is in omega arith)) (λ b e. h.by_restoration x isin e)) q there in
+    assumption (after_now, by_restoration)
 
 orders_turned : (ps : Parts) (activity : List Interval) (changes : List Change) (n : ℕ) (r : RestorationRecord) (point : ℕ) (serving_ : Id) (slot : ℕ) → IsSwitch ps activity changes n r point serving_ → OrdersGood (turned ps.master r point serving_ n) slot (ps.tablet slot)
 orders_turned ps activity changes n r point serving_ slot s =
@@ -148,20 +112,13 @@ orders_turned ps activity changes n r point serving_ slot s =
           absurd (subst (In l) none (subst (λ x. In l x.listed) e u.0)))
           (λ b. found_still m.restorations r (Restoring point serving_) L id q (λ x isin is. ap (λ k. is_restored k.state) (one x r isin s.there is) ∙ unfinished_yet ps activity changes n r point serving_ s) found b));
     } in
-    record {
-      fences = λ operation is. fence_turned ps activity changes n r point serving_ slot operation s (h.fences operation is);
-      orders = λ c isin. (let g = h.orders c isin in record {
-        is_pending = pending_turned c.operation.kind m r point serving_ n c.operation slot ∙ pending_stays m w c.operation slot _ finds g.is_pending;
+    let fences : (operation : Id) → (ps.tablet slot).fence ≡ Some operation → IsFenceIn (directory (turned ps.master r point serving_ n)) slot (ps.tablet slot).table (ps.tablet slot).done operation = λ operation is. fence_turned ps activity changes n r point serving_ slot operation s (h.fences operation is) in
+    let orders : (c : Command) → In c (ps.tablet slot).inbox → IsOrderIn (operations (turned ps.master r point serving_ n)) slot (ps.tablet slot).clock c = λ c isin. (let g = h.orders c isin in record {
+        is_pending = pending_stays m w c.operation slot _ finds g.is_pending;
         after = after_turned ps activity changes n r point serving_ t.clock c.operation (kind_of c.body) s g.after;
-      });
-      once = h.once;
-      fresh = h.fresh;
-      marks = λ mark isin. mark_turned ps activity changes n r point serving_ t.clock mark s (h.marks mark isin);
-      holds = h.holds;
-      frozen = h.frozen;
-      sets = h.sets;
-      bare = h.bare;
-    }
+      }) in
+    let marks : (mark : Mark) → In mark (ps.tablet slot).done → IsMarkIn ps.master.drawn (operations (turned ps.master r point serving_ n)) (ps.tablet slot).clock mark = λ mark isin. mark_turned ps activity changes n r point serving_ t.clock mark s (h.marks mark isin) in
+    assumption (fences, orders, marks)
 
 -- What tablets did
 
@@ -173,20 +130,13 @@ slot_state (Switching p served) ps activity changes n r point serving_ x slot t 
   fenced = λ i opened at. h.fenced i (open_was ps.master r point serving_ n x.namespace i (apart refl) opened) at;
   past = λ i opened at. h.past i (open_was ps.master r point serving_ n x.namespace i (apart refl) opened) at;
 }
-slot_state (Restoring p served) ps activity changes n r point serving_ x slot t apart good h = λ l isin at. (
-    let k = h l isin at in
+slot_state (Restoring p served) ps activity changes n r point serving_ x slot t apart good h = λ l isin at. (let k = h l isin at in
     let before : before_restore (after r point changes) x.namespace p (after r point changes) ≡ before_restore changes x.namespace p changes =
     before_other r point changes x.namespace p (other_restore r point x.namespace p (apart refl)) ∙ before_any changes x.namespace p (after r point changes) changes good.switched in
-    record {
-      acked = k.acked;
-      fenced = k.fenced;
-      restored = λ is did. (let z = k.restored is did in record {
-        serves = z.serves;
-        cutoff_is = z.cutoff_is;
-        rows = subst (λ then_. AreRowsAt t.versions t.low t.high p then_ x.to t.table) (sym before) z.rows;
-      });
-      hidden = k.hidden;
-    })
+    let restored : is_restore l.body ≡ true → is_done t.done x.id RestoreFromKind ≡ true → IsRestored (after r point changes) x p t = λ is did. (let z = k.restored is did in
+    let rows : AreRowsAt t.versions t.low t.high p (before_restore (after r point changes) x.namespace p (after r point changes)) x.to t.table = subst (λ then_. AreRowsAt t.versions t.low t.high p then_ x.to t.table) (sym before) z.rows in
+    assumption rows) in
+    assumption restored)
 slot_state (Releasing p served) ps activity changes n r point serving_ x slot t apart good h = h
 slot_state (Restored p served) ps activity changes n r point serving_ x slot t apart good h = tt
 
@@ -209,12 +159,12 @@ back_fenced ps activity changes n r point serving_ slot i s isin at owner serves
           | inl h ↦ (
               let q : Some h.restoration.namespace ≡ Some r.namespace = sym h.owned ∙ mine in
               let same_ : h.restoration.namespace ≡ r.namespace = cc in
-              let one : h.restoration ≡ r = s.inv.operations.apart.one_restoration h.restoration r h.kept s.there (place_open h.restoration.state h.restoration ps.master slot (ps.tablet slot).done h.place) (unfinished_yet ps activity changes n r point serving_ s) same_ in
+              let one : h.restoration ≡ r = s.inv.operations.apart.one_restoration h.restoration r h.kept s.there (place_left h.restoration.state h.restoration ps.master slot (ps.tablet slot).done h.place) (unfinished_yet ps activity changes n r point serving_ s) same_ in
               e ∙ ap Some (sym h.id_is ∙ ap (λ y. y.id) one))
           | inr h ↦ absurd (
               let q : Some h.clone.target_id ≡ Some r.namespace = sym h.owned ∙ mine in
               let same_ : h.clone.target_id ≡ r.namespace = cc in
-              s.inv.operations.apart.one_operation r h.clone s.there h.kept (unfinished_yet ps activity changes n r point serving_ s) (clone_open h.clone.state h.clone slot (ps.tablet slot).done h.place) (inr same_))
+              s.inv.operations.apart.one_operation r h.clone s.there h.kept (unfinished_yet ps activity changes n r point serving_ s) (clone_left h.clone.state h.clone slot (ps.tablet slot).done h.place) (inr same_))
         ]
 
 back_slot : (ps : Parts) (activity : List Interval) (changes : List Change) (n : ℕ) (r : RestorationRecord) (point : ℕ) (serving_ : Id) (slot : ℕ) → IsSwitch ps activity changes n r point serving_
@@ -233,30 +183,19 @@ clone_slot : (state : CloneState) (ps : Parts) (activity : List Interval) (chang
     → (is_cloned state ≡ false → Uses c r.namespace → ⊥) → CloneSlot state ps.master changes c slot t → CloneSlot state (turned ps.master r point serving_ n) (after r point changes) c slot t
 clone_slot Accepted ps activity changes n r point serving_ c slot t s isin unused h = h
 clone_slot (CloneSnapshot own) ps activity changes n r point serving_ c slot t s isin unused h = h
-clone_slot (Copying served at) ps activity changes n r point serving_ c slot t s isin unused h = record {
-  acked = h.acked;
-  empty = h.empty;
-  copied = λ p paired is did. (let k = h.copied p paired is did in record {
-    serves = k.serves;
-    fenced = k.fenced;
-    tablet_is = k.tablet_is;
-    table_is = k.table_is;
-    low_is = k.low_is;
-    high_is = k.high_is;
-    cutoff = k.cutoff;
-    rows = λ d listed e. (let z = k.rows d listed e in
+clone_slot (Copying served at) ps activity changes n r point serving_ c slot t s isin unused h =
+    let copied : (p : TabletPair) → In p c.tablets → p.slot ≡ slot → is_done t.done c.id CopyKind ≡ true → IsCopy (after r point changes) c at p t = λ p paired is did. (let k = h.copied p paired is did in
+    let rows_now : (d : IdPair) → In d c.tables → d.target ≡ p.table → AreRowsAt t.versions p.low p.high at (after r point changes) c.to d.source = λ d listed e. (let z = k.rows d listed e in
         let other = not_mine ps.master r.namespace c.source d.source ((s.inv.operations.clones c isin).owned d listed) (λ e. unused refl (inl e)) in
-        record { stamps = z.stamps; upserts = z.upserts; rows = λ key ranged. z.rows key ranged ∙ sym (row_other ps.master.catalog.owners changes r.namespace d.source point r.to c.to key s.inv.master.tables.inside other); inside = z.inside });
-  });
-  later = h.later;
-}
+        record { stamps = z.stamps; upserts = z.upserts; rows = λ key ranged. z.rows key ranged ∙ sym (row_other ps.master.catalog.owners changes r.namespace d.source point r.to c.to key s.inv.master.tables.inside other); inside = z.inside }) in
+    assumption rows_now) in
+    assumption copied
 clone_slot (CloneReleasing served at) ps activity changes n r point serving_ c slot t s isin unused h = h
 clone_slot (CloneComplete served at) ps activity changes n r point serving_ c slot t s isin unused h = tt
 
 home_turned : (m : Master) (r : RestorationRecord) (point : ℕ) (serving_ : Id) (n slot : ℕ) (tablet : Id) → IsHome m slot tablet ⊎ IsTarget m slot tablet → IsHome (turned m r point serving_ n) slot tablet ⊎ IsTarget (turned m r point serving_ n) slot tablet
 home_turned m r point serving_ n slot tablet (inl h) = inl (record { interval = ended_in m.catalog.owners r.namespace point h.interval; kept = ended_there m r point h.interval h.kept; slot_is = h.slot_is; tablet_is = h.tablet_is })
-home_turned m r point serving_ n slot tablet (inr h) =
-    inr (record { clone = h.clone; kept = h.kept; serving = h.serving; at = h.at; state_is = h.state_is; pair = h.pair; paired = h.paired; slot_is = h.slot_is; tablet_is = h.tablet_is })
+home_turned m r point serving_ n slot tablet (inr h) = inr h
 
 pub works_turned : (ps : Parts) (activity : List Interval) (changes : List Change) (n : ℕ) (r : RestorationRecord) (point : ℕ) (serving_ : Id) (slot : ℕ) → IsSwitch ps activity changes n r point serving_
     → SlotWorks (turned ps.master r point serving_ n) (after r point changes) slot (ps.tablet slot)

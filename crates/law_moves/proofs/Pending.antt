@@ -63,10 +63,7 @@ drawn_by Restoration m changes operation slot l ops e = found_then (unfinished_r
 drawn_by Clone m changes operation slot l ops e = found_then (unfinished_clone m.clones operation) (λ r. unacked_at r.listed slot) l e
     (λ r found is. let h = unfinished_clone_is m.clones operation r found in let g = ops.clones r h.0 in
     subst (λ i. i.number ≤ drawn_of i.kind m.drawn) h.1.0 (subst (λ k. r.id.number ≤ drawn_of k m.drawn) (sym g.kind_is) g.drawn))
-drawn_by Namespace m changes operation slot l ops e = absurd (let q = e in grind arith)
-drawn_by Table m changes operation slot l ops e = absurd (let q = e in grind arith)
-drawn_by TabletKind m changes operation slot l ops e = absurd (let q = e in grind arith)
-drawn_by ScheduleKind m changes operation slot l ops e = absurd (let q = e in grind arith)
+drawn_by _ m changes operation slot l ops e = absurd (let q = e in grind arith)
 
 pub pending_drawn : (m : Master) (changes : List Change) (operation : Id) (slot : ℕ) (l : Listed) → OperationsGood m changes → pending m operation slot ≡ Some l → operation.number ≤ drawn_of operation.kind m.drawn
 pending_drawn m changes operation slot l ops e = drawn_by operation.kind m changes operation slot l ops e
@@ -79,12 +76,7 @@ restoration_acked Restoration m changes operation slot l r ops is e isin named a
     let one : r ≡ q = ops.apart.restoration_ids r q isin h.0 (named ∙ sym h.1.0) in
     let u = unacked_is q.listed slot l at in
     true≢false (sym (acked l (subst (λ x. In l x.listed) (sym one) u.0)) ∙ u.1))
-restoration_acked Snapshot m changes operation slot l r ops is e isin named acked = let q = is in grind arith
-restoration_acked Clone m changes operation slot l r ops is e isin named acked = let q = is in grind arith
-restoration_acked Namespace m changes operation slot l r ops is e isin named acked = let q = is in grind arith
-restoration_acked Table m changes operation slot l r ops is e isin named acked = let q = is in grind arith
-restoration_acked TabletKind m changes operation slot l r ops is e isin named acked = let q = is in grind arith
-restoration_acked ScheduleKind m changes operation slot l r ops is e isin named acked = let q = is in grind arith
+restoration_acked _ m changes operation slot l r ops is e isin named acked = let q = is in grind arith
 
 pub pending_unmoved : (m : Master) (changes : List Change) (operation : Id) (slot : ℕ) (l : Listed) (r : RestorationRecord) → OperationsGood m changes → pending m operation slot ≡ Some l → (v : MovedRestoration m changes r) → v.was.id ≡ operation → ⊥
 pending_unmoved m changes operation slot l r ops e v is =
@@ -101,11 +93,7 @@ pending_by Snapshot m w operation slot l f e = found_then (unfinished_snapshot m
     (λ r found at. ap (option_and_then {T = SnapshotRecord} (λ q. unacked_at q.listed slot)) (f.snapshot operation slot l r found at) ∙ at)
 pending_by Restoration m w operation slot l f e = found_then (unfinished_restoration m.restorations operation) (λ r. unacked_at r.listed slot) l e
     (λ r found at. ap (option_and_then {T = RestorationRecord} (λ q. unacked_at q.listed slot)) (f.restoration operation slot l r found at) ∙ at)
-pending_by Clone m w operation slot l f e = e
-pending_by Namespace m w operation slot l f e = e
-pending_by Table m w operation slot l f e = e
-pending_by TabletKind m w operation slot l f e = e
-pending_by ScheduleKind m w operation slot l f e = e
+pending_by _ m w operation slot l f e = e
 
 pub pending_stays : (m : Master) (w : Records) (operation : Id) (slot : ℕ) (l : Listed) → FindsOn m w → pending m operation slot ≡ Some l → pending (recorded m w) operation slot ≡ Some l
 pending_stays m w operation slot l f e = pending_by operation.kind m w operation slot l f e
@@ -121,12 +109,10 @@ restoration_added (q ∷ rs) s id r e = either_way (same q.id id && not (is_rest
 -- Fences stay where their restorations do
 
 place_on : (state : RestorationState) (m : Master) (w : Records) (r : RestorationRecord) (slot : ℕ) (done : List Mark) → FencePlace state r m slot done → FencePlace state r (recorded m w) slot done
-place_on Fencing m w r slot done h = (h.0, (record { kept = h.1.0.kept; opened = h.1.0.opened; owned = h.1.0.owned }, h.1.1))
-place_on (Snapshotting point own) m w r slot done h = (h.0, (record { kept = h.1.0.kept; opened = h.1.0.opened; owned = h.1.0.owned }, h.1.1))
-place_on (Switching point serving) m w r slot done h = (h.0, (record { kept = h.1.0.kept; opened = h.1.0.opened; owned = h.1.0.owned }, h.1.1))
 place_on (Restoring point serving) m w r slot done h = h
 place_on (Releasing point serving) m w r slot done h = h
 place_on (Restored point serving) m w r slot done h = h
+place_on _ m w r slot done h = (h.0, (record { kept = h.1.0.kept; opened = h.1.0.opened; owned = h.1.0.owned }, h.1.1))
 
 -- a restoration stays, or another under its id has taken over its fences
 abbrev pub HoldsOn : Master → Records → ℕ → List Mark → Type 0

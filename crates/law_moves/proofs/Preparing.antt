@@ -60,11 +60,7 @@ before_now ps activity changes ns point later inv = let m = ps.master in record 
 -- the point of a finished restoration is over
 finished_point : (state : RestorationState) (m : Master) (changes : List Change) (r : RestorationRecord) (point : ℕ) → is_restored state ≡ true → point_of state ≡ Some point → RestorationStateGood state m changes r → point ≤ m.clock
 finished_point (Restored at serving_) m changes r point e p h = let is : at ≡ point = cc in let l = h.begun in omega arith
-finished_point Fencing m changes r point e p h = absurd (true≢false (sym e))
-finished_point (Snapshotting at own) m changes r point e p h = absurd (true≢false (sym e))
-finished_point (Switching at serving_) m changes r point e p h = absurd (true≢false (sym e))
-finished_point (Restoring at serving_) m changes r point e p h = absurd (true≢false (sym e))
-finished_point (Releasing at serving_) m changes r point e p h = absurd (true≢false (sym e))
+finished_point _ m changes r point e p h = absurd (true≢false (sym e))
 
 -- all is fenced: the restoration makes its own snapshot
 pub snapshots_own : (ps : Parts) (activity : List Interval) (changes : List Change) (n : ℕ) (r : RestorationRecord) → ps.master.clock < n → In r ps.master.restorations → r.state ≡ Fencing → ((l : Listed) → In l r.listed → l.acked ≡ true)

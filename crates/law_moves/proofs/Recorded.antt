@@ -1,5 +1,6 @@
 -- The records of operations after the switch.
-use Rattle.std.proofs.Common.{ℕ, ◌≡◌, ◌≤◌, ◌<◌, ◌+◌, List, map, Option, Some, None, Bool, true, false, cond, inl, inr, refl, sym, ap, subst, ◌∙◌, arith, not, leb, leb-true, le-leb, le_trans, le_refl, le_of_lt, lt_of_lt_of_le}
+use Rattle.model.specs.Right.{is_fixed}
+use Rattle.std.proofs.Common.{ℕ, ◌≡◌, ◌≤◌, ◌<◌, ◌+◌, List, map, Option, Some, None, Bool, true, false, cond, inl, inr, refl, sym, ap, subst, ◌∙◌, arith, not, leb, leb-true, le-leb, le_trans, le_refl, le_of_lt, lt_of_lt_of_le, ◌⊎◌}
 use Rattle.std.proofs.lemmas.Bool.{true≢false}
 use Rattle.std.proofs.lemmas.Bool.Decides.{nat_tests}
 use Rattle.row_values.specs.Ids.{Id, same}
@@ -10,11 +11,11 @@ use Rattle.model.specs.Catalog.{TableRecord, owner_of, owns}
 use Rattle.model.specs.Restored.{begun_at, restored_tables, version_of}
 use Rattle.model.specs.Journal.{Change}
 use Rattle.model.specs.Tablets.{RestoreFrom, Hide}
-use Rattle.model.specs.Records.{Listed, SnapshotRecord, RestorationRecord, RestorationState, Fencing, Snapshotting, Switching, Restoring, Releasing, Restored, CloneRecord, CloneState, Accepted, CloneSnapshot, Copying, CloneReleasing, CloneComplete, is_restored, is_cloned, is_visible}
+use Rattle.model.specs.Records.{Listed, SnapshotRecord, RestorationRecord, RestorationState, Fencing, Snapshotting, Switching, Restoring, Releasing, Restored, CloneRecord, CloneState, Accepted, CloneSnapshot, Copying, CloneReleasing, CloneComplete, is_restored, is_cloned, is_visible, TabletPair}
 use Rattle.model.specs.Cleanup.{floor_of}
 use Rattle.model.specs.Parts.{Master, Parts}
 use Rattle.law_store.proofs.Keys.{either_way}
-use Rattle.law_invariants.specs.Operations.{Uses, IsKnown, IsListed, SnapshotGood, IsServing, IsPoint, BeforePoint, IsAfterSwitch, IsComing, RestorationStateGood, RestorationGood, CloneStateGood, CloneGood, OperationsGood}
+use Rattle.law_invariants.specs.Operations.{Uses, IsKnown, IsListed, SnapshotGood, IsServing, IsPoint, BeforePoint, IsAfterSwitch, IsComing, RestorationStateGood, RestorationGood, CloneStateGood, CloneGood, OperationsGood, PairIn, IsSource, IsReserved}
 use Rattle.law_invariants.proofs.Finding.{in_mapped, map_in, filter_in, same_equal, both_pass, passes_both}
 use Rattle.law_invariants.proofs.Ticking.{not_true}
 use Rattle.law_moves.proofs.Staying.{schedule_on, scheduled_on}
@@ -23,8 +24,9 @@ use Rattle.law_moves.proofs.Listing.{one_place}
 use Rattle.law_moves.proofs.Entering.{entering, entering_other, enters, by_record, going_floors, entered_apart}
 use Rattle.law_moves.proofs.Counting.{ended_in}
 use Rattle.law_moves.proofs.Backing.{over_other, new_is}
-use Rattle.law_moves.proofs.Switching.{IsSwitch, listed_then, turned, after, back, unfinished_yet, good_yet, other_namespace, not_mine, is_mine, interval_is, ended_there, begun_there, ended_mine, origin, other_was, other_stays, open_was, open_on, IsLine, line_is, line_restores, line_then, line_of_then}
+use Rattle.law_moves.proofs.Switching.{IsSwitch, listed_then, turned, after, back, unfinished_yet, good_yet, other_namespace, not_mine, is_mine, interval_is, ended_there, begun_there, ended_mine, origin, other_was, other_stays, open_was, open_on, IsLine, line_is, line_restores, line_then, line_of_then, activity_then}
 use Rattle.law_moves.proofs.Turned.{fixed_is, switched_on, switched_now}
+use Rattle.law_invariants.proofs.Operating.{visible_later}
 
 -- a known tablet stays known
 known_turned : (m : Master) (r : RestorationRecord) (point : ℕ) (serving_ : Id) (n : ℕ) (l : Listed) → IsKnown m l → IsKnown (turned m r point serving_ n) l
@@ -43,20 +45,13 @@ snapshot_turned ps activity changes n r point serving_ q s isin floors =
     let m = ps.master in
     let h = s.inv.operations.snapshots q isin in
     let good = good_yet ps activity changes n r point serving_ s in
-    record {
-      kind_is = h.kind_is;
-      drawn = h.drawn;
-      drawn_namespace = h.drawn_namespace;
-      rises = h.rises;
-      past = le_trans h.past (le_of_lt s.before);
-      bodies = h.bodies;
-      drawn_listed = h.drawn_listed;
-      listed_of = λ l j lists there e. (
+    let past : q.at ≤ n = le_trans h.past (le_of_lt s.before) in
+    let listed_of : (l : Listed) (i : Interval) → In l q.listed → In i (activity_then ps.master r point) → i.tablet ≡ l.tablet → (owner_of ps.master.catalog.owners i.table ≡ Some q.namespace) × (i.slot ≡ l.slot) = λ l j lists there e. (
           let o = origin m r point j there in
           let k = h.listed_of l o.was lists o.kept (o.tablet_is ∙ e) in
-          (ap (owner_of m.catalog.owners) (sym o.table_is) ∙ k.0, sym o.slot_is ∙ k.1));
-      known = λ unfinished l lists. known_turned m r point serving_ n l (h.known unfinished l lists);
-      lists = λ j there owner within. interval_is (λ j. owner_of m.catalog.owners j.table ≡ Some q.namespace → active_within q.after q.at j ≡ true → IsListed q.listed j) m r point
+          (ap (owner_of m.catalog.owners) (sym o.table_is) ∙ k.0, sym o.slot_is ∙ k.1)) in
+    let known : q.complete ≡ false → (l : Listed) → In l q.listed → IsKnown (turned ps.master r point serving_ n) l = λ unfinished l lists. known_turned m r point serving_ n l (h.known unfinished l lists) in
+    let lists_now : (i : Interval) → In i (activity_then ps.master r point) → owner_of ps.master.catalog.owners i.table ≡ Some q.namespace → active_within q.after q.at i ≡ true → IsListed q.listed i = λ j there owner within. interval_is (λ j. owner_of m.catalog.owners j.table ≡ Some q.namespace → active_within q.after q.at j ≡ true → IsListed q.listed j) m r point
           (λ i i_in owner within. (
           let b = both_pass (leb i.from q.at) (before_end (q.after + 1) (ended_in m.catalog.owners r.namespace point i).to) within in
           let k = h.lists i i_in owner (passes_both (leb i.from q.at) (before_end (q.after + 1) i.to) b.0 (ended_weaker (owns m.catalog.owners r.namespace i.table) (q.after + 1) point i.to b.1)) in
@@ -64,23 +59,16 @@ snapshot_turned ps activity changes n r point serving_ q s isin floors =
           (λ i i_in mine active owner within. absurd (
           let z : Some q.namespace ≡ Some r.namespace = sym owner ∙ mine in
           let l : q.at < point = good.is_point.snapshots q isin (let e : q.namespace ≡ r.namespace = cc in e) in
-          let f = leb-true point q.at (both_pass (leb point q.at) true within).0 in omega arith)) j there owner within;
-      reached = elim h.reached [ inl l ↦ inl (lt_of_lt_of_le l floors) | inr k ↦ inr k ];
-      scheduled = h.scheduled;
-    }
+          let f = leb-true point q.at (both_pass (leb point q.at) true within).0 in omega arith)) j there owner within in
+    let reached : (q.after < floor_of (turned ps.master r point serving_ n) q.namespace n) ⊎ ((q' : SnapshotRecord) × (In q' ps.master.snapshots × ((q'.namespace ≡ q.namespace) × ((q'.at ≡ q.after) × (q'.complete ≡ true))))) = elim h.reached [ inl l ↦ inl (lt_of_lt_of_le l floors) | inr k ↦ inr k ] in
+    assumption (past, listed_of, known, lists_now, reached)
 
 -- Restorations
 
-serving_turned : (m : Master) (r : RestorationRecord) (point : ℕ) (serving_ : Id) (n : ℕ) (snapshot ns : Id) (to : ℕ) → IsServing m snapshot ns to → IsServing (turned m r point serving_ n) snapshot ns to
-serving_turned m r point serving_ n snapshot ns to h = record { serving = h.serving; kept = h.kept; id_is = h.id_is; complete = h.complete; namespace_is = h.namespace_is; after = h.after; reaches = h.reaches }
-
 point_turned : (m : Master) (changes : List Change) (r : RestorationRecord) (point : ℕ) (serving_ : Id) (n : ℕ) (x : RestorationRecord) (p : ℕ) → (x.namespace ≡ r.namespace → ⊥) → IsPoint m changes x p → IsPoint (turned m r point serving_ n) (after r point changes) x p
-point_turned m changes r point serving_ n x p apart h = record {
-  later = h.later;
-  fixed = λ to fixed. elim (fixed_is r point changes x.namespace to fixed) [ inl k ↦ absurd (apart k.0) | inr old ↦ h.fixed to old ];
-  snapshots = h.snapshots;
-  complete = h.complete;
-}
+point_turned m changes r point serving_ n x p apart h =
+    let fixed_now : (to : ℕ) → is_fixed (after r point changes) x.namespace to ≡ true → to < p = λ to fixed. elim (fixed_is r point changes x.namespace to fixed) [ inl k ↦ absurd (apart k.0) | inr old ↦ h.fixed to old ] in
+    assumption fixed_now
 
 table_was : (m : Master) (r : RestorationRecord) (point : ℕ) (ns : Id) (t : TableRecord) → (ns ≡ r.namespace → ⊥) → In t (restored_tables m.catalog.tables r.namespace r.to point) → t.namespace ≡ ns → In t m.catalog.tables
 table_was m r point ns t apart isin = new_is (λ t. t.namespace ≡ ns → In t m.catalog.tables) m.catalog.tables r.namespace r.to point
@@ -119,7 +107,7 @@ state_turned (Switching p served) ps activity changes n r point serving_ x s isi
   empty = h.empty;
   begun = le_trans h.begun (le_of_lt s.before);
   before = before_turned m r point serving_ n x.namespace p (apart refl) h.before;
-  serves = serving_turned m r point serving_ n served x.namespace x.to h.serves;
+  serves = h.serves;
   calm = h.calm;
 }
 state_turned (Restoring p served) ps activity changes n r point serving_ x s isin apart h =
@@ -128,7 +116,7 @@ state_turned (Restoring p served) ps activity changes n r point serving_ x s isi
     record {
       is_point = point_turned m changes r point serving_ n x p (apart refl) h.is_point;
       begun = le_trans h.begun (le_of_lt s.before);
-      serves = serving_turned m r point serving_ n served x.namespace x.to h.serves;
+      serves = h.serves;
       calm = h.calm;
       switched = switched_on r point changes x.namespace p h.switched;
       bodies = h.bodies;
@@ -171,15 +159,12 @@ state_turned (Restored p served) ps activity changes n r point serving_ x s isin
 
 restoration_turned : (ps : Parts) (activity : List Interval) (changes : List Change) (n : ℕ) (r : RestorationRecord) (point : ℕ) (serving_ : Id) (x : RestorationRecord) → IsSwitch ps activity changes n r point serving_ → In x ps.master.restorations → same x.id r.id ≡ false
     → RestorationGood (turned ps.master r point serving_ n) (after r point changes) x
-restoration_turned ps activity changes n r point serving_ x s isin other = let h = s.inv.operations.restorations x isin in record {
-  kind_is = h.kind_is;
-  drawn = h.drawn;
-  drawn_namespace = h.drawn_namespace;
-  past = lt_of_lt_of_le h.past (le_of_lt s.before);
-  scheduled = h.scheduled;
-  known = λ unfinished l lists. known_turned ps.master r point serving_ n l (h.known unfinished l lists);
-  in_state = state_turned x.state ps activity changes n r point serving_ x s isin (λ open_ e. other_namespace ps activity changes n r point serving_ x s isin other open_ e) h.in_state;
-}
+restoration_turned ps activity changes n r point serving_ x s isin other =
+    let h = s.inv.operations.restorations x isin in
+    let past : x.to < n = lt_of_lt_of_le h.past (le_of_lt s.before) in
+    let known : is_restored x.state ≡ false → (l : Listed) → In l x.listed → IsKnown (turned ps.master r point serving_ n) l = λ unfinished l lists. known_turned ps.master r point serving_ n l (h.known unfinished l lists) in
+    let in_state : RestorationStateGood x.state (turned ps.master r point serving_ n) (after r point changes) x = state_turned x.state ps activity changes n r point serving_ x s isin (λ open_ e. other_namespace ps activity changes n r point serving_ x s isin other open_ e) h.in_state in
+    assumption (past, known, in_state)
 
 -- The restoration that has switched
 
@@ -222,7 +207,7 @@ back_good ps activity changes n r point serving_ s =
           complete = g.is_point.complete;
         };
         begun = le_trans g.begun (le_of_lt s.before);
-        serves = serving_turned m r point serving_ n serving_ r.namespace r.to g.serves;
+        serves = g.serves;
         calm = g.calm;
         switched = switched_now r point changes;
         bodies = λ l isin. (let k = line l isin in subst (λ z. IsAfterSwitch (back m r point serving_) point serving_ z.body) k.is (body_by (active_at r.to k.interval) (back m r point serving_) serving_ point (version_of (restored_tables m.catalog.tables r.namespace r.to point) k.interval.table)));
@@ -268,17 +253,10 @@ back_good ps activity changes n r point serving_ s =
 
 -- Clones
 
-visible_later : (state : CloneState) → is_visible state ≡ false → is_cloned state ≡ false
-visible_later Accepted e = refl
-visible_later (CloneSnapshot own) e = refl
-visible_later (Copying served at) e = refl
-visible_later (CloneReleasing served at) e = refl
-visible_later (CloneComplete served at) e = e
-
 clone_state_turned : (state : CloneState) (m : Master) (r : RestorationRecord) (point : ℕ) (serving_ : Id) (n : ℕ) (c : CloneRecord) → m.clock ≤ n → (is_cloned state ≡ false → c.target_id ≡ r.namespace → ⊥) → CloneStateGood state m c → CloneStateGood state (turned m r point serving_ n) c
 clone_state_turned Accepted m r point serving_ n c le apart h = h
-clone_state_turned (CloneSnapshot own) m r point serving_ n c le apart h = record { empty = h.empty; snapshot = h.snapshot; kept = h.kept; id_is = h.id_is; namespace_is = h.namespace_is; reaches = h.reaches }
-clone_state_turned (Copying served at) m r point serving_ n c le apart h = record { begun = le_trans h.begun le; later = h.later; serves = serving_turned m r point serving_ n served c.source c.to h.serves; bodies = h.bodies; all = h.all }
+clone_state_turned (CloneSnapshot own) m r point serving_ n c le apart h = h
+clone_state_turned (Copying served at) m r point serving_ n c le apart h = record { begun = le_trans h.begun le; later = h.later; serves = h.serves; bodies = h.bodies; all = h.all }
 clone_state_turned (CloneReleasing served at) m r point serving_ n c le apart h = record {
   since = h.since;
   begun = le_trans h.begun le;
@@ -306,25 +284,9 @@ clone_turned ps activity changes n r point serving_ c s isin =
     let one = s.inv.operations.apart.restoration_ids in
     let unfinished = unfinished_yet ps activity changes n r point serving_ s in
     let unused : is_cloned c.state ≡ false → Uses c r.namespace → ⊥ = λ open_ uses. s.inv.operations.apart.one_operation r c s.there isin unfinished open_ uses in
-    record {
-      kind_is = h.kind_is;
-      drawn = h.drawn;
-      drawn_source = h.drawn_source;
-      drawn_target = h.drawn_target;
-      apart = h.apart;
-      past = lt_of_lt_of_le h.past (le_of_lt s.before);
-      pairs = λ p paired. (let g = h.pairs p paired in record { slot_from = g.slot_from; slot_to = g.slot_to; drawn = g.drawn; drawn_table = g.drawn_table; owned = g.owned });
-      drawn_listed = h.drawn_listed;
-      one_slot = h.one_slot;
-      one_target = h.one_target;
-      one_table = h.one_table;
-      tables_apart = h.tables_apart;
-      no_schedule = h.no_schedule;
-      owned = h.owned;
-      drawn_sources = h.drawn_sources;
-      covers = h.covers;
-      scheduled = h.scheduled;
-      sources = λ open_ p paired. (let k = h.sources open_ p paired in record {
+    let past : c.to < n = lt_of_lt_of_le h.past (le_of_lt s.before) in
+    let pairs : (p : TabletPair) → In p c.tablets → PairIn ps.master.slots ps.master.drawn ps.master.catalog.owners c p = λ p paired. (let g = h.pairs p paired in g) in
+    let sources : is_cloned c.state ≡ false → (p : TabletPair) → In p c.tablets → IsSource (turned ps.master r point serving_ n) c p = λ open_ p paired. (let k = h.sources open_ p paired in record {
         interval = k.interval;
         kept = other_stays m r point k.interval k.kept (not_mine m r.namespace c.source k.interval.table k.owned (λ e. unused open_ (inl e)));
         tablet_is = k.tablet_is;
@@ -337,8 +299,8 @@ clone_turned ps activity changes n r point serving_ c s isin =
         paired = k.paired;
         source_is = k.source_is;
         target_is = k.target_is;
-      });
-      reserved = λ unseen p paired. (let k = h.reserved unseen p paired in record {
+      }) in
+    let reserved : is_visible c.state ≡ false → (p : TabletPair) → In p c.tablets → IsReserved (turned ps.master r point serving_ n) p = λ unseen p paired. (let k = h.reserved unseen p paired in record {
         free = λ j there at. (let o = origin m r point j there in k.free o.was o.kept (o.slot_is ∙ at));
         unknown = λ j there e. (let o = origin m r point j there in k.unknown o.was o.kept (o.tablet_is ∙ e));
         no_snapshot = k.no_snapshot;
@@ -346,13 +308,12 @@ clone_turned ps activity changes n r point serving_ c s isin =
             (λ x x_in. by_record (λ x q. In l q.listed → l.tablet ≡ p.target → ⊥) m r (Restoring point serving_) (listed_then m r point serving_) x one s.there x_in
             (λ lists e. (let z = line_is m r point serving_ l lists in k.unknown z.interval z.kept (ap (λ y. y.tablet) z.is ∙ e)))
             (λ b lists e. k.no_restoration x l x_in lists e)) q there;
-      });
-      no_tablet = λ unseen j there owner. (let o = origin m r point j there in h.no_tablet unseen o.was o.kept (ap (owner_of m.catalog.owners) o.table_is ∙ owner));
-      no_table = λ unseen t there named. h.no_table unseen t (table_was m r point c.target_id t (λ e. unused (visible_later c.state unseen) (inr e)) there named) named;
-      no_namespace = h.no_namespace;
-      unfixed = λ open_ to fixed. elim (fixed_is r point changes c.target_id to fixed) [ inl k ↦ unused open_ (inr k.0) | inr old ↦ h.unfixed open_ to old ];
-      in_state = clone_state_turned c.state m r point serving_ n c (le_of_lt s.before) (λ open_ e. unused open_ (inr e)) h.in_state;
-    }
+      }) in
+    let no_tablet : is_visible c.state ≡ false → (i : Interval) → In i (activity_then ps.master r point) → owner_of ps.master.catalog.owners i.table ≡ Some c.target_id → ⊥ = λ unseen j there owner. (let o = origin m r point j there in h.no_tablet unseen o.was o.kept (ap (owner_of m.catalog.owners) o.table_is ∙ owner)) in
+    let no_table : is_visible c.state ≡ false → (r' : TableRecord) → In r' (restored_tables ps.master.catalog.tables r.namespace r.to point) → r'.namespace ≡ c.target_id → ⊥ = λ unseen t there named. h.no_table unseen t (table_was m r point c.target_id t (λ e. unused (visible_later c.state unseen) (inr e)) there named) named in
+    let unfixed : is_cloned c.state ≡ false → (to : ℕ) → is_fixed (after r point changes) c.target_id to ≡ true → ⊥ = λ open_ to fixed. elim (fixed_is r point changes c.target_id to fixed) [ inl k ↦ unused open_ (inr k.0) | inr old ↦ h.unfixed open_ to old ] in
+    let in_state : CloneStateGood c.state (turned ps.master r point serving_ n) c = clone_state_turned c.state m r point serving_ n c (le_of_lt s.before) (λ open_ e. unused open_ (inr e)) h.in_state in
+    assumption (past, pairs, sources, reserved, no_tablet, no_table, unfixed, in_state)
 
 -- All records
 

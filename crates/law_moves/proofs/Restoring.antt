@@ -76,13 +76,8 @@ begun s to n m = record {
 }
 
 drawn_more : (d : Drawn) (kind : Kind) → drawn_of kind d ≤ drawn_of kind (record d { restorations = d.restorations + 1 })
-drawn_more d Namespace = le_refl _
-drawn_more d Table = le_refl _
-drawn_more d TabletKind = le_refl _
-drawn_more d ScheduleKind = le_refl _
-drawn_more d Snapshot = le_refl _
 drawn_more d Restoration = omega arith
-drawn_more d Clone = le_refl _
+drawn_more d _ = le_refl _
 
 -- what may be restored: the namespace of a schedule that no operation uses, to a time in the window
 record MayRestore (m : Master) (s : Schedule) (to n : ℕ) : Type 0 where

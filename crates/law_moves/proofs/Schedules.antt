@@ -50,13 +50,8 @@ with_schedule found s n m = record {
 }
 
 drawn_more : (d : Drawn) (kind : Kind) → drawn_of kind d ≤ drawn_of kind (record d { schedules = d.schedules + 1 })
-drawn_more d Namespace = le_refl _
-drawn_more d Table = le_refl _
-drawn_more d TabletKind = le_refl _
 drawn_more d ScheduleKind = omega arith
-drawn_more d Snapshot = le_refl _
-drawn_more d Restoration = le_refl _
-drawn_more d Clone = le_refl _
+drawn_more d _ = le_refl _
 
 -- a namespace is found where it is scheduled
 scheduled_is : (ks : List ScheduledNamespace) (ns : Id) (k : ScheduledNamespace) → scheduled_in ks ns ≡ Some k → In k ks × (k.namespace ≡ ns)

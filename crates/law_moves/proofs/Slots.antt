@@ -1,4 +1,5 @@
 -- What holds of slots goes on to hold while records of operations are made, move or go.
+use Rattle.model.specs.Times.{ended_by}
 use Rattle.std.proofs.Common.{ℕ, ◌≡◌, ◌≤◌, List, [], ◌∷◌, Some, None, Bool, true, false, ◌||◌, ◌⊎◌, inl, inr, refl, sym, ap, subst, ◌∙◌, arith, le_trans}
 use Rattle.std.proofs.lemmas.Bool.{true≢false}
 use Rattle.row_values.specs.Ids.{Table, Tablet as TabletKind, Id, same}
@@ -7,12 +8,12 @@ use Rattle.model.specs.Activity.{Interval}
 use Rattle.model.specs.Journal.{Change}
 use Rattle.model.specs.Tablets.{Tablet, Presence, EmptyPart, ServingPart, HiddenPart, BodyKind, FenceKind, FreezeKind, RestoreFromKind, HideKind, CopyKind, ReleaseKind, Mark, is_empty, is_serving, is_mark, is_done, kind_of, set_of}
 use Rattle.model.specs.Records.{SnapshotRecord, RestorationRecord, RestorationState, Fencing, Snapshotting, Switching, Restoring, Releasing, Restored, CloneRecord, CloneState, Accepted, CloneSnapshot, Copying, CloneReleasing, CloneComplete}
-use Rattle.model.specs.Stands.{is_after_switch}
+use Rattle.model.specs.Stands.{is_after_switch, awaited_in, awaited_of}
 use Rattle.model.specs.Drawn.{drawn_of}
 use Rattle.model.specs.Parts.{Master, Parts}
 use Rattle.law_store.proofs.Keys.{either_way}
-use Rattle.law_invariants.specs.Orders.{IsAfter, IsMark, OrdersGood, RestorationSlot, CloneSlot, IsHome, IsTarget, ObeyedGood, restoring_stage, stage_of_restoration}
-use Rattle.law_invariants.specs.Invariant.{IsGood, SlotGood, Inv, is_awaited}
+use Rattle.law_invariants.specs.Orders.{IsAfter, IsMark, OrdersGood, RestorationSlot, CloneSlot, IsHome, IsTarget, ObeyedGood, restoring_stage, stage_of_restoration, directory}
+use Rattle.law_invariants.specs.Invariant.{IsGood, SlotGood, Inv, is_awaited, IsPast, TurnsAt, ComesFrom, StandsIn, IsGoodIn, TakesWritesIn}
 use Rattle.law_invariants.proofs.Finding.{both_pass, same_equal}
 use Rattle.law_invariants.proofs.Ticking.{past_later}
 use Rattle.law_moves.proofs.Recording.{Records, recorded, NewSnapshot, NewRestoration, MovedRestoration, Onto}
@@ -23,52 +24,38 @@ use Rattle.law_moves.proofs.Staying.{operations_on, journal_on, rows_on, remembe
 good_on : (ps : Parts) (changes : List Change) (w : Records) (slot : ℕ) (i : Interval) → Onto ps changes w → IsGood ps.master changes (ps.tablet slot) i → IsGood (recorded ps.master w) changes (ps.tablet slot) i
 good_on ps changes w slot i o g =
     let t = ps.tablet slot in
-    let same_ = o.awaits slot g.present in record {
-      past = past_later i.from ps.master.clock w.clock i.to o.clock g.past;
-      over = g.over;
-      drawn = le_trans g.drawn (o.drawn TabletKind);
-      drawn_table = le_trans g.drawn_table (o.drawn Table);
-      slot_from = g.slot_from;
-      slot_to = g.slot_to;
-      present = g.present;
-      tablet_is = g.tablet_is;
-      table_is = g.table_is;
-      low_is = g.low_is;
-      high_is = g.high_is;
-      viewed = g.viewed;
-      waits = λ point waits. g.waits point (sym same_ ∙ waits);
-      comes = λ r point there awaits opened. elim (o.restoration_came r there) [
+    let same_ = o.awaits slot g.present in
+    let past : IsPast w.clock i.from i.to = past_later i.from ps.master.clock w.clock i.to o.clock g.past in
+    let drawn : i.tablet.number ≤ w.drawn.tablets = le_trans g.drawn (o.drawn TabletKind) in
+    let drawn_table : i.table.number ≤ w.drawn.tables = le_trans g.drawn_table (o.drawn Table) in
+    let waits_now : (point : ℕ) → awaited_in w.restorations (ps.tablet slot).tablet (ps.tablet slot).done ≡ Some point → TurnsAt point i.from i.to = λ point waits. g.waits point (sym same_ ∙ waits) in
+    let comes : (r : RestorationRecord) (point : ℕ) → In r w.restorations → awaited_of r.state r (ps.tablet slot).tablet (ps.tablet slot).done ≡ Some point → i.to ≡ None → ComesFrom changes r.namespace i point r.to = λ r point there awaits opened. elim (o.restoration_came r there) [
         | inl old ↦ g.comes r point old awaits opened
         | inr came ↦ absurd (let q : None ≡ Some point = sym (came.unawaited t.tablet t.done) ∙ awaits in grind arith)
-      ];
-      serves = λ opened settled. g.serves opened (sym same_ ∙ settled);
-      hidden = λ at is came. g.hidden at is (ap (λ a. is_awaited a i.to) (sym same_) ∙ came);
-      stands = λ counted. g.stands (ap (λ a. is_awaited a i.to) (sym same_) ∙ counted);
-      sets = g.sets;
-    }
+      ] in
+    let serves : i.to ≡ None → awaited_in w.restorations (ps.tablet slot).tablet (ps.tablet slot).done ≡ None → is_serving (ps.tablet slot).presence ≡ true = λ opened settled. g.serves opened (sym same_ ∙ settled) in
+    let hidden : (at : ℕ) → (ps.tablet slot).presence ≡ HiddenPart at → is_awaited (awaited_in w.restorations (ps.tablet slot).tablet (ps.tablet slot).done) i.to ≡ false → ended_by at i.to ≡ true = λ at is came. g.hidden at is (ap (λ a. is_awaited a i.to) (sym same_) ∙ came) in
+    let stands : is_awaited (awaited_in w.restorations (ps.tablet slot).tablet (ps.tablet slot).done) i.to ≡ false → StandsIn (ps.tablet slot) changes i = λ counted. g.stands (ap (λ a. is_awaited a i.to) (sym same_) ∙ counted) in
+    assumption (past, drawn, drawn_table, waits_now, comes, serves, hidden, stands)
 
 pub serving_present : (p : Presence) → is_serving p ≡ true → is_empty p ≡ false
 serving_present EmptyPart e = absurd (true≢false (sym e))
-serving_present ServingPart e = refl
-serving_present (HiddenPart at) e = refl
+serving_present _ e = refl
 
 pub slot_on : (ps : Parts) (changes : List Change) (w : Records) (slot : ℕ) → Onto ps changes w → SlotGood ps.master changes slot (ps.tablet slot) → SlotGood (recorded ps.master w) changes slot (ps.tablet slot)
-slot_on ps changes w slot o h = let t = ps.tablet slot in record {
-  good = h.good;
-  home = h.home;
-  numbered = le_trans h.numbered (o.drawn TabletKind);
-  each = λ i isin is. good_on ps changes w slot i o (h.each i isin is);
-  opens = λ serving unfenced. (let k = h.opens serving unfenced in record {
+slot_on ps changes w slot o h =
+    let t = ps.tablet slot in
+    let numbered : (ps.tablet slot).tablet.number ≤ w.drawn.tablets = le_trans h.numbered (o.drawn TabletKind) in
+    let each : (i : Interval) → In i ps.master.activity → i.slot ≡ slot → IsGoodIn w.clock ps.master.slots (directory (recorded ps.master w)) changes (ps.tablet slot) i = λ i isin is. good_on ps changes w slot i o (h.each i isin is) in
+    let opens : is_serving (ps.tablet slot).presence ≡ true → (ps.tablet slot).fence ≡ None → TakesWritesIn ps.master.activity w.restorations slot (ps.tablet slot) = λ serving unfenced. (let k = h.opens serving unfenced in record {
     interval = k.interval;
     listed = k.listed;
     slot_is = k.slot_is;
     opened = k.opened;
     begun = k.begun;
     settled = o.awaits slot (serving_present t.presence serving) ∙ k.settled;
-  });
-  shown = h.shown;
-  later = h.later;
-}
+  }) in
+    assumption (numbered, each, opens)
 
 -- Commands and marks
 
@@ -127,12 +114,10 @@ after_on ps changes w clock operation kind o drawn early h = let m = ps.master i
 }
 
 after_late : (kind : BodyKind) (n : ℕ) → is_after_switch kind ≡ true → restoring_stage kind ≤ n → n ≡ 1 → ⊥
-after_late FenceKind n is le e = true≢false (sym is)
-after_late FreezeKind n is le e = true≢false (sym is)
-after_late CopyKind n is le e = true≢false (sym is)
 after_late RestoreFromKind n is le e = omega arith
 after_late HideKind n is le e = omega arith
 after_late ReleaseKind n is le e = omega arith
+after_late _ n is le e = true≢false (sym is)
 
 mark_on : (ps : Parts) (changes : List Change) (w : Records) (clock : ℕ) (mark : Mark) → Onto ps changes w → IsMark ps.master clock mark → IsMark (recorded ps.master w) clock mark
 mark_on ps changes w clock mark o g = let m = ps.master in record {
@@ -194,29 +179,6 @@ orders_on ps changes w slot o h = let m = ps.master in let t = ps.tablet slot in
 
 -- What tablets did
 
-restoration_slot_on : (state : RestorationState) (m : Master) (w : Records) (changes : List Change) (r : RestorationRecord) (slot : ℕ) (t : Tablet) → RestorationSlot state m changes r slot t → RestorationSlot state (recorded m w) changes r slot t
-restoration_slot_on Fencing m w changes r slot t h = h
-restoration_slot_on (Snapshotting point own) m w changes r slot t h = record { fenced = λ i opened is. h.fenced i (record { kept = opened.kept; opened = opened.opened; owned = opened.owned }) is }
-restoration_slot_on (Switching point serving) m w changes r slot t h = record {
-  fenced = λ i opened is. h.fenced i (record { kept = opened.kept; opened = opened.opened; owned = opened.owned }) is;
-  past = λ i opened is. h.past i (record { kept = opened.kept; opened = opened.opened; owned = opened.owned }) is;
-}
-restoration_slot_on (Restoring point serving) m w changes r slot t h = h
-restoration_slot_on (Releasing point serving) m w changes r slot t h = h
-restoration_slot_on (Restored point serving) m w changes r slot t h = h
-
-clone_slot_on : (state : CloneState) (m : Master) (w : Records) (changes : List Change) (c : CloneRecord) (slot : ℕ) (t : Tablet) → CloneSlot state m changes c slot t → CloneSlot state (recorded m w) changes c slot t
-clone_slot_on Accepted m w changes c slot t h = h
-clone_slot_on (CloneSnapshot own) m w changes c slot t h = h
-clone_slot_on (Copying serving at) m w changes c slot t h = record { acked = h.acked; empty = h.empty; copied = h.copied; later = h.later }
-clone_slot_on (CloneReleasing serving at) m w changes c slot t h = h
-clone_slot_on (CloneComplete serving at) m w changes c slot t h = h
-
-home_on : (m : Master) (w : Records) (slot : ℕ) (tablet : Id) → IsHome m slot tablet ⊎ IsTarget m slot tablet → IsHome (recorded m w) slot tablet ⊎ IsTarget (recorded m w) slot tablet
-home_on m w slot tablet (inl h) = inl (record { interval = h.interval; kept = h.kept; slot_is = h.slot_is; tablet_is = h.tablet_is })
-home_on m w slot tablet (inr h) =
-    inr (record { clone = h.clone; kept = h.kept; serving = h.serving; at = h.at; state_is = h.state_is; pair = h.pair; paired = h.paired; slot_is = h.slot_is; tablet_is = h.tablet_is })
-
 or_right : (a b : Bool) → b ≡ true → (a || b) ≡ true
 or_right true b e = refl
 or_right false b e = e
@@ -228,7 +190,7 @@ neither false b e f g = true≢false (sym g ∙ f)
 obeyed_on : (ps : Parts) (changes : List Change) (w : Records) (slot : ℕ) → Onto ps changes w → ObeyedGood ps.master changes slot (ps.tablet slot) → ObeyedGood (recorded ps.master w) changes slot (ps.tablet slot)
 obeyed_on ps changes w slot o h = let m = ps.master in let t = ps.tablet slot in record {
   drawn_table = le_trans h.drawn_table (o.drawn Table);
-  home = λ present. home_on m w slot t.tablet (h.home present);
+  home = h.home;
   snapshots = λ q l isin lists at acked is present. elim (o.snapshot_came q isin) [
     | inl old ↦ h.snapshots q l old lists at acked is present
     | inr came ↦ elim came.how [
@@ -238,10 +200,10 @@ obeyed_on ps changes w slot o h = let m = ps.master in let t = ps.tablet slot in
     ]
   ];
   restorations = λ r isin. elim (o.restoration_came r isin) [
-    | inl old ↦ restoration_slot_on r.state m w changes r slot t (h.restorations r old)
+    | inl old ↦ h.restorations r old
     | inr came ↦ came.slots slot
   ];
-  clones = λ c isin. clone_slot_on c.state m w changes c slot t (h.clones c isin);
+  clones = h.clones;
 }
 
 -- The parts with the new records

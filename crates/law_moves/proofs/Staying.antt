@@ -1,5 +1,6 @@
 -- What holds of the records that stay, of clones and of slots goes on to hold while others are made, move or go.
-use Rattle.std.proofs.Common.{ℕ, ◌≡◌, ◌≤◌, ◌+◌, List, Option, Some, None, true, false, inl, inr, refl, sym, ap, ◌∙◌, arith, le_trans, lt_of_lt_of_le, subst}
+use Rattle.model.specs.Right.{is_fixed}
+use Rattle.std.proofs.Common.{ℕ, ◌≡◌, ◌≤◌, ◌+◌, List, Option, Some, None, true, false, inl, inr, refl, sym, ap, ◌∙◌, arith, le_trans, lt_of_lt_of_le, subst, ◌<◌, ◌⊎◌}
 use Rattle.std.specs.Option.{option_map_or}
 use Rattle.std.proofs.lemmas.Bool.{true≢false}
 use Rattle.std.proofs.lemmas.Bool.Decides.{nat_tests}
@@ -7,50 +8,20 @@ use Rattle.row_values.specs.Ids.{Kind, Namespace, Table, Tablet as TabletKind, S
 use Rattle.row_values.specs.Elements.{In}
 use Rattle.model.specs.Times.{ended_by}
 use Rattle.model.specs.Activity.{Interval}
-use Rattle.model.specs.Catalog.{owner_of}
+use Rattle.model.specs.Catalog.{owner_of, NamespaceRecord, TableRecord}
 use Rattle.model.specs.Journal.{Change}
-use Rattle.model.specs.Records.{Listed, Schedule, SnapshotRecord, RestorationRecord, RestorationState, Fencing, Snapshotting, Switching, Restoring, Releasing, Restored, TabletPair, CloneRecord, CloneState, Accepted, CloneSnapshot, Copying, CloneReleasing, CloneComplete, is_restored, is_cloned, point_of, ScheduledNamespace}
+use Rattle.model.specs.Records.{Listed, Schedule, SnapshotRecord, RestorationRecord, RestorationState, Fencing, Snapshotting, Switching, Restoring, Releasing, Restored, TabletPair, CloneRecord, CloneState, Accepted, CloneSnapshot, Copying, CloneReleasing, CloneComplete, is_restored, is_cloned, point_of, ScheduledNamespace, IdPair, is_visible}
 use Rattle.model.specs.Schedules.{after_of}
 use Rattle.model.specs.Cleanup.{floor_of}
 use Rattle.model.specs.Drawn.{drawn_of}
 use Rattle.model.specs.Parts.{Master, Parts}
 use Rattle.law_invariants.specs.Remembered.{Remembered, IsForgotten}
-use Rattle.law_invariants.specs.Operations.{IsKnown, IsOpenOf, IsReached, ScheduleGood, SnapshotGood, IsServing, IsPoint, IsCalm, BeforePoint, IsBack, IsActive, RestorationStateGood, RestorationGood, IsSource, IsReserved, CloneStateGood, CloneGood, OperationsGood, JournalGood, ScheduledGood}
+use Rattle.law_invariants.specs.Operations.{IsKnown, IsOpenOf, IsReached, ScheduleGood, SnapshotGood, IsServing, IsPoint, IsCalm, BeforePoint, IsBack, IsActive, RestorationStateGood, RestorationGood, IsSource, IsReserved, CloneStateGood, CloneGood, OperationsGood, JournalGood, ScheduledGood, PairIn}
 use Rattle.law_invariants.specs.Orders.{RowsPast}
-use Rattle.law_invariants.specs.Invariant.{MasterGood}
+use Rattle.law_invariants.specs.Invariant.{MasterGood, NamespacesStand, TablesStand}
 use Rattle.law_invariants.proofs.Ticking.{namespaces_later, tables_later}
 use Rattle.law_moves.proofs.Recording.{Records, recorded, SnapshotOn, Onto, StaysScheduled}
-
--- Intervals and listed tablets, which stay
-
-open_on : (m : Master) (w : Records) (ns : Id) (i : Interval) → IsOpenOf m ns i → IsOpenOf (recorded m w) ns i
-open_on m w ns i h = record { kept = h.kept; opened = h.opened; owned = h.owned }
-
-open_was : (m : Master) (w : Records) (ns : Id) (i : Interval) → IsOpenOf (recorded m w) ns i → IsOpenOf m ns i
-open_was m w ns i h = record { kept = h.kept; opened = h.opened; owned = h.owned }
-
-pub known_on : (m : Master) (w : Records) (l : Listed) → IsKnown m l → IsKnown (recorded m w) l
-known_on m w l h = record { interval = h.interval; kept = h.kept; tablet_is = h.tablet_is; slot_is = h.slot_is }
-
-before_on : (m : Master) (w : Records) (ns : Id) (point : ℕ) → BeforePoint m ns point → BeforePoint (recorded m w) ns point
-before_on m w ns point h = record { begun = h.begun; ended = h.ended; tables_begun = h.tables_begun; tables_ended = h.tables_ended }
-
-active_on : (m : Master) (w : Records) (l : Listed) (from : ℕ) → IsActive m l from → IsActive (recorded m w) l from
-active_on m w l from h = record { interval = h.interval; kept = h.kept; tablet_is = h.tablet_is; slot_is = h.slot_is; opened = h.opened; from_is = h.from_is }
-
-back_on : (m : Master) (w : Records) (l : Listed) (to point : ℕ) → IsBack m l to point → IsBack (recorded m w) l to point
-back_on m w l to point h = record {
-  then_ = h.then_;
-  kept_then = h.kept_then;
-  tablet_then = h.tablet_then;
-  active = h.active;
-  now = h.now;
-  kept_now = h.kept_now;
-  tablet_now = h.tablet_now;
-  slot_now = h.slot_now;
-  opened = h.opened;
-  from_is = h.from_is;
-}
+use Rattle.law_invariants.proofs.Remembering.{ended_later}
 
 -- Schedules and snapshots
 
@@ -79,23 +50,18 @@ scheduled_on m w k clock drawn floors kept has h = record {
 }
 
 snapshot_on : (ps : Parts) (changes : List Change) (w : Records) (q : SnapshotRecord) → Onto ps changes w → In q ps.master.snapshots → In q w.snapshots → SnapshotGood ps.master q → SnapshotGood (recorded ps.master w) q
-snapshot_on ps changes w q o there now h = let m = ps.master in record {
-  kind_is = h.kind_is;
-  drawn = le_trans h.drawn (o.drawn Snapshot);
-  drawn_namespace = le_trans h.drawn_namespace (o.drawn Namespace);
-  rises = h.rises;
-  past = le_trans h.past o.clock;
-  bodies = h.bodies;
-  drawn_listed = λ l isin. le_trans (h.drawn_listed l isin) (o.drawn TabletKind);
-  listed_of = h.listed_of;
-  known = λ unfinished l isin. known_on m w l (h.known unfinished l isin);
-  lists = h.lists;
-  reached = elim h.reached [
+snapshot_on ps changes w q o there now h =
+    let m = ps.master in
+    let drawn : q.id.number ≤ w.drawn.snapshots = le_trans h.drawn (o.drawn Snapshot) in
+    let drawn_namespace : q.namespace.number ≤ w.drawn.namespaces = le_trans h.drawn_namespace (o.drawn Namespace) in
+    let past : q.at ≤ w.clock = le_trans h.past o.clock in
+    let drawn_listed : (l : Listed) → In l q.listed → l.tablet.number ≤ w.drawn.tablets = λ l isin. le_trans (h.drawn_listed l isin) (o.drawn TabletKind) in
+    let reached : (q.after < floor_of (recorded ps.master w) q.namespace w.clock) ⊎ ((q' : SnapshotRecord) × (In q' w.snapshots × ((q'.namespace ≡ q.namespace) × ((q'.at ≡ q.after) × (q'.complete ≡ true))))) = elim h.reached [
     | inl l ↦ inl (lt_of_lt_of_le l (o.floors q.namespace))
     | inr p ↦ (let k = o.snapshot_kept p.0 p.1.0 in inr (k.0, (k.1.0, (k.1.1.namespace_is ∙ p.1.1.0, (k.1.1.at_is ∙ p.1.1.1.0, k.1.1.complete p.1.1.1.1)))))
-  ];
-  scheduled = λ unfinished. (let s = h.scheduled unfinished in o.last q there now unfinished s.0 s.1.0 s.1.1.0 s.1.1.1);
-}
+  ] in
+    let scheduled : q.complete ≡ false → (k : ScheduledNamespace) × (In k w.scheduled × ((k.namespace ≡ q.namespace) × (k.last ≡ Some q.at))) = λ unfinished. (let s = h.scheduled unfinished in o.last q there now unfinished s.0 s.1.0 s.1.1.0 s.1.1.1) in
+    assumption (drawn, drawn_namespace, past, drawn_listed, reached, scheduled)
 
 -- Restorations
 
@@ -147,16 +113,12 @@ alone_on ps changes w r point own o there unfinished at h = λ q isin open_ is. 
 
 state_on : (state : RestorationState) (ps : Parts) (changes : List Change) (w : Records) (r : RestorationRecord) → r.state ≡ state → Onto ps changes w → In r ps.master.restorations → RestorationStateGood state ps.master changes r
     → RestorationStateGood state (recorded ps.master w) changes r
-state_on Fencing ps changes w r e o there h = let m = ps.master in record {
-  bodies = h.bodies;
-  lists = λ i opened. h.lists i (open_was m w r.namespace i opened);
-  opens = λ l isin. (let k = h.opens l isin in (k.0, (open_on m w r.namespace k.0 k.1.0, k.1.1)));
-}
+state_on Fencing ps changes w r e o there h = h
 state_on (Snapshotting point own) ps changes w r e o there h = let m = ps.master in let k = o.snapshot_kept h.snapshot h.kept in record {
   is_point = point_on ps changes w r point o there (ap is_restored e) (ap point_of e) h.is_point;
   empty = h.empty;
   soon = le_trans h.soon (let l = o.clock in omega arith);
-  before = before_on m w r.namespace point h.before;
+  before = h.before;
   snapshot = k.0;
   kept = k.1.0;
   id_is = k.1.1.id_is ∙ h.id_is;
@@ -168,29 +130,22 @@ state_on (Switching point serving) ps changes w r e o there h = let m = ps.maste
   is_point = point_on ps changes w r point o there (ap is_restored e) (ap point_of e) h.is_point;
   empty = h.empty;
   begun = le_trans h.begun o.clock;
-  before = before_on m w r.namespace point h.before;
+  before = h.before;
   serves = serving_on ps changes w serving r.namespace r.to o h.serves;
   calm = calm_on ps changes w r point o there (ap is_restored e) (ap point_of e) h.calm;
 }
-state_on (Restoring point serving) ps changes w r e o there h = let m = ps.master in record {
-  is_point = point_on ps changes w r point o there (ap is_restored e) (ap point_of e) h.is_point;
-  begun = le_trans h.begun o.clock;
-  serves = serving_on ps changes w serving r.namespace r.to o h.serves;
-  calm = calm_on ps changes w r point o there (ap is_restored e) (ap point_of e) h.calm;
-  switched = h.switched;
-  bodies = h.bodies;
-  back = λ l isin is. back_on m w l r.to point (h.back l isin is);
-  gone = h.gone;
-  opens = λ i opened. h.opens i (open_was m w r.namespace i opened);
-}
-state_on (Releasing point serving) ps changes w r e o there h = let m = ps.master in record {
-  is_point = point_on ps changes w r point o there (ap is_restored e) (ap point_of e) h.is_point;
-  begun = le_trans h.begun o.clock;
-  switched = h.switched;
-  bodies = h.bodies;
-  active = λ l isin. active_on m w l point (h.active l isin);
-  opens = λ i opened. h.opens i (open_was m w r.namespace i opened);
-}
+state_on (Restoring point serving) ps changes w r e o there h =
+    let m = ps.master in
+    let is_point : IsPoint (recorded ps.master w) changes r point = point_on ps changes w r point o there (ap is_restored e) (ap point_of e) h.is_point in
+    let begun : point ≤ w.clock = le_trans h.begun o.clock in
+    let serves : IsServing (recorded ps.master w) serving r.namespace r.to = serving_on ps changes w serving r.namespace r.to o h.serves in
+    let calm : IsCalm (recorded ps.master w) r = calm_on ps changes w r point o there (ap is_restored e) (ap point_of e) h.calm in
+    assumption (is_point, begun, serves, calm)
+state_on (Releasing point serving) ps changes w r e o there h =
+    let m = ps.master in
+    let is_point : IsPoint (recorded ps.master w) changes r point = point_on ps changes w r point o there (ap is_restored e) (ap point_of e) h.is_point in
+    let begun : point ≤ w.clock = le_trans h.begun o.clock in
+    assumption (is_point, begun)
 state_on (Restored point serving) ps changes w r e o there h = record { empty = h.empty; begun = le_trans h.begun o.clock; later = h.later; switched = h.switched }
 
 restoration_on : (ps : Parts) (changes : List Change) (w : Records) (r : RestorationRecord) → Onto ps changes w → In r ps.master.restorations → RestorationGood ps.master changes r → RestorationGood (recorded ps.master w) changes r
@@ -203,27 +158,11 @@ restoration_on ps changes w r o there h = record {
     | inl k ↦ (k.0, (k.1.0, (k.1.1.0 ∙ s.1.1.0, k.1.1.1 ∙ s.1.1.1)))
     | inr free ↦ absurd (free.restoration r there unfinished s.1.1.1)
   ]);
-  known = λ unfinished l isin. known_on ps.master w l (h.known unfinished l isin);
+  known = h.known;
   in_state = state_on r.state ps changes w r refl o there h.in_state;
 }
 
 -- Clones
-
-source_on : (m : Master) (w : Records) (c : CloneRecord) (p : TabletPair) → IsSource m c p → IsSource (recorded m w) c p
-source_on m w c p h = record {
-  interval = h.interval;
-  kept = h.kept;
-  tablet_is = h.tablet_is;
-  slot_is = h.slot_is;
-  low_is = h.low_is;
-  high_is = h.high_is;
-  active = h.active;
-  owned = h.owned;
-  pair = h.pair;
-  paired = h.paired;
-  source_is = h.source_is;
-  target_is = h.target_is;
-}
 
 reserved_on : (ps : Parts) (changes : List Change) (w : Records) (p : TabletPair) → Onto ps changes w → IsReserved ps.master p → IsReserved (recorded ps.master w) p
 reserved_on ps changes w p o h = record {
@@ -265,51 +204,35 @@ clone_state_on (CloneReleasing serving at) ps changes w c e o there h = record {
   later = h.later;
   copied = h.copied;
   bodies = h.bodies;
-  active = λ l isin. active_on ps.master w l h.since (h.active l isin);
+  active = h.active;
   listed_of = h.listed_of;
-  opens = λ i opened. h.opens i (open_was ps.master w c.target_id i opened);
+  opens = h.opens;
 }
 clone_state_on (CloneComplete serving at) ps changes w c e o there h = h
 
 clone_on : (ps : Parts) (changes : List Change) (w : Records) (c : CloneRecord) → Onto ps changes w → In c ps.master.clones → CloneGood ps.master changes c → CloneGood (recorded ps.master w) changes c
-clone_on ps changes w c o there h = record {
-  kind_is = h.kind_is;
-  drawn = le_trans h.drawn (o.drawn Clone);
-  drawn_source = le_trans h.drawn_source (o.drawn Namespace);
-  drawn_target = le_trans h.drawn_target (o.drawn Namespace);
-  apart = h.apart;
-  past = lt_of_lt_of_le h.past o.clock;
-  pairs = λ p paired. (let g = h.pairs p paired in record {
-    slot_from = g.slot_from;
-    slot_to = g.slot_to;
-    drawn = le_trans g.drawn (o.drawn TabletKind);
-    drawn_table = le_trans g.drawn_table (o.drawn Table);
-    owned = g.owned;
-  });
-  drawn_listed = λ l lists. le_trans (h.drawn_listed l lists) (o.drawn TabletKind);
-  one_slot = h.one_slot;
-  one_target = h.one_target;
-  one_table = h.one_table;
-  tables_apart = h.tables_apart;
-  owned = h.owned;
-  drawn_sources = λ e paired. le_trans (h.drawn_sources e paired) (o.drawn Table);
-  covers = h.covers;
-  scheduled = λ unfinished. (let s = h.scheduled unfinished in elim (o.schedule_kept s.0 s.1.0) [
+clone_on ps changes w c o there h =
+    let drawn_now : c.id.number ≤ w.drawn.clones = le_trans h.drawn (o.drawn Clone) in
+    let drawn_source : c.source.number ≤ w.drawn.namespaces = le_trans h.drawn_source (o.drawn Namespace) in
+    let drawn_target : c.target_id.number ≤ w.drawn.namespaces = le_trans h.drawn_target (o.drawn Namespace) in
+    let past : c.to < w.clock = lt_of_lt_of_le h.past o.clock in
+    let pairs : (p : TabletPair) → In p c.tablets → PairIn ps.master.slots w.drawn ps.master.catalog.owners c p = λ p paired. (let g = h.pairs p paired in
+    let drawn : p.target.number ≤ w.drawn.tablets = le_trans g.drawn (o.drawn TabletKind) in
+    let drawn_table : p.table.number ≤ w.drawn.tables = le_trans g.drawn_table (o.drawn Table) in
+    assumption (drawn, drawn_table)) in
+    let drawn_listed : (l : Listed) → In l c.listed → l.tablet.number ≤ w.drawn.tablets = λ l lists. le_trans (h.drawn_listed l lists) (o.drawn TabletKind) in
+    let drawn_sources : (d : IdPair) → In d c.tables → d.source.number ≤ w.drawn.tables = λ e paired. le_trans (h.drawn_sources e paired) (o.drawn Table) in
+    let scheduled : is_cloned c.state ≡ false → (s : Schedule) × (In s w.schedules × (s.namespace ≡ c.source)) = λ unfinished. (let s = h.scheduled unfinished in elim (o.schedule_kept s.0 s.1.0) [
     | inl k ↦ (k.0, (k.1.0, k.1.1.1 ∙ s.1.1))
     | inr free ↦ absurd (free.clone c there unfinished s.1.1)
-  ]);
-  sources = λ unfinished p paired. source_on ps.master w c p (h.sources unfinished p paired);
-  reserved = λ unseen p paired. reserved_on ps changes w p o (h.reserved unseen p paired);
-  no_tablet = h.no_tablet;
-  no_table = h.no_table;
-  no_namespace = h.no_namespace;
-  no_schedule = λ unseen s isin is. elim (o.schedule_came s isin) [
+  ]) in
+    let reserved : is_visible c.state ≡ false → (p : TabletPair) → In p c.tablets → IsReserved (recorded ps.master w) p = λ unseen p paired. reserved_on ps changes w p o (h.reserved unseen p paired) in
+    let no_schedule : is_visible c.state ≡ false → (s : Schedule) → In s w.schedules → s.namespace ≡ c.target_id → ⊥ = λ unseen s isin is. elim (o.schedule_came s isin) [
     | inl was ↦ h.no_schedule unseen was.was was.kept (sym was.namespace_is ∙ is)
     | inr new ↦ new.unmade c there unseen (sym is)
-  ];
-  unfixed = h.unfixed;
-  in_state = clone_state_on c.state ps changes w c refl o there h.in_state;
-}
+  ] in
+    let in_state : CloneStateGood c.state (recorded ps.master w) c = clone_state_on c.state ps changes w c refl o there h.in_state in
+    assumption (drawn_now, drawn_source, drawn_target, past, pairs, drawn_listed, drawn_sources, scheduled, reserved, no_schedule, in_state)
 
 pub operations_on : (ps : Parts) (changes : List Change) (w : Records) → Onto ps changes w → OperationsGood ps.master changes → OperationsGood (recorded ps.master w) changes
 operations_on ps changes w o h = record {
@@ -366,10 +289,6 @@ forgotten_on ps changes w i o h = record {
   unknown = h.unknown;
 }
   where
-    ended_later : (to : Option ℕ) (m n : ℕ) → m ≤ n → ended_by m to ≡ true → ended_by n to ≡ true
-    ended_later None m n le h = absurd (let q = h in grind arith)
-    ended_later (Some e) m n le h = grind (arith, nat_tests)
-
     floor_later : (owner : Option Id) → ended_by (option_map_or (λ ns. floor_of ps.master ns ps.master.clock) owner ps.master.clock) i.to ≡ true → ended_by (option_map_or (λ ns. floor_of (recorded ps.master w) ns w.clock) owner w.clock) i.to ≡ true
     floor_later None k = ended_later i.to ps.master.clock w.clock o.clock k
     floor_later (Some ns) k = ended_later i.to (floor_of ps.master ns ps.master.clock) (floor_of (recorded ps.master w) ns w.clock) (o.floors ns) k
@@ -384,28 +303,15 @@ remembered_on ps activity changes w o h = record {
 }
 
 pub master_on : (ps : Parts) (activity : List Interval) (changes : List Change) (w : Records) → Onto ps changes w → Remembered ps.master activity → MasterGood ps.master changes → MasterGood (recorded ps.master w) changes
-master_on ps activity changes w o old h = let m = ps.master in record {
-  namespaces = (let g = namespaces_later m.catalog.namespaces m.clock w.clock m.drawn.namespaces changes o.clock h.namespaces in record {
-    past = g.past;
-    drawn_before = λ r isin. le_trans (g.drawn_before r isin) (o.drawn Namespace);
-    unique = g.unique;
-    found = g.found;
-    viewed = g.viewed;
-  });
-  tables = (let g = tables_later m.catalog m.clock w.clock m.drawn.tables changes o.clock h.tables in record {
-    past = g.past;
-    drawn_before = λ r isin. le_trans (g.drawn_before r isin) (o.drawn Table);
-    owned = g.owned;
-    owners_drawn = λ id more. g.owners_drawn id (let l = o.drawn Table in omega arith);
-    unique = g.unique;
-    found = g.found;
-    columns = g.columns;
-    rise = g.rise;
-    viewed = g.viewed;
-    unmade = g.unmade;
-    inside = g.inside;
-    kept = g.kept;
-  });
+master_on ps activity changes w o old h =
+    let m = ps.master in record {
+  namespaces = (let g = namespaces_later m.catalog.namespaces m.clock w.clock m.drawn.namespaces changes o.clock h.namespaces in
+    let drawn_before : (r : NamespaceRecord) → In r ps.master.catalog.namespaces → r.id.number ≤ w.drawn.namespaces = λ r isin. le_trans (g.drawn_before r isin) (o.drawn Namespace) in
+    assumption drawn_before);
+  tables = (let g = tables_later m.catalog m.clock w.clock m.drawn.tables changes o.clock h.tables in
+    let drawn_before : (r : TableRecord) → In r ps.master.catalog.tables → r.id.number ≤ w.drawn.tables = λ r isin. le_trans (g.drawn_before r isin) (o.drawn Table) in
+    let owners_drawn : (id : Id) → w.drawn.tables < id.number → owner_of ps.master.catalog.owners id ≡ None = λ id more. g.owners_drawn id (let l = o.drawn Table in omega arith) in
+    assumption (drawn_before, owners_drawn));
   past = λ ns to is. le_trans (h.past ns to is) o.clock;
   complete = o.complete;
   listed = λ r l isin lists. elim (o.restoration_came r isin) [

@@ -279,14 +279,10 @@ awaited_some (x ∷ rs) f tablet done point r isin is each = elim (each x (inl r
 
 -- a tablet whose rows a restoration is to bring is of its namespace
 awaited_listed : (state : RestorationState) (x : RestorationRecord) (tablet : Id) (done : List Mark) → awaited_of state x tablet done ≡ None ⊎ ((is_restored state ≡ false) × ((l : Listed) × (In l x.listed × (l.tablet ≡ tablet))))
-awaited_listed Fencing x tablet done = inl refl
-awaited_listed (Snapshotting p own) x tablet done = inl refl
-awaited_listed (Switching p serving_) x tablet done = inl refl
-awaited_listed (Releasing p serving_) x tablet done = inl refl
-awaited_listed (Restored p serving_) x tablet done = inl refl
 awaited_listed (Restoring p serving_) x tablet done = either_way (list_any (λ l. same l.tablet tablet && is_restore l.body) x.listed)
     (λ b. let k = any_only x.listed tablet b in inr (refl, (k.0, (k.1.0, k.1.1.0))))
     (λ b. inl (ap (λ c. cond c (Some p) None) (first_fails (list_any (λ l. same l.tablet tablet && is_restore l.body) x.listed) (not (is_done done x.id RestoreFromKind)) b)))
+awaited_listed _ x tablet done = inl refl
 
 -- the tablet of an interval, which the part in its slot holds
 pub record Holds (ps : Parts) (slot : ℕ) (i : Interval) : Type 0 where

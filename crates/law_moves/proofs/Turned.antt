@@ -11,7 +11,7 @@ use Rattle.model.specs.Activity.{Interval, active_at}
 use Rattle.model.specs.Catalog.{owner_of, owns}
 use Rattle.model.specs.Restored.{begun_at}
 use Rattle.model.specs.Journal.{Change, NamespaceRestored, RowChanged, table_at, row_at}
-use Rattle.model.specs.Tablets.{Presence, HiddenPart, is_serving}
+use Rattle.model.specs.Tablets.{Presence, HiddenPart, is_serving, FrozenSet}
 use Rattle.model.specs.Records.{RestorationRecord, RestorationState, Fencing, Snapshotting, Switching, Restoring, Releasing, Restored, is_restored, point_of}
 use Rattle.model.specs.Stands.{awaited_in, awaited_of, before_restore}
 use Rattle.model.specs.Right.{is_fixed}
@@ -19,7 +19,7 @@ use Rattle.model.specs.Parts.{Parts}
 use Rattle.law_store.proofs.Keys.{either_way}
 use Rattle.law_invariants.specs.Operations.{is_switched, has_switched, IsSwitchedBy, AfterRowsOf, JournalGood}
 use Rattle.law_invariants.specs.Orders.{IsBehind, RowsPast}
-use Rattle.law_invariants.specs.Invariant.{is_marked, EndsBy, OverBy, TurnsAt, ComesFrom, IsGood, SlotGood, MasterGood, Inv, is_awaited}
+use Rattle.law_invariants.specs.Invariant.{is_marked, EndsBy, OverBy, TurnsAt, ComesFrom, IsGood, SlotGood, MasterGood, Inv, is_awaited, StandsIn, SetStands, IsPast}
 use Rattle.law_invariants.proofs.Finding.{in_mapped, map_in, same_equal, same_self, both_pass, passes_both, first_fails, second_fails}
 use Rattle.law_invariants.proofs.Names.{names_kept}
 use Rattle.law_invariants.proofs.Undoing.{before_none, owned_is}
@@ -119,34 +119,25 @@ ended_good ps activity changes n r point serving_ slot i s h owner =
     let from : i.from < point = good.before.begun i h.kept owner in
     let over : (e : ℕ) → i.to ≡ Some e → e ≤ point = λ e is. good.before.ended i e h.kept owner is in
     let settled : is_awaited (awaited_in m.restorations t.tablet t.done) i.to ≡ false = ap (λ a. is_awaited a i.to) none ∙ second_fails (is_open i.to) false refl in
-    record {
-      past = record { begun = le_trans g.past.begun (le_of_lt s.before); ended = ends_now i.to i.from point n m.clock from (le_trans good.begun (le_of_lt s.before)) (le_of_lt s.before) g.past.ended };
-      over = over_now i.to i.from point t.clock from (λ opened. (slot_yet ps activity changes n r point serving_ slot s).past i (record { kept = h.kept; opened = opened; owned = owner }) h.at) g.over;
-      drawn = g.drawn;
-      drawn_table = g.drawn_table;
-      slot_from = g.slot_from;
-      slot_to = g.slot_to;
-      present = g.present;
-      tablet_is = g.tablet_is;
-      table_is = g.table_is;
-      low_is = g.low_is;
-      high_is = g.high_is;
-      viewed = λ x active. (
+    let begun : i.from ≤ n = le_trans g.past.begun (le_of_lt s.before) in
+    let ended_now : EndsBy n i.from (ended point i.to) = ends_now i.to i.from point n m.clock from (le_trans good.begun (le_of_lt s.before)) (le_of_lt s.before) g.past.ended in
+    let over_now : OverBy (ps.tablet slot).clock i.from (ended point i.to) = over_now i.to i.from point t.clock from (λ opened. (slot_yet ps activity changes n r point serving_ slot s).past i (record { kept = h.kept; opened = opened; owned = owner }) h.at) g.over in
+    let viewed : (x : ℕ) → active_at x (record i { to = ended point i.to }) ≡ true → is_some (table_at (after r point changes) x i.table) ≡ true = λ x active. (
           let k = both_pass (leb i.from x) (before_end x (ended point i.to)) active in
           let b = before_it i.to x point over k.1 in
-          ap is_some (restored_before point r.namespace r.to changes x i.table b.0) ∙ g.viewed x (passes_both (leb i.from x) (before_end x i.to) k.0 b.1));
-      waits = λ p waits. turns_now i.to i.from point p (awaited_point _ point p (sym (awaited_mine ps activity changes n r point serving_ slot i s h owner) ∙ waits)) over;
-      comes = λ q p there awaits opened. absurd (ended_some i.to point opened);
-      serves = λ opened settled_. absurd (ended_some i.to point opened);
-      hidden = λ at out closed. hidden_now i.to point at (λ opened. not_serving t.presence at out (g.serves opened none)) (λ e is. ap (ended_by at) (sym is) ∙ g.hidden at out settled);
-      stands = λ closed key x ranged cut before there. (
+          ap is_some (restored_before point r.namespace r.to changes x i.table b.0) ∙ g.viewed x (passes_both (leb i.from x) (before_end x i.to) k.0 b.1)) in
+    let waits_now : (point' : ℕ) → awaited_in ((map (entering r (Restoring point serving_) (listed_then ps.master r point serving_)) ps.master.restorations)) (ps.tablet slot).tablet (ps.tablet slot).done ≡ Some point' → TurnsAt point' i.from (ended point i.to) = λ p waits. turns_now i.to i.from point p (awaited_point _ point p (sym (awaited_mine ps activity changes n r point serving_ slot i s h owner) ∙ waits)) over in
+    let comes : (r' : RestorationRecord) (point' : ℕ) → In r' ((map (entering r (Restoring point serving_) (listed_then ps.master r point serving_)) ps.master.restorations)) → awaited_of r'.state r' (ps.tablet slot).tablet (ps.tablet slot).done ≡ Some point' → (ended point i.to) ≡ None → ComesFrom (after r point changes) r'.namespace (record i { to = ended point i.to }) point' r'.to = λ q p there awaits opened. absurd (ended_some i.to point opened) in
+    let serves : (ended point i.to) ≡ None → awaited_in ((map (entering r (Restoring point serving_) (listed_then ps.master r point serving_)) ps.master.restorations)) (ps.tablet slot).tablet (ps.tablet slot).done ≡ None → is_serving (ps.tablet slot).presence ≡ true = λ opened settled_. absurd (ended_some i.to point opened) in
+    let hidden : (at : ℕ) → (ps.tablet slot).presence ≡ HiddenPart at → is_awaited (awaited_in ((map (entering r (Restoring point serving_) (listed_then ps.master r point serving_)) ps.master.restorations)) (ps.tablet slot).tablet (ps.tablet slot).done) (ended point i.to) ≡ false → ended_by at (ended point i.to) ≡ true = λ at out closed. hidden_now i.to point at (λ opened. not_serving t.presence at out (g.serves opened none)) (λ e is. ap (ended_by at) (sym is) ∙ g.hidden at out settled) in
+    let stands : is_awaited (awaited_in ((map (entering r (Restoring point serving_) (listed_then ps.master r point serving_)) ps.master.restorations)) (ps.tablet slot).tablet (ps.tablet slot).done) (ended point i.to) ≡ false → StandsIn (ps.tablet slot) (after r point changes) (record i { to = ended point i.to }) = λ closed key x ranged cut before there. (
           let b = before_it i.to x point over before in
-          g.stands settled key x ranged cut b.1 (ap is_some (sym (restored_before point r.namespace r.to changes x i.table b.0)) ∙ there) ∙ sym (rows_before point r.namespace r.to changes x i.table key b.0));
-      sets = λ f held key x ranged cut by active. (
+          g.stands settled key x ranged cut b.1 (ap is_some (sym (restored_before point r.namespace r.to changes x i.table b.0)) ∙ there) ∙ sym (rows_before point r.namespace r.to changes x i.table key b.0)) in
+    let sets : (f : FrozenSet) → In f (ps.tablet slot).frozen → SetStands f (after r point changes) (record i { to = ended point i.to }) = λ f held key x ranged cut by active. (
           let k = both_pass (leb i.from x) (before_end x (ended point i.to)) active in
           let b = before_it i.to x point over k.1 in
-          g.sets f held key x ranged cut by (passes_both (leb i.from x) (before_end x i.to) k.0 b.1) ∙ sym (rows_before point r.namespace r.to changes x i.table key b.0));
-    }
+          g.sets f held key x ranged cut by (passes_both (leb i.from x) (before_end x i.to) k.0 b.1) ∙ sym (rows_before point r.namespace r.to changes x i.table key b.0)) in
+    assumption (begun, ended_now, over_now, viewed, waits_now, comes, serves, hidden, stands, sets)
 
 begun_good : (ps : Parts) (activity : List Interval) (changes : List Change) (n : ℕ) (r : RestorationRecord) (point : ℕ) (serving_ : Id) (slot : ℕ) (i : Interval) → IsSwitch ps activity changes n r point serving_ → Holds ps slot i
     → owner_of ps.master.catalog.owners i.table ≡ Some r.namespace → active_at r.to i ≡ true → IsGood (turned ps.master r point serving_ n) (after r point changes) (ps.tablet slot) (begun_at point i)
@@ -213,21 +204,10 @@ other_good ps activity changes n r point serving_ slot i s h other =
     let same_ = awaited_other ps activity changes n r point serving_ slot i s h other in
     let rows : (x : ℕ) (key : List ℕ) → row_at (after r point changes) x i.table key ≡ row_at changes x i.table key = λ x key. row_other m.catalog.owners changes r.namespace i.table point r.to x key inside other in
     let tables : (x : ℕ) → table_at (after r point changes) x i.table ≡ table_at changes x i.table = λ x. table_other m.catalog.owners changes r.namespace i.table point r.to x inside other in
-    record {
-      past = past_later i.from m.clock n i.to (le_of_lt s.before) g.past;
-      over = g.over;
-      drawn = g.drawn;
-      drawn_table = g.drawn_table;
-      slot_from = g.slot_from;
-      slot_to = g.slot_to;
-      present = g.present;
-      tablet_is = g.tablet_is;
-      table_is = g.table_is;
-      low_is = g.low_is;
-      high_is = g.high_is;
-      viewed = λ x active. ap is_some (tables x) ∙ g.viewed x active;
-      waits = λ p waits. g.waits p (sym same_ ∙ waits);
-      comes = λ q p there found opened. in_mapped {A = RestorationRecord} {B = RestorationRecord} (entering r (Restoring point serving_) (listed_then m r point serving_))
+    let past : IsPast n i.from i.to = past_later i.from m.clock n i.to (le_of_lt s.before) g.past in
+    let viewed : (x : ℕ) → active_at x i ≡ true → is_some (table_at (after r point changes) x i.table) ≡ true = λ x active. ap is_some (tables x) ∙ g.viewed x active in
+    let waits_now : (point' : ℕ) → awaited_in ((map (entering r (Restoring point serving_) (listed_then ps.master r point serving_)) ps.master.restorations)) (ps.tablet slot).tablet (ps.tablet slot).done ≡ Some point' → TurnsAt point' i.from i.to = λ p waits. g.waits p (sym same_ ∙ waits) in
+    let comes : (r' : RestorationRecord) (point' : ℕ) → In r' ((map (entering r (Restoring point serving_) (listed_then ps.master r point serving_)) ps.master.restorations)) → awaited_of r'.state r' (ps.tablet slot).tablet (ps.tablet slot).done ≡ Some point' → i.to ≡ None → ComesFrom (after r point changes) r'.namespace i point' r'.to = λ q p there found opened. in_mapped {A = RestorationRecord} {B = RestorationRecord} (entering r (Restoring point serving_) (listed_then m r point serving_))
           (λ q. awaited_of q.state q t.tablet t.done ≡ Some p → ComesFrom (after r point changes) q.namespace i p q.to) m.restorations
           (λ x isin. by_record (λ x q. awaited_of q.state q t.tablet t.done ≡ Some p → ComesFrom (after r point changes) q.namespace i p q.to) m r (Restoring point serving_) (listed_then m r point serving_) x s.inv.operations.apart.restoration_ids s.there isin
           (λ found. absurd (let z : None ≡ Some p = sym (back_other ps activity changes n r point serving_ slot i s h other) ∙ found in grind arith))
@@ -239,12 +219,12 @@ other_good ps activity changes n r point serving_ slot i s h other =
             rows = λ key y ranged l. rows y key ∙ old.rows key y ranged l ∙ sym (rows x.to key);
             before = λ key ranged. ap (λ js. row_at js x.to i.table key) (before_other r point changes x.namespace p (other_restore r point x.namespace p apart) ∙ before_any changes x.namespace p (after r point changes) changes old.switched)
                 ∙ old.before key ranged ∙ sym (rows x.to key);
-          }))) q there found;
-      serves = λ opened settled. g.serves opened (sym same_ ∙ settled);
-      hidden = λ at out closed. g.hidden at out (ap (λ a. is_awaited a i.to) (sym same_) ∙ closed);
-      stands = λ closed key x ranged cut before there. g.stands (ap (λ a. is_awaited a i.to) (sym same_) ∙ closed) key x ranged cut before (ap is_some (sym (tables x)) ∙ there) ∙ sym (rows x key);
-      sets = λ f held key x ranged cut by active. g.sets f held key x ranged cut by active ∙ sym (rows x key);
-    }
+          }))) q there found in
+    let serves : i.to ≡ None → awaited_in ((map (entering r (Restoring point serving_) (listed_then ps.master r point serving_)) ps.master.restorations)) (ps.tablet slot).tablet (ps.tablet slot).done ≡ None → is_serving (ps.tablet slot).presence ≡ true = λ opened settled. g.serves opened (sym same_ ∙ settled) in
+    let hidden : (at : ℕ) → (ps.tablet slot).presence ≡ HiddenPart at → is_awaited (awaited_in ((map (entering r (Restoring point serving_) (listed_then ps.master r point serving_)) ps.master.restorations)) (ps.tablet slot).tablet (ps.tablet slot).done) i.to ≡ false → ended_by at i.to ≡ true = λ at out closed. g.hidden at out (ap (λ a. is_awaited a i.to) (sym same_) ∙ closed) in
+    let stands : is_awaited (awaited_in ((map (entering r (Restoring point serving_) (listed_then ps.master r point serving_)) ps.master.restorations)) (ps.tablet slot).tablet (ps.tablet slot).done) i.to ≡ false → StandsIn (ps.tablet slot) (after r point changes) i = λ closed key x ranged cut before there. g.stands (ap (λ a. is_awaited a i.to) (sym same_) ∙ closed) key x ranged cut before (ap is_some (sym (tables x)) ∙ there) ∙ sym (rows x key) in
+    let sets : (f : FrozenSet) → In f (ps.tablet slot).frozen → SetStands f (after r point changes) i = λ f held key x ranged cut by active. g.sets f held key x ranged cut by active ∙ sym (rows x key) in
+    assumption (past, viewed, waits_now, comes, serves, hidden, stands, sets)
   where
     awaiting : (state : RestorationState) (x : RestorationRecord) (p : ℕ) → awaited_of state x (ps.tablet slot).tablet (ps.tablet slot).done ≡ Some p → is_restored state ≡ false
     awaiting (Restoring at served) x p e = refl

@@ -21,7 +21,7 @@ use Rattle.law_store.proofs.Compaction.{compaction, sorted_kept, below_kept}
 use Rattle.law_store.proofs.Keys.{either_way}
 use Rattle.law_invariants.specs.Invariant.{Inv, Later}
 use Rattle.law_invariants.proofs.Ticking.{nothing_told, refused_keeps, by_checks, KeepsAll, below_later, master_before, master_ticked, slot_ticked, slots_ticked, tablet_before}
-use Rattle.law_invariants.proofs.Marked.{master_marked, slot_marked, inbox_changed}
+use Rattle.law_invariants.proofs.Marked.{master_marked, inbox_changed}
 use Rattle.law_invariants.proofs.Remembering.{remembered_on, floor_rises}
 use Rattle.law_invariants.proofs.Operating.{Onward, operations_on}
 use Rattle.model.specs.Catalog.{owner_of}
@@ -177,8 +177,8 @@ master_lost ps activity changes n later inv = record {
   right = tt;
   inv = record {
     master = master_marked (record ps.master { clock = n }) [] changes (master_ticked ps.master n changes (master_before (0 ∷ []) ps n later refl) inv.master);
-    slots = λ i. slot_marked (record ps.master { clock = n }) [] changes i _ (slot_ticked ps.master n changes i _ (master_before (0 ∷ []) ps n later refl)
-        (slots_ticked ps.master n changes i (has (0 ∷ []) i && not (eqb i 0)) (ps.tablet i) (tablet_before (0 ∷ []) ps n i later) (inv.slots i)));
+    slots = λ i. slot_ticked ps.master n changes i _ (master_before (0 ∷ []) ps n later refl)
+        (slots_ticked ps.master n changes i (has (0 ∷ []) i && not (eqb i 0)) (ps.tablet i) (tablet_before (0 ∷ []) ps n i later) (inv.slots i));
     remembered = remembered_on ps.master (restarted_master n ps.master) activity
         (record { clock = master_before (0 ∷ []) ps n later refl; schedules = refl; restorations = refl; clones = refl }) refl refl (le_refl _) (le_refl _) inv.remembered;
     cover = inv.cover;

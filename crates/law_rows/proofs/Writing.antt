@@ -1,4 +1,5 @@
 -- A write keeps what holds: its tablet reads as the view goes on, and no other tablet has its keys at its stamp.
+use Rattle.model.specs.Right.{is_fixed}
 use Rattle.std.proofs.Common.{ℕ, ◌≡◌, ◌≤◌, ◌<◌, ◌+◌, max, List, [], ◌∷◌, inl, inr, Option, Some, None, Bool, true, false, cond, not, refl, sym, ap, subst, ◌∙◌, arith, eqb, leb, ltb, ltb-false, ltb-true, le_trans, le_of_lt, lt_of_lt_of_le, fold, is_some}
 use Rattle.std.proofs.lemmas.Bool.{true≢false}
 use Rattle.std.proofs.lemmas.Bool.Decides.{nat_tests}
@@ -10,12 +11,12 @@ use Rattle.row_values.specs.Elements.{In}
 use Rattle.model.specs.Times.{before_end}
 use Rattle.row_values.specs.Ranges.{in_range}
 use Rattle.row_values.specs.Store.{written}
-use Rattle.model.specs.Catalog.{owner_of}
-use Rattle.model.specs.Activity.{Interval}
-use Rattle.model.specs.Journal.{Change, RowChanged, TableView, is_in, table_at, row_at}
+use Rattle.model.specs.Catalog.{owner_of, name_of, kept_from}
+use Rattle.model.specs.Activity.{Interval, active_at}
+use Rattle.model.specs.Journal.{Change, RowChanged, TableView, is_in, table_at, row_at, namespace_at}
 use Rattle.model.specs.Records.{Listed, RestorationRecord, RestorationState, Fencing, Snapshotting, Switching, Restoring, Releasing, Restored, point_of}
 use Rattle.model.specs.Stands.{awaited_in, awaited_of, first_of_two}
-use Rattle.model.specs.Tablets.{Tablet, Mark, act_for, effect, is_serving, serves, wrote, Write as WriteRows}
+use Rattle.model.specs.Tablets.{Tablet, Mark, act_for, effect, is_serving, serves, wrote, Write as WriteRows, FrozenSet}
 use Rattle.model.specs.Acts.{At, Write, Ok, Fenced, StaleSchema}
 use Rattle.model.specs.Parts.{Master, Parts, If, Names}
 use Rattle.model.specs.Entries.{slots_of}
@@ -25,11 +26,11 @@ use Rattle.law_store.specs.Sorted.{item_step, EachItemKey}
 use Rattle.law_store.proofs.Members.{keys_written}
 use Rattle.law_store.proofs.Keys.{either_way}
 use Rattle.law_store.proofs.Writing.{read_written, read_written_before, sorted_written, below_written}
-use Rattle.law_invariants.specs.Invariant.{Inv, Later, SlotGood, SlotWorks, Covered, MasterGood}
+use Rattle.law_invariants.specs.Invariant.{Inv, Later, SlotGood, SlotWorks, Covered, MasterGood, ComesFrom, StandsIn, is_awaited, SetStands, IsGoodIn, view_at}
 use Rattle.law_invariants.specs.Operations.{IsOpenOf, RestorationStateGood, is_switched, OperationsGood, JournalGood}
 use Rattle.law_invariants.proofs.Undoing.{before_none, owned_is}
 use Rattle.row_values.specs.declared.value.RowOp.{RowOp}
-use Rattle.law_invariants.specs.Orders.{RestorationSlot, FencingSlot, CopyingSlot, CloneSlot, RowsPast}
+use Rattle.law_invariants.specs.Orders.{RestorationSlot, FencingSlot, CopyingSlot, CloneSlot, RowsPast, directory}
 use Rattle.law_invariants.proofs.Hearing.{effect_clock}
 use Rattle.law_invariants.proofs.Ordering.{SourcesStay, orders_mild, obeyed_mild}
 use Rattle.law_invariants.proofs.Working.{SameFixed, comes_on, tables_drawn, all_listed, operations_journal, works_journal}
@@ -44,34 +45,12 @@ use Rattle.law_rows.proofs.Rows.{row_change, rows_in, unswitched_stay, tables_st
 master_written : (m : Master) (n : ℕ) (table : Id) (batch : List Item) (changes : List Change) → MasterGood m changes → MasterGood m (rows_made n table batch changes)
 master_written m n table batch changes h =
     let after = rows_made n table batch changes in
-    record {
-      namespaces = record {
-        past = h.namespaces.past;
-        drawn_before = h.namespaces.drawn_before;
-        unique = h.namespaces.unique;
-        found = h.namespaces.found;
-        viewed = λ id x le. namespaces_stay batch n table changes x id ∙ h.namespaces.viewed id x le;
-      };
-      tables = record {
-        past = h.tables.past;
-        drawn_before = h.tables.drawn_before;
-        owned = h.tables.owned;
-        owners_drawn = h.tables.owners_drawn;
-        unique = h.tables.unique;
-        found = h.tables.found;
-        viewed = λ id ns x owner le. tables_stay batch n table changes x id ∙ h.tables.viewed id ns x owner le;
-        unmade = λ id x owner. tables_stay batch n table changes x id ∙ h.tables.unmade id x owner;
-        kept = h.tables.kept;
-        columns = h.tables.columns;
-        rise = h.tables.rise;
-        inside = λ id x v found. h.tables.inside id x v (sym (tables_stay batch n table changes x id) ∙ found);
-      };
-      marks = h.marks;
-      past = λ ns to is. h.past ns to (sym (fixed_stay batch n table changes ns to) ∙ is);
-      complete = h.complete;
-      listed = h.listed;
-      listed_of = h.listed_of;
-    }
+    let viewed : (id : Id) (x : ℕ) → m.clock ≤ x → namespace_at (rows_made n table batch changes) x id ≡ name_of m.catalog.namespaces id = λ id x le. namespaces_stay batch n table changes x id ∙ h.namespaces.viewed id x le in
+    let viewed_now : (id ns : Id) (x : ℕ) → owner_of m.catalog.owners id ≡ Some ns → kept_from m.catalog.kept_from ns ≤ x → table_at (rows_made n table batch changes) x id ≡ view_at m.catalog.tables x id = λ id ns x owner le. tables_stay batch n table changes x id ∙ h.tables.viewed id ns x owner le in
+    let unmade : (id : Id) (x : ℕ) → owner_of m.catalog.owners id ≡ None → table_at (rows_made n table batch changes) x id ≡ None = λ id x owner. tables_stay batch n table changes x id ∙ h.tables.unmade id x owner in
+    let inside : (id : Id) (x : ℕ) (v : TableView) → table_at (rows_made n table batch changes) x id ≡ Some v → owner_of m.catalog.owners id ≡ Some v.namespace = λ id x v found. h.tables.inside id x v (sym (tables_stay batch n table changes x id) ∙ found) in
+    let past : (ns : Id) (to : ℕ) → is_fixed (rows_made n table batch changes) ns to ≡ true → to ≤ m.clock = λ ns to is. h.past ns to (sym (fixed_stay batch n table changes ns to) ∙ is) in
+    assumption (viewed, viewed_now, unmade, inside, past)
 
 cover_written : (activity : List Interval) (n : ℕ) (table : Id) (batch : List Item) (changes : List Change) → Covered activity changes → Covered activity (rows_made n table batch changes)
 cover_written activity n table batch changes h = record { once = h.once; whole = λ t code x below is. h.whole t code x below (ap is_some (sym (tables_stay batch n table changes x t)) ∙ is); ranges = h.ranges }
@@ -93,36 +72,18 @@ slot_stays : (m : Master) (n : ℕ) (table : Id) (batch : List Item) (changes : 
     → ((i : Interval) (key : List ℕ) (x : ℕ) → In i m.activity → i.slot ≡ slot → in_range i.low i.high (code_of key) ≡ true → before_end x i.to ≡ true
     → row_at (rows_made n table batch changes) x i.table key ≡ row_at changes x i.table key)
     → SlotGood m changes slot t → SlotGood m (rows_made n table batch changes) slot t
-slot_stays m n table batch changes slot t stays h = record {
-  good = h.good;
-  home = h.home;
-  numbered = h.numbered;
-  each = λ i isin is. let g = h.each i isin is in record {
-    past = g.past;
-    over = g.over;
-    drawn = g.drawn;
-    drawn_table = g.drawn_table;
-    slot_from = g.slot_from;
-    slot_to = g.slot_to;
-    present = g.present;
-    tablet_is = g.tablet_is;
-    table_is = g.table_is;
-    low_is = g.low_is;
-    high_is = g.high_is;
-    viewed = λ x active. ap is_some (tables_stay batch n table changes x i.table) ∙ g.viewed x active;
-    waits = g.waits;
-    comes = λ r point kept awaits opened. comes_on changes (rows_made n table batch changes) r.namespace i point r.to (rows_fixed n table batch changes) (λ key x ranged. stays i key x isin is ranged (ap (before_end x) opened))
-        (g.comes r point kept awaits opened);
-    serves = g.serves;
-    hidden = g.hidden;
-    stands = λ counted key x ranged cut before there.
-        g.stands counted key x ranged cut before (ap is_some (sym (tables_stay batch n table changes x i.table)) ∙ there) ∙ sym (stays i key x isin is ranged before);
-    sets = λ f held key x ranged cut by active. g.sets f held key x ranged cut by active ∙ sym (stays i key x isin is ranged (both_pass (leb i.from x) (before_end x i.to) active).1);
-  };
-  opens = h.opens;
-  shown = λ serving unfenced x cut. ap is_some (tables_stay batch n table changes x t.table) ∙ h.shown serving unfenced x cut;
-  later = λ ns to is. h.later ns to (sym (fixed_stay batch n table changes ns to) ∙ is);
-}
+slot_stays m n table batch changes slot t stays h =
+    let each : (i : Interval) → In i m.activity → i.slot ≡ slot → IsGoodIn m.clock m.slots (directory m) (rows_made n table batch changes) t i = λ i isin is. let g = h.each i isin is in
+    let viewed : (x : ℕ) → active_at x i ≡ true → is_some (table_at (rows_made n table batch changes) x i.table) ≡ true = λ x active. ap is_some (tables_stay batch n table changes x i.table) ∙ g.viewed x active in
+    let comes : (r : RestorationRecord) (point : ℕ) → In r m.restorations → awaited_of r.state r t.tablet t.done ≡ Some point → i.to ≡ None → ComesFrom (rows_made n table batch changes) r.namespace i point r.to = λ r point kept awaits opened. comes_on changes (rows_made n table batch changes) r.namespace i point r.to (rows_fixed n table batch changes) (λ key x ranged. stays i key x isin is ranged (ap (before_end x) opened))
+        (g.comes r point kept awaits opened) in
+    let stands : is_awaited (awaited_in m.restorations t.tablet t.done) i.to ≡ false → StandsIn t (rows_made n table batch changes) i = λ counted key x ranged cut before there.
+        g.stands counted key x ranged cut before (ap is_some (sym (tables_stay batch n table changes x i.table)) ∙ there) ∙ sym (stays i key x isin is ranged before) in
+    let sets : (f : FrozenSet) → In f t.frozen → SetStands f (rows_made n table batch changes) i = λ f held key x ranged cut by active. g.sets f held key x ranged cut by active ∙ sym (stays i key x isin is ranged (both_pass (leb i.from x) (before_end x i.to) active).1) in
+    assumption (viewed, comes, stands, sets) in
+    let shown : is_serving t.presence ≡ true → t.fence ≡ None → (x : ℕ) → t.cutoff ≤ x → is_some (table_at (rows_made n table batch changes) x t.table) ≡ true = λ serving unfenced x cut. ap is_some (tables_stay batch n table changes x t.table) ∙ h.shown serving unfenced x cut in
+    let later : (ns : Id) (to : ℕ) → is_fixed (rows_made n table batch changes) ns to ≡ true → is_serving t.presence ≡ true → t.fence ≡ None → owner_of m.catalog.owners t.table ≡ Some ns → to ≤ t.clock = λ ns to is. h.later ns to (sym (fixed_stay batch n table changes ns to) ∙ is) in
+    assumption (each, shown, later)
 
 eqb_at : (a b : ℕ) → a ≡ b → eqb a b ≡ true
 eqb_at a b e = grind (arith, nat_tests)
@@ -213,11 +174,10 @@ sources_stay m n batch changes slot t less serving unfenced all operations works
 fenced_then : (state : RestorationState) (m : Master) (changes : List Change) (r : RestorationRecord) (slot : ℕ) (t : Tablet) (point : ℕ) (i : Interval) → point_of state ≡ Some point → is_switched changes r.namespace point ≡ false
     → RestorationStateGood state m changes r → RestorationSlot state m changes r slot t → IsOpenOf m r.namespace i → i.slot ≡ slot → t.fence ≡ Some r.id
 fenced_then Fencing m changes r slot t point i at none good h opened is = absurd (let q = at in grind arith)
-fenced_then (Snapshotting p own) m changes r slot t point i at none good h opened is = h.fenced i opened is
-fenced_then (Switching p served) m changes r slot t point i at none good h opened is = h.fenced i opened is
 fenced_then (Restoring p served) m changes r slot t point i at none good h opened is = absurd (let e : p ≡ point = cc in true≢false (sym good.switched ∙ ap (is_switched changes r.namespace) e ∙ none))
 fenced_then (Releasing p served) m changes r slot t point i at none good h opened is = absurd (let e : p ≡ point = cc in true≢false (sym good.switched ∙ ap (is_switched changes r.namespace) e ∙ none))
 fenced_then (Restored p served) m changes r slot t point i at none good h opened is = absurd (let e : p ≡ point = cc in true≢false (sym good.switched ∙ ap (is_switched changes r.namespace) e ∙ none))
+fenced_then _ m changes r slot t point i at none good h opened is = h.fenced i opened is
 
 row_is : (n : ℕ) (of table : Id) (item : Item) (c : Change) (key : List ℕ) (op : RowOp) → c ≡ row_change n of item → c.act ≡ RowChanged table key op → of ≡ table
 row_is n of table item c key op e is = let q : RowChanged of item.key item.op ≡ RowChanged table key op = sym (ap (λ k. k.act) e) ∙ is in cc

@@ -81,13 +81,8 @@ remembered_split m n changes activity p code a b s ops h =
 -- Operations
 
 two_more : (d : Drawn) (kind : Kind) → drawn_of kind d ≤ drawn_of kind (record d { tablets = d.tablets + 2 })
-two_more d Namespace = le_refl _
-two_more d Table = le_refl _
 two_more d TabletKind = omega arith
-two_more d Schedule = le_refl _
-two_more d Snapshot = le_refl _
-two_more d Restoration = le_refl _
-two_more d Clone = le_refl _
+two_more d _ = le_refl _
 
 -- a tablet has its intervals in one slot, and of one table
 abbrev pub OfParent : Master → Interval → Type 0

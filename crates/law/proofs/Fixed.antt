@@ -1,5 +1,5 @@
 -- After each entry of a legal history what its restores fixed is as it was, and nothing came too late for it.
-use Rattle.std.proofs.Common.{ℕ, ◌≡◌, ◌≤◌, ◌<◌, List, [], ◌∷◌, Option, Some, None, true, false, not, refl, sym, ap, subst, ◌∙◌, arith, le_refl, eqb, Bool}
+use Rattle.std.proofs.Common.{ℕ, ◌≡◌, ◌≤◌, ◌<◌, List, [], ◌∷◌, Option, Some, None, true, false, not, refl, sym, ap, subst, ◌∙◌, arith, le_refl, eqb, eqb-true, Bool}
 use Rattle.std.specs.Option.{is_some}
 use Rattle.std.proofs.lemmas.Bool.{true≢false}
 use Rattle.std.proofs.lemmas.Bool.Decides.{nat_tests}
@@ -10,7 +10,7 @@ use Rattle.row_values.specs.Schema.{numbered}
 use Rattle.model.specs.Catalog.{Owner, is_owned_by, owner_of}
 use Rattle.model.specs.Activity.{Interval}
 use Rattle.model.specs.Tablets.{Told, Tablet, Write as WriteRows, is_serving, serves}
-use Rattle.model.specs.Records.{RestorationRecord, RestorationState, Switching, CloneRecord, first_unacked}
+use Rattle.model.specs.Records.{RestorationRecord, RestorationState, Switching, CloneRecord, CloneState, Copying, first_unacked}
 use Rattle.std.specs.Prelude.{Result, Ok, Err}
 use Rattle.model.specs.Acts.{ListSchedules, ListSnapshots, ListRestorations, ListClones, ListTablets, Split, CreateSchedule, EditSchedule, DeleteSchedule, TakeSnapshot, Restore, CloneNamespace, StaleSchema, Fenced, At, Command, CreateNamespace, DropNamespace, CreateTable, AddColumn, DropColumn, RenameTable, DropTable, Act, Change, Write, Advance, Ok, Refusal, Ok as ReplyOk}
 use Rattle.model.specs.Journal as made
@@ -25,17 +25,17 @@ use Rattle.model.specs.Coordination.{unfinished_restoration, unfinished_clone}
 use Rattle.model.specs.Right.{fixes, is_fixed}
 use Rattle.model.specs.Strict.{FixedStays}
 use Rattle.model.specs.Entries.{Entry, ActAsked, slots_of}
-use Rattle.model.specs.History.{outcome, replay, journal_of, activity_of, Legal, with, with_rows, rows_made, with_master, with_restoration, with_either, with_changes}
+use Rattle.model.specs.History.{outcome, replay, journal_of, activity_of, Legal, with, with_rows, rows_made, with_master, with_restoration, with_clone, with_either, with_changes}
 use Rattle.law_cleanup.proofs.Forgetting.{not_false}
 use Rattle.law_invariants.specs.Invariant.{Inv, Later, Passes}
 use Rattle.law_invariants.specs.Operations.{RestorationStateGood}
 use Rattle.law_invariants.proofs.Finding.{both_pass, none_or_some, not_some_is, same_equal}
 use Rattle.law_rows.proofs.Keeping.{clock_before}
-use Rattle.law_moves.proofs.Advancing.{no_clone}
-use Rattle.law_moves.proofs.Pending.{unfinished_restoration_is}
-use Rattle.law.specs.Covering.{AdvanceCovered, ActCovered, Covered}
+use Rattle.law_moves.proofs.Pending.{unfinished_restoration_is, unfinished_clone_is}
 use Rattle.law.proofs.Law.{legal_holds, stamps_later}
-use Rattle.law.proofs.Fixing.{ViewOwned, plain_owned, made_owned, restored_owned, rows_owned, later_fixed, rows_fixed, restore_fixed, stays_home}
+use Rattle.law.proofs.Fixing.{ViewOwned, plain_owned, made_owned, restored_owned, cloned_owned, rows_owned, soon_fixed, later_fixed, rows_fixed, restore_fixed, stays_home}
+use Rattle.row_values.specs.Elements.{In}
+use Rattle.law_clones.proofs.Growing.{Becomes, unmade}
 
 -- what holds of a journal
 pub record JournalFixed (changes : List made.Change) : Type 0 where
@@ -175,20 +175,33 @@ restoration_fixed (Switching point serving) r m changes good h = record {
 }
 restoration_fixed _ r m changes good h = h
 
-either_fixed : (restoration : Option RestorationRecord) (clone : Option CloneRecord) (n : ℕ) (m : Master) (changes : List made.Change)
-    → ((r : RestorationRecord) → restoration ≡ Some r → RestorationStateGood r.state m changes r) → clone ≡ None
-    → JournalFixed changes → JournalFixed (with_either restoration clone n changes)
-either_fixed (Some r) clone n m changes good none h = restoration_fixed r.state r m changes (good r refl) h
-either_fixed None (Some c) n m changes good none h = absurd (let q = none in grind arith)
-either_fixed None None n m changes good none h = h
+clone_fixed : (state : CloneState) (r : CloneRecord) (ps : Parts) (activity : List Interval) (changes : List made.Change) (n : ℕ) → ps.master.clock < n → In r ps.master.clones → r.state ≡ state → Inv ps activity changes
+    → JournalFixed changes → JournalFixed (with_clone state r n changes)
+clone_fixed (Copying serving at) r ps activity changes n before kept is inv h =
+    let b : Becomes ps activity changes n r serving at = record { before = before; kept = kept; is = is; inv = inv } in
+    let good = inv.operations.clones r kept in
+    record {
+      owned = cloned_owned n r changes good.tables_apart (unmade ps activity changes n r serving at b) h.owned;
+      stays = soon_fixed n (made.NamespaceCloned r.source r.target_id r.target r.to r.tables) changes
+          (λ ns t fixes_. let e : r.to ≡ t = eqb-true r.to t (both_pass (same r.source ns) (eqb r.to t) fixes_).1 in let l = good.past in omega arith)
+          (λ ns t fixed. let l = inv.master.past ns t fixed in omega (arith, l, before)) h.stays;
+    }
+clone_fixed _ r ps activity changes n before kept is inv h = h
 
-advance_fixed : (ps : Parts) (activity : List Interval) (changes : List made.Change) (n : ℕ) (operation : Id) → Inv ps activity changes
-    → AdvanceCovered operation.kind → JournalFixed changes
+either_fixed : (restoration : Option RestorationRecord) (clone : Option CloneRecord) (n : ℕ) (m : Master) (changes : List made.Change)
+    → ((r : RestorationRecord) → restoration ≡ Some r → RestorationStateGood r.state m changes r) → ((r : CloneRecord) → clone ≡ Some r → JournalFixed (with_clone r.state r n changes))
+    → JournalFixed changes → JournalFixed (with_either restoration clone n changes)
+either_fixed (Some r) clone n m changes good clones h = restoration_fixed r.state r m changes (good r refl) h
+either_fixed None (Some c) n m changes good clones h = clones c refl
+either_fixed None None n m changes good clones h = h
+
+advance_fixed : (ps : Parts) (activity : List Interval) (changes : List made.Change) (n : ℕ) (operation : Id) → ps.master.clock < n → Inv ps activity changes
+    → JournalFixed changes
     → JournalFixed (with_either (unfinished_restoration ps.master.restorations operation) (unfinished_clone ps.master.clones operation) n changes)
-advance_fixed ps activity changes n operation inv covered h =
+advance_fixed ps activity changes n operation before inv h =
     either_fixed (unfinished_restoration ps.master.restorations operation) (unfinished_clone ps.master.clones operation) n ps.master changes
     (λ r found. (inv.operations.restorations r (unfinished_restoration_is ps.master.restorations operation r found).0).in_state)
-    (no_clone ps.master changes operation inv.operations (λ kind. subst AdvanceCovered kind covered))
+    (λ r found. clone_fixed r.state r ps activity changes n before (unfinished_clone_is ps.master.clones operation r found).0 refl inv h)
     h
 
 -- Each act
@@ -210,32 +223,32 @@ advanced_fixed (Some p) operation n m changes h moved_ = by (waits_for (first_un
     by None = moved_
 
 act_fixed : (act : Act) (slots n : ℕ) (ps : Parts) (activity : List Interval) (changes : List made.Change) (os : List Owner)
-    → Later (slots_of act) ps n → ActAsked slots act → ActCovered act → Inv ps activity changes
+    → Later (slots_of act) ps n → ActAsked slots act → Inv ps activity changes
     → Inside os (with_changes act (outcome act n ps) n ps changes) → JournalFixed changes → JournalFixed (with_changes act (outcome act n ps) n ps changes)
 unfolding advance
-act_fixed (Change command plan) slots n ps activity changes os later asked covered inv inside h =
+act_fixed (Change command plan) slots n ps activity changes os later asked inv inside h =
     master_fixed (change command plan n ps).master n ps.master changes os (change_still command plan n ps)
     (λ ns t fixed. let past : t ≤ ps.master.clock = inv.master.past ns t fixed in let less : ps.master.clock < n = later 0 refl in omega arith) inside h
-act_fixed (Write place version batch) slots n ps activity changes os later asked covered inv inside h =
+act_fixed (Write place version batch) slots n ps activity changes os later asked inv inside h =
     if_written (write place version batch n ps).tablets n (ps.tablet place.slot).table batch changes h
     (λ ok. written_fixed ps activity changes n place batch later asked.0.0 inv (writable ps n place version batch ok) h)
-act_fixed (Advance operation) slots n ps activity changes os later asked covered inv inside h =
-    advanced_fixed (progress_of operation.kind ps.master operation) operation n ps.master changes h (advance_fixed ps activity changes n operation inv covered h)
-act_fixed _ slots n ps activity changes os later asked covered inv inside h = h
+act_fixed (Advance operation) slots n ps activity changes os later asked inv inside h =
+    advanced_fixed (progress_of operation.kind ps.master operation) operation n ps.master changes h (advance_fixed ps activity changes n operation (later 0 refl) inv h)
+act_fixed _ slots n ps activity changes os later asked inv inside h = h
 
 -- what holds of the journal of a legal history
-journal_fixed : (history : List Entry) (slots : ℕ) → Legal slots history → Covered history → JournalFixed (journal_of slots history)
+journal_fixed : (history : List Entry) (slots : ℕ) → Legal slots history → JournalFixed (journal_of slots history)
 unfolding journal_of
-journal_fixed [] slots legal covered =
+journal_fixed [] slots legal =
     record { owned = record { owned = λ id x v e. absurd (let q = e in grind arith) }; stays = record { none_late = tt; same = tt } }
-journal_fixed (e ∷ earlier) slots legal covered =
-    let before = legal_holds earlier slots legal.0 covered.0 in
-    let after = legal_holds (e ∷ earlier) slots legal covered in
+journal_fixed (e ∷ earlier) slots legal =
+    let before = legal_holds earlier slots legal.0 in
+    let after = legal_holds (e ∷ earlier) slots legal in
     let step = legal.1 in
     act_fixed e.event.act slots e.stamp (replay slots earlier) (activity_of slots earlier) (journal_of slots earlier)
     (replay slots (e ∷ earlier)).master.catalog.owners
-    (stamps_later e (replay slots earlier) step.stamp) step.asked.act covered.1 before.inv after.inv.master.tables.inside
-    (journal_fixed earlier slots legal.0 covered.0)
+    (stamps_later e (replay slots earlier) step.stamp) step.asked.act before.inv after.inv.master.tables.inside
+    (journal_fixed earlier slots legal.0)
 
-pub fixed_stays : (history : List Entry) (slots : ℕ) → Legal slots history → Covered history → FixedStays (journal_of slots history)
-fixed_stays history slots legal covered = (journal_fixed history slots legal covered).stays
+pub fixed_stays : (history : List Entry) (slots : ℕ) → Legal slots history → FixedStays (journal_of slots history)
+fixed_stays history slots legal = (journal_fixed history slots legal).stays

@@ -1,6 +1,6 @@
 -- What restores fixed stays as it was: of journals alone. The view has each table in the namespace in which it was made, and so a change
 -- of one namespace leaves the view of another as it is.
-use Rattle.std.proofs.Common.{ℕ, ◌≡◌, ◌<◌, List, [], ◌∷◌, Option, Some, None, Bool, true, false, cond, ◌&&◌, ◌||◌, ◌==◌, ◌++◌, ◌⊎◌, inl, inr, le_refl, not, refl, sym, ap, subst, ◌∙◌, arith, leb, eqb, eqb-true}
+use Rattle.std.proofs.Common.{ℕ, ◌≡◌, ◌<◌, List, [], ◌∷◌, Option, Some, None, Bool, true, false, cond, ◌&&◌, ◌||◌, ◌==◌, ◌++◌, ◌⊎◌, inl, inr, le_refl, not, refl, sym, ap, subst, ◌∙◌, arith, leb, leb-true, leb-false, eqb, eqb-true}
 use Rattle.std.specs.Option.{is_some, option_or}
 use Rattle.std.specs.Str.{bytes_eq}
 use Rattle.std.proofs.lemmas.Bool.{true≢false}
@@ -12,13 +12,17 @@ use Rattle.row_values.specs.Ids.{Id, same}
 use Rattle.std.specs.List.{filter}
 use Rattle.row_values.specs.Schema.{Column}
 use Rattle.model.specs.Catalog.{Owner, is_owned_by, owner_of}
-use Rattle.model.specs.Journal.{Change, ChangeAct, NamespaceMade, NamespaceDropped, TableMade, TableRenamed, TableDropped, ColumnAdded, ColumnDropped, RowChanged, NamespaceRestored, NamespaceCloned, TableView, is_in, renamed, with_column, without_column, restored_table, restored_row, table_after, namespace_at, table_at, row_at, owner_by, owner_in}
+use Rattle.model.specs.Journal.{Change, ChangeAct, NamespaceMade, NamespaceDropped, TableMade, TableRenamed, TableDropped, ColumnAdded, ColumnDropped, RowChanged, NamespaceRestored, NamespaceCloned, TableView, is_in, renamed, with_column, without_column, moved_to, restored_table, restored_row, table_after, namespace_at, table_at, row_at, owner_by, owner_in}
 use Rattle.model.specs.Right.{fixes, is_fixed, SameThen, StillSame}
 use Rattle.model.specs.Strict.{FixedStays}
 use Rattle.model.specs.History.{with, rows_made}
 use Rattle.law_store.proofs.Keys.{either_way}
 use Rattle.law_invariants.proofs.Journaling.{made_here, made_others}
 use Rattle.law_invariants.proofs.Finding.{both_pass, either_is, either_passes, not_passing, same_equal, same_self}
+use Rattle.row_values.specs.Elements.{In}
+use Rattle.model.specs.Records.{IdPair, CloneRecord}
+use Rattle.law_invariants.specs.Operations.{PairsApart}
+use Rattle.law_clones.proofs.Viewing.{clone, by_source, source_is, table_early, table_aside, table_target}
 
 -- The view is the same
 
@@ -173,6 +177,22 @@ restored_owned point ns to changes o = record {
       (λ b. o.owned id x v (rw b at e));
 }
 
+moved_view : (ns : Id) (t : Option TableView) (v : TableView) → moved_to ns t ≡ Some v → v.namespace ≡ ns
+moved_view ns None v e = absurd (let q = e in grind arith)
+moved_view ns (Some u) v e = let is : record u { namespace = ns } ≡ v = cc in ap (λ w. w.namespace) (sym is)
+
+-- a clone makes tables in its target, of which the view had none
+pub cloned_owned : (n : ℕ) (r : CloneRecord) (changes : List Change) → PairsApart r.tables → ((d : IdPair) (x : ℕ) → In d r.tables → table_at changes x d.target ≡ None) → ViewOwned changes → ViewOwned (clone n r changes)
+cloned_owned n r changes apart unmade o = record {
+  owned = λ id x v e. by_source r.tables id
+      (λ none. ap (λ s. option_or (cond (is_some s) (Some r.target_id) None) (owner_in changes id)) none ∙ o.owned id x v (sym (table_aside n r changes x id none) ∙ e))
+      (λ d isin is. subst (λ i. table_at (clone n r changes) x i ≡ Some v → owner_in (clone n r changes) i ≡ Some v.namespace) is (λ there.
+      ap (λ s. option_or (cond (is_some s) (Some r.target_id) None) (owner_in changes d.target)) (source_is r.tables d apart isin)
+      ∙ either_way (leb n x)
+      (λ l. ap Some (sym (moved_view r.target_id (table_at changes r.to d.source) v (sym (table_target n r changes x d apart isin (leb-true n x l)) ∙ there))))
+      (λ l. absurd (let q : None ≡ Some v = sym (table_early n r changes x d.target (leb-false n x l) ∙ unmade d x isin) ∙ there in grind arith))) e);
+}
+
 pub rows_owned : (items : List Item) (n : ℕ) (table : Id) (changes : List Change) → ViewOwned changes → ViewOwned (rows_made n table items changes)
 rows_owned [] n table changes o = o
 rows_owned (item ∷ items) n table changes o =
@@ -238,16 +258,21 @@ restored_same point ns to changes other t o apart = record { name = one_way (leb
 
 -- One more change
 
--- one that neither restores nor clones, after all fixed times
-pub later_fixed : (n : ℕ) (act : ChangeAct) (changes : List Change) → ((ns : Id) (t : ℕ) → fixes act ns t ≡ false)
+-- one after all fixed times, and after those that it fixes itself
+pub soon_fixed : (n : ℕ) (act : ChangeAct) (changes : List Change) → ((ns : Id) (t : ℕ) → fixes act ns t ≡ true → t < n)
     → ((ns : Id) (t : ℕ) → is_fixed changes ns t ≡ true → t < n) → FixedStays changes → FixedStays (with n act changes)
-later_fixed n act changes plain past stays = record {
+soon_fixed n act changes soon past stays = record {
   none_late = (stays.none_late, λ ns t fixed of_it. past ns t fixed);
   same = (
     still_more changes changes (with n act changes) stays.same (λ ns t fixed. ahead n act changes ns t (past ns t fixed)),
-    λ ns t fixed. absurd (true≢false (sym fixed ∙ plain ns t)),
+    λ ns t fixed. ahead n act changes ns t (soon ns t fixed),
   );
 }
+
+-- one that neither restores nor clones
+pub later_fixed : (n : ℕ) (act : ChangeAct) (changes : List Change) → ((ns : Id) (t : ℕ) → fixes act ns t ≡ false)
+    → ((ns : Id) (t : ℕ) → is_fixed changes ns t ≡ true → t < n) → FixedStays changes → FixedStays (with n act changes)
+later_fixed n act changes plain past stays = soon_fixed n act changes (λ ns t fixed. absurd (true≢false (sym fixed ∙ plain ns t))) past stays
 
 -- a row, after the fixed times of the namespace in which its table was made
 row_same : (n : ℕ) (table : Id) (item : Item) (changes : List Change) (ns : Id) (t : ℕ) → ViewOwned changes → is_owned_by (owner_in changes table) ns ≡ false

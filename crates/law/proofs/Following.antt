@@ -1,46 +1,52 @@
--- The acts that follow a look are asked, and covered: the look's reply has slots of the cluster alone, and for a read at least one.
-use Rattle.std.proofs.Common.{ℕ, ◌≡◌, ◌≤◌, ◌<◌, ◌^◌, List, [], ◌∷◌, true, ◌&&◌, Option, Some, None, inl, inr, refl, sym, ap, subst, arith, leb, leb-true, map, length, take, ◌∙◌}
+-- The acts that follow a look are asked: the look's reply has slots of the cluster alone, and for a read at least one.
+use Rattle.std.proofs.Common.{ℕ, ◌≡◌, ◌≤◌, ◌<◌, ◌^◌, List, [], ◌∷◌, ◌++◌, Bool, true, false, cond, not, eqb, ◌⊎◌, ◌&&◌, Option, Some, None, inl, inr, refl, sym, ap, subst, arith, leb, leb-true, map, length, take, ◌∙◌}
 use Rattle.std.proofs.lemmas.Bool.{cond_both}
 use Rattle.std.proofs.lemmas.List.{length-map}
 use Rattle.row_values.specs.Codes.{code_of}
 use Rattle.row_values.specs.declared.value.Item.{Item}
-use Rattle.row_values.specs.Ids.{Id, same}
+use Rattle.row_values.specs.Ids.{Id, Kind, Tablet, Snapshot, same}
 use Rattle.row_values.specs.Elements.{In, AllOf}
 use Rattle.row_values.specs.Ranges.{in_range}
 use Rattle.row_values.specs.Schema.{Column}
-use Rattle.model.specs.Activity.{Interval, active_at}
+use Rattle.model.specs.Activity.{Interval, active_at, last_of}
 use Rattle.model.specs.Journal.{Change as Made}
 use Rattle.model.specs.Acts as acts
-use Rattle.model.specs.Acts.{NamedOp, NamedUpsert, NamedDelete, NamedItem, Command, Ask, AskPlan, AskKeys, AskTable, AskPresent, Place, Act, Look, Cutoff, Compact, Reply, Placed, Refusal, SlotsFull}
+use Rattle.model.specs.Acts.{NamedOp, NamedUpsert, NamedDelete, NamedItem, Command, Ask, AskPlan, AskKeys, AskTable, AskPresent, AskRemovable, Removal, Remove, Prune, Place, Act, Look, Cutoff, Compact, Reply, Placed, Refusal, SlotsFull}
 use Rattle.model.specs.Parts.{Master, Parts}
 use Rattle.row_values.specs.Slots.{rising}
 use Rattle.model.specs.Looks.{look_plan, look_present, plan_of, least_slots, free_slots, found_namespace, found_table, found_parent, Family, family, found_family, slots_for, slots_of_table, place_of}
-use Rattle.model.specs.Entries.{IsSlot, IsName, IsNamedOp, IsNamedBatch, IsTime, ActAsked, CommandAsked}
+use Rattle.model.specs.Entries.{IsSlot, IsRemovable, IsName, IsNamedOp, IsNamedBatch, IsTime, ActAsked, CommandAsked}
 use Rattle.row_values.specs.Batches.{IsKey, IsValue, IsOp, IsBatch}
 use Rattle.model.specs.History.{look}
 use Rattle.model.specs.Left.{left}
 use Rattle.model.specs.Settling.{coordinated}
 use Rattle.model.specs.Replies.{ReplyRight}
 use Rattle.model.specs.Right.{IsActivePlace, PlacesRight, holds_keys}
-use Rattle.model.specs.Scripts.{ScriptCommand, Tick, Lag, CreateNamespace, DropNamespace, CreateTable, AddColumn, DropColumn, RenameTable, DropTable, WriteRows, ReadRow, ReadTable, Split, CreateSchedule, EditSchedule, DeleteSchedule, TakeSnapshot, Restore, CloneNamespace, ListSchedules, ListSnapshots, ListRestorations, ListClones, ListTablets, RaiseCutoffs, CompactTablets, CleanUp, Coordinate, Settle, RestartMaster, RestartTablet, ShowStats, ShowHistory, time_at, asked_at}
-use Rattle.model_runs.specs.Courses.{Found, found_by, Course, SetReading, SetLag, Perform, LookFor, WorkOff, ShowEntries, tell, plan_and_tell, course_of, key_alone, at_place, cell_by_id, op_by_id, item_by_id, write_at, write_into, change_under, read_from, at_each, CourseAsked}
+use Rattle.model.specs.Scripts.{ScriptCommand, Tick, Lag, CreateNamespace, DropNamespace, CreateTable, AddColumn, DropColumn, RenameTable, DropTable, WriteRows, ReadRow, ReadTable, Split, CreateSchedule, DeleteSchedule, TakeSnapshot, Restore, CloneNamespace, ListSchedules, ListSnapshots, ListRestorations, ListClones, ListTablets, RaiseCutoffs, CompactTablets, CleanUp, Coordinate, Settle, RestartMaster, RestartTablet, ShowStats, ShowHistory, time_at, asked_at, EditSchedule}
+use Rattle.model_runs.specs.Courses.{Found, found_by, Course, SetReading, SetLag, Perform, LookFor, WorkOff, ShowEntries, tell, plan_and_tell, course_of, key_alone, at_place, cell_by_id, op_by_id, item_by_id, write_at, write_into, change_under, read_from, at_each, remove_each, CourseAsked}
 use Rattle.law_invariants.specs.Invariant.{Inv}
-use Rattle.law_invariants.proofs.Finding.{both_pass, passes_both, same_equal, in_mapped}
+use Rattle.law_invariants.proofs.Finding.{none_or_some, both_pass, passes_both, same_equal, in_mapped, filter_in}
 use Rattle.law_invariants.proofs.Overlap.{code_below, holder_there}
 use Rattle.law_invariants.proofs.Remembering.{still_kept}
-use Rattle.law.specs.Covering.{CommandCovered, ActCovered}
-use Rattle.law.specs.Scripts.{ScriptCovered}
+use Rattle.law.proofs.TabletKinds.{KindsGood}
 use Rattle.law_changes.proofs.Plans.{has_in, in_has, rising_has, planned_active}
 use Rattle.law_changes.proofs.Free.{least_free}
 use Rattle.law_invariants.proofs.Judging.{and_found_is}
 use Rattle.law_splits.proofs.Parents.{parent_found}
 use Rattle.law_splits.proofs.Splitting.{family_is, two_long}
 use Rattle.std.specs.Prelude.{Result, Ok, Err}
+use Rattle.std.specs.List.{filter, list_any}
+use Rattle.std.specs.Option.{is_some}
+use Rattle.std.proofs.lemmas.Bool.{true≢false}
+use Rattle.model.specs.Records.{Listed, SnapshotRecord}
+use Rattle.model.specs.Cleanup.{is_present, slots_where, last_in, is_removable_tablet, removal_in, removals_in, removable_tablets, is_removable_snapshot, removable_snapshots, removable}
+use Rattle.law_store.proofs.Keys.{either_way}
+use Rattle.law_invariants.specs.Operations.{SnapshotGood}
+use Rattle.law_invariants.proofs.Lasting.{last_in as last_tablet}
 
 -- what an act of a run meets
 pub record IsFit (slots : ℕ) (act : Act) : Type 0 where
   pub asked : ActAsked slots act
-  pub covered : ActCovered act
 
 -- what holds of a look's reply
 pub record IsAnswer (slots : ℕ) (ask : Ask) (reply : Reply) : Type 0 where
@@ -51,6 +57,7 @@ pub record IsAnswer (slots : ℕ) (ask : Ask) (reply : Reply) : Type 0 where
   pub later : parts.master.clock < stamp
   pub count : parts.master.slots ≡ slots
   pub inv : Inv parts activity changes
+  pub kinds : KindsGood parts.master
   pub is : reply ≡ (look ask stamp parts.master).reply
   pub right : ReplyRight (Look ask) reply stamp parts changes
 
@@ -63,7 +70,7 @@ pub record IsWork (reading : ℕ) (work : Parts → List Act) : Type 0 where
   pub bound : Parts → ℕ
   pub is : (ps : Parts) → work ps ≡ coordinated (bound ps) reading ps
 
--- what a covered command begins with is fit
+-- what a command begins with is fit
 abbrev pub CourseFits : ℕ → ℕ → Course → Type 0
 CourseFits slots reading (SetReading micros) = micros < 2 ^ 50
 CourseFits slots reading (SetLag slot micros) = Unit {0}
@@ -81,6 +88,14 @@ all_of P (x ∷ xs) each = (each x (inl refl), all_of P xs (λ a isin. each a (i
 all_mapped : {A B : Type 0} (P : A → Type 0) (Q : B → Type 0) (f : A → B) (xs : List A) → ((a : A) → P a → Q (f a)) → AllOf P xs → AllOf Q (map f xs)
 all_mapped P Q f [] each all = tt
 all_mapped P Q f (x ∷ xs) each all = (each x all.0, all_mapped P Q f xs each all.1)
+
+pub all_append : {A : Type 0} (P : A → Type 0) (xs ys : List A) → AllOf P xs → AllOf P ys → AllOf P (xs ++ ys)
+all_append P [] ys first next = next
+all_append P (x ∷ xs) ys first next = (first.0, all_append P xs ys first.1 next)
+
+pub all_made : {A B : Type 0} (P : B → Type 0) (f : A → B) (xs : List A) → ((a : A) → In a xs → P (f a)) → AllOf P (map f xs)
+all_made P f [] each = tt
+all_made P f (x ∷ xs) each = (each x (inl refl), all_made P f xs (λ a isin. each a (inr isin)))
 
 in_some : {A : Type 0} (xs : List A) (a : A) → In a xs → 1 ≤ length xs
 in_some [] a isin = absurd isin
@@ -180,21 +195,20 @@ batch_is columns batch h =
 
 -- What follows
 
-plan_follows : (command : Command) (slots : ℕ) → CommandAsked command → CommandCovered command → Follows slots (AskPlan command) (change_under command)
+plan_follows : (command : Command) (slots : ℕ) → CommandAsked command → Follows slots (AskPlan command) (change_under command)
 unfolding look_plan
-plan_follows command slots asked covered reply a =
+plan_follows command slots asked reply a =
     let m = a.parts.master in
     subst (λ k. AllOf (IsFit slots) (change_under command (found_by k))) (sym a.is) (
       record {
         asked = (asked, all_of (λ slot. slot ≤ slots) (plan_of command m) (λ slot isin. subst (λ k. slot ≤ k) a.count (plan_to command m slot (within a.parts a.activity a.changes a.inv) isin)));
-        covered = covered;
       },
       tt,
     )
 
 write_follows : (places : List Place) (slots version : ℕ) (batch : List Item) → IsBatch batch → ((place : Place) → In place places → IsSlot slots place.slot) → AllOf (IsFit slots) (write_at places version batch)
 write_follows [] slots version batch is each = tt
-write_follows (place ∷ places) slots version batch is each = (record { asked = (each place (inl refl), is); covered = tt }, tt)
+write_follows (place ∷ places) slots version batch is each = (record { asked = (each place (inl refl), is) }, tt)
 
 rows_follow : (namespace table : List ℕ) (batch : List NamedItem) (slots : ℕ) → IsNamedBatch batch → Follows slots (AskKeys namespace table batch None) (write_into batch)
 rows_follow namespace table batch slots asked (Placed places version columns) a =
@@ -209,7 +223,6 @@ row_follows namespace table key at slots is time (Placed places version columns)
     let some = some_place a.parts a.activity a.changes _ a.stamp namespace table (key_alone key) (code_of key) places a.later a.inv (code_below key) (λ i h. passes_both _ _ h refl) right in (
       record {
         asked = (subst (λ k. 1 ≤ k) (sym (length-map places at_place)) some, places_in slots a.parts a.activity a.changes _ a.stamp namespace table (key_alone key) places a.count a.inv right, is, time);
-        covered = tt;
       },
       tt,
     )
@@ -221,7 +234,6 @@ table_follows namespace table at slots time (Placed places version columns) a =
     let some = some_place a.parts a.activity a.changes _ a.stamp namespace table [] 0 places a.later a.inv (omega arith) (λ i h. refl) right in (
       record {
         asked = (subst (λ k. 1 ≤ k) (sym (length-map places at_place)) some, places_in slots a.parts a.activity a.changes _ a.stamp namespace table [] places a.count a.inv right, tt, time);
-        covered = tt;
       },
       tt,
     )
@@ -245,46 +257,114 @@ each_follows act slots fit reply a =
     subst (λ k. AllOf (IsFit slots) (at_each act (found_by k))) (sym a.is)
     (all_mapped (IsSlot slots) (IsFit slots) act present fit (all_of (IsSlot slots) present (λ slot isin. slot_is slots ps a.activity a.changes slot a.count a.inv isin)))
 
+-- a removal of what is removable, and a prune
+
+abbrev IsOfTarget : ℕ → Removal → Type 0
+IsOfTarget slots r = IsRemovable r.target.kind × AllOf (λ slot. slot ≤ slots) r.slots
+
+removable_kind : (kind : Kind) (other : Kind) → kind ≡ other → IsRemovable other → IsRemovable kind
+removable_kind kind other e h = subst IsRemovable (sym e) h
+
+last_there : (is : List Interval) (slot : ℕ) (found : Option Interval) (i : Interval) → last_in is slot found ≡ Some i → (found ≡ Some i) ⊎ In i is
+last_there [] slot found i e = inl e
+last_there (j ∷ is) slot found i e = elim (last_there is slot (cond (eqb j.slot slot) (Some j) found) i e) [
+  | inr there ↦ inr (inr there)
+  | inl first ↦ (either_way (eqb j.slot slot)
+      (λ b. let q : Some j ≡ Some i = rw b at first in inr (inl (let is_ : j ≡ i = cc in is_)))
+      (λ b. inl (rw b at first)))
+]
+
+-- the master's intervals are of tablets, in slots of the cluster
+abbrev Stay : ℕ → List Interval → Type 0
+Stay slots is = (i : Interval) → In i is → (i.tablet.kind ≡ Tablet) × (i.slot ≤ slots)
+
+removal_is : (slots : ℕ) (m : Master) (n : ℕ) (found : Option Interval) → ((i : Interval) → found ≡ Some i → (i.tablet.kind ≡ Tablet) × (i.slot ≤ slots)) → AllOf (IsOfTarget slots) (removal_in m n found)
+removal_is slots m n None each = tt
+removal_is slots m n (Some i) each = cond_both (is_removable_tablet m n i) (record { target = i.tablet; slots = i.slot ∷ [] } ∷ []) [] (AllOf (IsOfTarget slots))
+    (λ _. let k = each i refl in ((removable_kind i.tablet.kind Tablet k.0 tt, (k.1, tt)), tt))
+    (λ _. tt)
+
+removals_are : (plan : List ℕ) (slots : ℕ) (m : Master) (n : ℕ) → Stay slots m.activity → AllOf (IsOfTarget slots) (removals_in plan m n)
+removals_are [] slots m n stay = tt
+removals_are (slot ∷ plan) slots m n stay = all_append (IsOfTarget slots) (removal_in m n (last_in m.activity slot None)) (removals_in plan m n)
+    (removal_is slots m n (last_in m.activity slot None) (λ i e. elim (last_there m.activity slot None i e) [ inl none ↦ absurd (let q = none in grind arith) | inr there ↦ stay i there ]))
+    (removals_are plan slots m n stay)
+
+-- the slots of a snapshot's tablets that are present
+slots_within : (slots : ℕ) (ps : Parts) (activity : List Interval) (changes : List Made) (r : SnapshotRecord) (test : Id → Bool) → ps.master.slots ≡ slots → Inv ps activity changes → SnapshotGood ps.master r → AllOf (λ slot. slot ≤ slots) (slots_where test ps.master r.listed)
+slots_within slots ps activity changes r test count inv good =
+    let m = ps.master in
+    let found = filter (λ l. is_present m l.tablet && test l.tablet) r.listed in
+    let all = map {A = Listed} (λ l. l.slot) found in
+    all_of (λ slot. slot ≤ slots) (rising all) (λ slot isin. in_mapped {A = Listed} (λ l. l.slot) (λ slot. slot ≤ slots) found
+    (λ l there.
+    let k = filter_in r.listed (λ l. is_present m l.tablet && test l.tablet) l there in
+    none_or_some (last_of m.activity l.tablet)
+    (λ none. absurd (true≢false (sym (both_pass (is_present m l.tablet) (test l.tablet) k.1).0 ∙ ap is_some none)))
+    (λ i some.
+    let last = last_tablet m.activity l.tablet i some in
+    let at = (good.listed_of l i k.0 last.0 (same_equal i.tablet l.tablet last.1)).1 in
+    let by = ((inv.slots i.slot).each i last.0 refl).slot_to in
+    subst (λ s. s ≤ slots) at (subst (λ k. i.slot ≤ k) count by)))
+    slot (in_has all slot (rising_has all slot (has_in (rising all) slot isin))))
+
+removals_follow : (slots : ℕ) → Follows slots AskRemovable remove_each
+removals_follow slots reply a =
+    let m = a.parts.master in
+    let inv = a.inv in
+    let stay : Stay slots m.activity = λ i isin. (a.kinds.activity i isin, subst (λ k. i.slot ≤ k) a.count ((inv.slots i.slot).each i isin refl).slot_to) in
+    let tablets = removable_tablets m a.stamp in
+    let of_snapshots : AllOf (IsOfTarget slots) (removable_snapshots m a.stamp tablets) =
+    all_made (IsOfTarget slots) (λ (r : SnapshotRecord). record { target = r.id; slots = slots_where (λ tablet. not (list_any (λ t. same t.target tablet) tablets)) m r.listed }) (filter (is_removable_snapshot m a.stamp) m.snapshots)
+    (λ r isin.
+    let good = inv.operations.snapshots r (filter_in m.snapshots (is_removable_snapshot m a.stamp) r isin).0 in
+    (removable_kind r.id.kind Snapshot good.kind_is tt, slots_within slots a.parts a.activity a.changes r (λ tablet. not (list_any (λ t. same t.target tablet) tablets)) a.count a.inv good)) in
+    subst (λ k. AllOf (IsFit slots) (remove_each (found_by k))) (sym a.is)
+    (all_append (IsFit slots) (map {A = Removal} (λ r. Remove r.target r.slots) (removable m a.stamp)) (Prune ∷ [])
+    (all_mapped (IsOfTarget slots) (IsFit slots) (λ (r : Removal). Remove r.target r.slots) (removable m a.stamp) (λ r k. record { asked = k })
+    (all_append (IsOfTarget slots) tablets (removable_snapshots m a.stamp tablets) (removals_are (rising (map (λ i. i.slot) m.activity)) slots m a.stamp stay) of_snapshots))
+    (record { asked = tt }, tt))
+
 -- Commands
 
-tell_fits : (command : Command) (slots reading : ℕ) → CourseAsked slots (tell command) → CommandCovered command → CourseFits slots reading (tell command)
-tell_fits command slots reading asked covered = record { asked = asked; covered = covered }
+tell_fits : (command : Command) (slots reading : ℕ) → CourseAsked slots (tell command) → CourseFits slots reading (tell command)
+tell_fits command slots reading asked = record { asked = asked }
 
-plan_fits : (command : Command) (slots reading : ℕ) → CourseAsked slots (plan_and_tell command) → CommandCovered command → CourseFits slots reading (plan_and_tell command)
-plan_fits command slots reading asked covered = (record { asked = asked; covered = tt }, plan_follows command slots asked covered)
+plan_fits : (command : Command) (slots reading : ℕ) → CourseAsked slots (plan_and_tell command) → CourseFits slots reading (plan_and_tell command)
+plan_fits command slots reading asked = (record { asked = asked }, plan_follows command slots asked)
 
-pub course_fits : (c : ScriptCommand) (slots reading : ℕ) → CourseAsked slots (course_of reading c) → ScriptCovered c → CourseFits slots reading (course_of reading c)
-course_fits (Tick micros) slots reading asked covered = asked
-course_fits (Lag slot micros) slots reading asked covered = tt
-course_fits (CreateNamespace name) slots reading asked covered = tell_fits (acts.CreateNamespace name) slots reading asked tt
-course_fits (DropNamespace name) slots reading asked covered = tell_fits (acts.DropNamespace name) slots reading asked tt
-course_fits (CreateTable namespace table tablets columns) slots reading asked covered = plan_fits (acts.CreateTable namespace table tablets columns) slots reading asked tt
-course_fits (AddColumn namespace table name kind) slots reading asked covered = plan_fits (acts.AddColumn namespace table name kind) slots reading asked tt
-course_fits (DropColumn namespace table name) slots reading asked covered = plan_fits (acts.DropColumn namespace table name) slots reading asked tt
-course_fits (RenameTable namespace table name) slots reading asked covered = tell_fits (acts.RenameTable namespace table name) slots reading asked tt
-course_fits (DropTable namespace table) slots reading asked covered = plan_fits (acts.DropTable namespace table) slots reading asked tt
-course_fits (WriteRows namespace table batch) slots reading asked covered = (record { asked = asked; covered = tt }, rows_follow namespace table batch slots asked.2)
-course_fits (ReadRow namespace table key at) slots reading asked covered =
-    (record { asked = asked; covered = tt }, row_follows namespace table key (asked_at reading at) slots asked.2.2.0.0 asked.3)
-course_fits (ReadTable namespace table at) slots reading asked covered = (record { asked = asked; covered = tt }, table_follows namespace table (asked_at reading at) slots asked.2)
-course_fits (Split namespace table code) slots reading asked covered = plan_fits (acts.Split namespace table code) slots reading asked tt
-course_fits (CreateSchedule interval retention namespace) slots reading asked covered = tell_fits (acts.CreateSchedule interval retention namespace) slots reading asked tt
-course_fits (EditSchedule schedule interval retention) slots reading asked covered = tell_fits (acts.EditSchedule schedule interval retention) slots reading asked tt
-course_fits (DeleteSchedule schedule) slots reading asked covered = tell_fits (acts.DeleteSchedule schedule) slots reading asked tt
-course_fits (TakeSnapshot schedule) slots reading asked covered = tell_fits (acts.TakeSnapshot schedule) slots reading asked tt
-course_fits (Restore schedule to) slots reading asked covered = tell_fits (acts.Restore schedule (time_at reading to)) slots reading asked tt
-course_fits (CloneNamespace source target to) slots reading asked covered = absurd covered
-course_fits ListSchedules slots reading asked covered = tell_fits acts.ListSchedules slots reading asked tt
-course_fits ListSnapshots slots reading asked covered = tell_fits acts.ListSnapshots slots reading asked tt
-course_fits ListRestorations slots reading asked covered = tell_fits acts.ListRestorations slots reading asked tt
-course_fits ListClones slots reading asked covered = tell_fits acts.ListClones slots reading asked tt
-course_fits (ListTablets namespace) slots reading asked covered = tell_fits (acts.ListTablets namespace) slots reading asked tt
-course_fits RaiseCutoffs slots reading asked covered = (record { asked = asked; covered = tt }, each_follows Cutoff slots (λ slot is. record { asked = is; covered = tt }))
-course_fits CompactTablets slots reading asked covered = (record { asked = asked; covered = tt }, each_follows Compact slots (λ slot is. record { asked = is; covered = tt }))
-course_fits CleanUp slots reading asked covered = absurd covered
-course_fits (Coordinate count) slots reading asked covered = record { bound = λ ps. count; is = λ ps. refl }
-course_fits Settle slots reading asked covered = record { bound = λ ps. left ps.master; is = λ ps. refl }
-course_fits RestartMaster slots reading asked covered = record { asked = asked; covered = tt }
-course_fits (RestartTablet slot) slots reading asked covered = record { asked = asked; covered = tt }
-course_fits (ShowStats slot) slots reading asked covered = record { asked = asked; covered = tt }
-course_fits ShowHistory slots reading asked covered = tt
+pub course_fits : (c : ScriptCommand) (slots reading : ℕ) → CourseAsked slots (course_of reading c) → CourseFits slots reading (course_of reading c)
+course_fits (Tick micros) slots reading asked = asked
+course_fits (Lag slot micros) slots reading asked = tt
+course_fits (CreateNamespace name) slots reading asked = tell_fits (acts.CreateNamespace name) slots reading asked
+course_fits (DropNamespace name) slots reading asked = tell_fits (acts.DropNamespace name) slots reading asked
+course_fits (CreateTable namespace table tablets columns) slots reading asked = plan_fits (acts.CreateTable namespace table tablets columns) slots reading asked
+course_fits (AddColumn namespace table name kind) slots reading asked = plan_fits (acts.AddColumn namespace table name kind) slots reading asked
+course_fits (DropColumn namespace table name) slots reading asked = plan_fits (acts.DropColumn namespace table name) slots reading asked
+course_fits (RenameTable namespace table name) slots reading asked = tell_fits (acts.RenameTable namespace table name) slots reading asked
+course_fits (DropTable namespace table) slots reading asked = plan_fits (acts.DropTable namespace table) slots reading asked
+course_fits (WriteRows namespace table batch) slots reading asked = (record { asked = asked }, rows_follow namespace table batch slots asked.2)
+course_fits (ReadRow namespace table key at) slots reading asked =
+    (record { asked = asked }, row_follows namespace table key (asked_at reading at) slots asked.2.2.0.0 asked.3)
+course_fits (ReadTable namespace table at) slots reading asked = (record { asked = asked }, table_follows namespace table (asked_at reading at) slots asked.2)
+course_fits (Split namespace table code) slots reading asked = plan_fits (acts.Split namespace table code) slots reading asked
+course_fits (CreateSchedule interval retention namespace) slots reading asked = tell_fits (acts.CreateSchedule interval retention namespace) slots reading asked
+course_fits (EditSchedule schedule interval retention) slots reading asked = tell_fits (acts.EditSchedule schedule interval retention) slots reading asked
+course_fits (DeleteSchedule schedule) slots reading asked = tell_fits (acts.DeleteSchedule schedule) slots reading asked
+course_fits (TakeSnapshot schedule) slots reading asked = tell_fits (acts.TakeSnapshot schedule) slots reading asked
+course_fits (Restore schedule to) slots reading asked = tell_fits (acts.Restore schedule (time_at reading to)) slots reading asked
+course_fits (CloneNamespace source target to) slots reading asked = tell_fits (acts.CloneNamespace source target (asked_at reading to)) slots reading asked
+course_fits ListSchedules slots reading asked = tell_fits acts.ListSchedules slots reading asked
+course_fits ListSnapshots slots reading asked = tell_fits acts.ListSnapshots slots reading asked
+course_fits ListRestorations slots reading asked = tell_fits acts.ListRestorations slots reading asked
+course_fits ListClones slots reading asked = tell_fits acts.ListClones slots reading asked
+course_fits (ListTablets namespace) slots reading asked = tell_fits (acts.ListTablets namespace) slots reading asked
+course_fits RaiseCutoffs slots reading asked = (record { asked = asked }, each_follows Cutoff slots (λ slot is. record { asked = is }))
+course_fits CompactTablets slots reading asked = (record { asked = asked }, each_follows Compact slots (λ slot is. record { asked = is }))
+course_fits CleanUp slots reading asked = (record { asked = asked }, removals_follow slots)
+course_fits (Coordinate count) slots reading asked = record { bound = λ ps. count; is = λ ps. refl }
+course_fits Settle slots reading asked = record { bound = λ ps. left ps.master; is = λ ps. refl }
+course_fits RestartMaster slots reading asked = record { asked = asked }
+course_fits (RestartTablet slot) slots reading asked = record { asked = asked }
+course_fits (ShowStats slot) slots reading asked = record { asked = asked }
+course_fits ShowHistory slots reading asked = tt

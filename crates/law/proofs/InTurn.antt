@@ -337,7 +337,7 @@ unfolding replay
 drawn_in_turn [] slots legal covered = tt
 drawn_in_turn (e ∷ earlier) slots legal covered =
     let ps = replay slots earlier in
-    let turn = act_next e.event.act slots e.stamp ps (activity_of slots earlier) (journal_of slots earlier) legal.1.asked.act covered.1 (legal_holds earlier slots legal.0 covered.0).inv in (
+    let turn = act_next e.event.act slots e.stamp ps (activity_of slots earlier) (journal_of slots earlier) legal.1.asked.act covered.1 (legal_holds earlier slots legal.0).inv in (
       drawn_in_turn earlier slots legal.0 covered.0,
       subst (λ reply. DrawsNext e.event.act reply e.stamp ps.master (told e.event.act (outcome e.event.act e.stamp ps) e.stamp ps).master) (sym legal.1.reply) turn,
     )

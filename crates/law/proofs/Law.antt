@@ -3,7 +3,7 @@ use Rattle.std.proofs.Common.{ℕ, ◌≡◌, ◌≤◌, max, List, [], ◌∷�
 use Rattle.row_values.specs.Slots.{has}
 use Rattle.model.specs.Activity.{Interval}
 use Rattle.model.specs.Journal as made
-use Rattle.model.specs.Acts.{Act, Split, CreateSchedule, EditSchedule, DeleteSchedule, TakeSnapshot, Restore, Look, Change, Write, Read, Cutoff, Compact, Send, Process, Ack, Advance, Remove, Prune, Restart, Stats}
+use Rattle.model.specs.Acts.{Act, CreateNamespace, DropNamespace, CreateTable, AddColumn, DropColumn, RenameTable, DropTable, ListSchedules, ListSnapshots, ListRestorations, ListClones, ListTablets, CloneNamespace, Split, CreateSchedule, DeleteSchedule, TakeSnapshot, Restore, Look, Change, Write, Read, Cutoff, Compact, Send, Process, Ack, Advance, Remove, Prune, Restart, Stats, EditSchedule}
 use Rattle.model.specs.Parts.{Parts}
 use Rattle.model.specs.Entries.{Entry, slots_of, clock_at, stamp_of, ActAsked}
 use Rattle.model.specs.History.{outcome, replay, journal_of, activity_of, Legal}
@@ -24,31 +24,44 @@ use Rattle.law_commands.proofs.Processing.{process_keeps}
 use Rattle.law_commands.proofs.Acking.{ack_keeps}
 use Rattle.law_moves.proofs.Commanding.{schedule_change_keeps}
 use Rattle.law_moves.proofs.Moves.{advance_keeps}
-use Rattle.law.specs.Covering.{AdvanceCovered, ActCovered, Covered}
+use Rattle.law_clones.proofs.Commanding.{clone_change_keeps}
+use Rattle.law_clones.proofs.Moves.{advance_clone_keeps}
 use Rattle.law.proofs.Starting.{start_holds}
 
--- each act that is covered keeps what holds
-act_keeps : (act : Act) (slots n : ℕ) (ps : Parts) (activity : List Interval) (changes : List made.Change) → Later (slots_of act) ps n → ActAsked slots act → ActCovered act → Inv ps activity changes → KeepsAll act n ps activity changes (outcome act n ps)
-act_keeps (Look ask) slots n ps activity changes later asked covered inv = look_keeps ask n ps activity changes later asked inv
-act_keeps (Change (Split namespace table code) plan) slots n ps activity changes later asked covered inv = split_change_keeps ps activity changes n namespace table code plan later asked.0 inv
-act_keeps (Change (CreateSchedule interval retention namespace) plan) slots n ps activity changes later asked covered inv = schedule_change_keeps (CreateSchedule interval retention namespace) plan ps activity changes n tt later inv
-act_keeps (Change (EditSchedule schedule interval retention) plan) slots n ps activity changes later asked covered inv = schedule_change_keeps (EditSchedule schedule interval retention) plan ps activity changes n tt later inv
-act_keeps (Change (DeleteSchedule schedule) plan) slots n ps activity changes later asked covered inv = schedule_change_keeps (DeleteSchedule schedule) plan ps activity changes n tt later inv
-act_keeps (Change (TakeSnapshot schedule) plan) slots n ps activity changes later asked covered inv = schedule_change_keeps (TakeSnapshot schedule) plan ps activity changes n tt later inv
-act_keeps (Change (Restore schedule to) plan) slots n ps activity changes later asked covered inv = schedule_change_keeps (Restore schedule to) plan ps activity changes n tt later inv
-act_keeps (Change command plan) slots n ps activity changes later asked covered inv = catalog_change_keeps command plan ps activity changes n covered asked.0 later inv
-act_keeps (Write place version batch) slots n ps activity changes later asked covered inv = write_keeps ps activity changes n place version batch later asked.0.0 inv
-act_keeps (Read places version key at columns) slots n ps activity changes later asked covered inv = read_keeps slots ps activity changes n places version key at columns later asked.1 inv
-act_keeps (Cutoff slot) slots n ps activity changes later asked covered inv = cutoff_keeps ps activity changes n slot later asked.0 inv
-act_keeps (Compact slot) slots n ps activity changes later asked covered inv = compact_keeps ps activity changes n slot later asked.0 inv
-act_keeps (Send operation slot) slots n ps activity changes later asked covered inv = send_keeps ps activity changes n operation slot later asked.0 inv
-act_keeps (Process slot other) slots n ps activity changes later asked covered inv = process_keeps ps activity changes n slot other later asked.0.0 inv
-act_keeps (Ack operation slot) slots n ps activity changes later asked covered inv = ack_keeps ps activity changes n operation slot later asked.0 inv
-act_keeps (Advance operation) slots n ps activity changes later asked covered inv = advance_keeps ps activity changes n operation later inv (λ kind. absurd (subst AdvanceCovered kind covered))
-act_keeps (Remove target plan) slots n ps activity changes later asked covered inv = remove_keeps ps activity changes n target plan later asked.0 inv
-act_keeps Prune slots n ps activity changes later asked covered inv = prune_keeps ps activity changes n later inv
-act_keeps (Restart slot) slots n ps activity changes later asked covered inv = restart_keeps ps activity changes n slot later inv
-act_keeps (Stats slot) slots n ps activity changes later asked covered inv = stats_keeps ps activity changes n slot later inv
+-- each act keeps what holds
+act_keeps : (act : Act) (slots n : ℕ) (ps : Parts) (activity : List Interval) (changes : List made.Change) → Later (slots_of act) ps n → ActAsked slots act → Inv ps activity changes → KeepsAll act n ps activity changes (outcome act n ps)
+act_keeps (Look ask) slots n ps activity changes later asked inv = look_keeps ask n ps activity changes later asked inv
+act_keeps (Change (Split namespace table code) plan) slots n ps activity changes later asked inv = split_change_keeps ps activity changes n namespace table code plan later asked.0 inv
+act_keeps (Change (CreateSchedule interval retention namespace) plan) slots n ps activity changes later asked inv = schedule_change_keeps (CreateSchedule interval retention namespace) plan ps activity changes n tt later inv
+act_keeps (Change (EditSchedule schedule interval retention) plan) slots n ps activity changes later asked inv = schedule_change_keeps (EditSchedule schedule interval retention) plan ps activity changes n tt later inv
+act_keeps (Change (DeleteSchedule schedule) plan) slots n ps activity changes later asked inv = schedule_change_keeps (DeleteSchedule schedule) plan ps activity changes n tt later inv
+act_keeps (Change (TakeSnapshot schedule) plan) slots n ps activity changes later asked inv = schedule_change_keeps (TakeSnapshot schedule) plan ps activity changes n tt later inv
+act_keeps (Change (Restore schedule to) plan) slots n ps activity changes later asked inv = schedule_change_keeps (Restore schedule to) plan ps activity changes n tt later inv
+act_keeps (Change (CreateNamespace name) plan) slots n ps activity changes later asked inv = catalog_change_keeps (CreateNamespace name) plan ps activity changes n tt asked.0 later inv
+act_keeps (Change (DropNamespace name) plan) slots n ps activity changes later asked inv = catalog_change_keeps (DropNamespace name) plan ps activity changes n tt asked.0 later inv
+act_keeps (Change (CreateTable namespace table tablets columns) plan) slots n ps activity changes later asked inv = catalog_change_keeps (CreateTable namespace table tablets columns) plan ps activity changes n tt asked.0 later inv
+act_keeps (Change (AddColumn namespace table name kind) plan) slots n ps activity changes later asked inv = catalog_change_keeps (AddColumn namespace table name kind) plan ps activity changes n tt asked.0 later inv
+act_keeps (Change (DropColumn namespace table name) plan) slots n ps activity changes later asked inv = catalog_change_keeps (DropColumn namespace table name) plan ps activity changes n tt asked.0 later inv
+act_keeps (Change (RenameTable namespace table name) plan) slots n ps activity changes later asked inv = catalog_change_keeps (RenameTable namespace table name) plan ps activity changes n tt asked.0 later inv
+act_keeps (Change (DropTable namespace table) plan) slots n ps activity changes later asked inv = catalog_change_keeps (DropTable namespace table) plan ps activity changes n tt asked.0 later inv
+act_keeps (Change ListSchedules plan) slots n ps activity changes later asked inv = catalog_change_keeps ListSchedules plan ps activity changes n tt asked.0 later inv
+act_keeps (Change ListSnapshots plan) slots n ps activity changes later asked inv = catalog_change_keeps ListSnapshots plan ps activity changes n tt asked.0 later inv
+act_keeps (Change ListRestorations plan) slots n ps activity changes later asked inv = catalog_change_keeps ListRestorations plan ps activity changes n tt asked.0 later inv
+act_keeps (Change ListClones plan) slots n ps activity changes later asked inv = catalog_change_keeps ListClones plan ps activity changes n tt asked.0 later inv
+act_keeps (Change (ListTablets namespace) plan) slots n ps activity changes later asked inv = catalog_change_keeps (ListTablets namespace) plan ps activity changes n tt asked.0 later inv
+act_keeps (Change (CloneNamespace source target at) plan) slots n ps activity changes later asked inv = clone_change_keeps ps activity changes n source target at plan later inv
+act_keeps (Write place version batch) slots n ps activity changes later asked inv = write_keeps ps activity changes n place version batch later asked.0.0 inv
+act_keeps (Read places version key at columns) slots n ps activity changes later asked inv = read_keeps slots ps activity changes n places version key at columns later asked.1 inv
+act_keeps (Cutoff slot) slots n ps activity changes later asked inv = cutoff_keeps ps activity changes n slot later asked.0 inv
+act_keeps (Compact slot) slots n ps activity changes later asked inv = compact_keeps ps activity changes n slot later asked.0 inv
+act_keeps (Send operation slot) slots n ps activity changes later asked inv = send_keeps ps activity changes n operation slot later asked.0 inv
+act_keeps (Process slot other) slots n ps activity changes later asked inv = process_keeps ps activity changes n slot other later asked.0.0 inv
+act_keeps (Ack operation slot) slots n ps activity changes later asked inv = ack_keeps ps activity changes n operation slot later asked.0 inv
+act_keeps (Advance operation) slots n ps activity changes later asked inv = advance_keeps ps activity changes n operation later inv (λ kind. advance_clone_keeps ps activity changes n operation later kind inv)
+act_keeps (Remove target plan) slots n ps activity changes later asked inv = remove_keeps ps activity changes n target plan later asked.0 inv
+act_keeps Prune slots n ps activity changes later asked inv = prune_keeps ps activity changes n later inv
+act_keeps (Restart slot) slots n ps activity changes later asked inv = restart_keeps ps activity changes n slot later inv
+act_keeps (Stats slot) slots n ps activity changes later asked inv = stats_keeps ps activity changes n slot later inv
 
 -- a touched clock is below the stamp
 
@@ -70,16 +83,16 @@ pub record Holds (slots : ℕ) (history : List Entry) : Type 0 where
   pub inv : Inv (replay slots history) (activity_of slots history) (journal_of slots history)
   pub right : Right slots history
 
-pub legal_holds : (history : List Entry) (slots : ℕ) → Legal slots history → Covered history → Holds slots history
+pub legal_holds : (history : List Entry) (slots : ℕ) → Legal slots history → Holds slots history
 unfolding replay journal_of activity_of
-legal_holds [] slots legal covered = record { inv = start_holds slots; right = tt }
-legal_holds (e ∷ earlier) slots legal covered =
-    let before = legal_holds earlier slots legal.0 covered.0 in
+legal_holds [] slots legal = record { inv = start_holds slots; right = tt }
+legal_holds (e ∷ earlier) slots legal =
+    let before = legal_holds earlier slots legal.0 in
     let step = legal.1 in
     let ps = replay slots earlier in
     let o = outcome e.event.act e.stamp ps in
     let activity = activity_of slots earlier in
     let keeps : KeepsAll e.event.act e.stamp ps activity (journal_of slots earlier) o
-    = act_keeps e.event.act slots e.stamp ps activity (journal_of slots earlier) (stamps_later e ps step.stamp) step.asked.act covered.1 before.inv in
+    = act_keeps e.event.act slots e.stamp ps activity (journal_of slots earlier) (stamps_later e ps step.stamp) step.asked.act before.inv in
     let right = subst (λ r. ReplyRight e.event.act r e.stamp ps (journal_of slots earlier)) (sym step.reply) keeps.right in
     record { inv = keeps.inv; right = (before.right, (right, keeps.inv.late)) }

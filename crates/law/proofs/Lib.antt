@@ -4,7 +4,7 @@ pub mod Law
 pub mod Recording
 pub mod Slots
 pub mod Following
-pub mod NoClones
+pub mod TabletKinds
 pub mod Working
 pub mod Running
 pub mod Runs

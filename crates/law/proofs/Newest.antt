@@ -9,15 +9,19 @@ use Rattle.row_values.specs.Schema.{Schema}
 use Rattle.model.specs.Times.{ended, is_open, ended_by}
 use Rattle.model.specs.Catalog.{Catalog, TableRecord, latest, latest_from, end_table, end_tables, tables_at, kept_from, owner_of}
 use Rattle.model.specs.Journal as made
-use Rattle.model.specs.Journal.{TableView, NamespaceRestored, is_in, table_at}
-use Rattle.model.specs.Restored.{record_at, back_at, tables_back, restored_tables, newest}
-use Rattle.model.specs.Drawn.{given_to, version_by}
+use Rattle.model.specs.Journal.{TableView, NamespaceRestored, source_of, is_in, table_at}
+use Rattle.model.specs.Restored.{record_at, back_at, tables_back, restored_tables, newest, cloned, cloned_tables}
+use Rattle.model.specs.Drawn.{given_to, version_by, of_source, first_version}
 use Rattle.law_store.proofs.Keys.{either_way}
 use Rattle.law_invariants.specs.Invariant.{RecordsRise, TablesStand, view_of}
 use Rattle.law_invariants.proofs.Finding.{same_equal, same_self}
 use Rattle.law_invariants.proofs.Records.{record_at_is}
 use Rattle.law_moves.proofs.Advancing.{mapped_some}
 use Rattle.law_moves.proofs.Backing.{then_is, then_has}
+use Rattle.model.specs.Records.{CloneRecord}
+use Rattle.law_clones.proofs.Pairing.{one_target_of}
+use Rattle.law_clones.proofs.Viewing.{clone, source_is, by_source}
+use Rattle.law_clones.proofs.Cataloguing.{MayTake, with_tables, cloned_is}
 
 -- a schema of a table has the version that the journal gives, and its next column an id that no column of it ever had
 pub record IsNewest (changes : List made.Change) (table : Id) (s : Schema) : Type 0 where
@@ -86,6 +90,52 @@ newest_added rs r changes new others own h table s e =
 
 pub newest_ended : (rs : List TableRecord) (id : Id) (n : ℕ) (changes : List made.Change) → AllNewest rs changes → AllNewest (end_table id n rs) changes
 newest_ended rs id n changes h table s e = h table s (sym (latest_kept rs (λ r. if same r.id id then ended n r.to else r.to) table None) ∙ e)
+
+-- Tables of a clone
+
+latest_is : (rs : List TableRecord) (id : Id) (found : Option Schema) (s : Schema) → latest_from rs id found ≡ Some s → ((q : TableRecord) × (In q rs × ((q.id ≡ id) × (q.schema ≡ s)))) ⊎ (found ≡ Some s)
+latest_is [] id found s e = inr e
+latest_is (r ∷ rs) id found s e = elim (latest_is rs id (cond (same r.id id) (Some r.schema) found) s e) [
+  | inl q ↦ inl (q.0, (inr q.1.0, q.1.1))
+  | inr first ↦ (either_way (same r.id id)
+      (λ b. let k : Some r.schema ≡ Some s = rw b at first in inl (r, (inl refl, (same_equal r.id id b, (let is : r.schema ≡ s = cc in is)))))
+      (λ b. inr (rw b at first)))
+]
+
+-- a target's newest schema takes its next id from its source's, and begins at version 1
+pub newest_cloned : (c : Catalog) (time drawn : ℕ) (changes : List made.Change) (r : CloneRecord) (n : ℕ) → TablesStand c time drawn changes → MayTake c drawn changes r → AllNewest c.tables changes → AllNewest (with_tables c r n) (clone n r changes)
+newest_cloned c time drawn changes r n t w h table s e =
+    let new = cloned_tables r.tables c.tables r.target_id r.to n in
+    let is : latest_from new table (latest c.tables table) ≡ Some s = sym (latest_append c.tables new table None) ∙ e in
+    by_source r.tables table
+    (λ none.
+    let old : latest c.tables table ≡ Some s = sym (none_other new table (latest c.tables table) (λ q isin id.
+    let k = cloned_is c.tables r.target_id r.to n r.tables q isin in
+    let z : None ≡ Some k.pair.source = sym none ∙ ap (source_of r.tables) (sym (ap (λ t. t.id) k.is ∙ id)) ∙ source_is r.tables k.pair w.apart k.paired in grind arith)) ∙ is in
+    let k = h table s old in record {
+      next = k.next ∙ sym (ap (λ o. of_source o (given_to changes) (given_to changes table) + 1) none);
+      version = k.version ∙ sym (ap (λ o. first_version o (version_by changes table)) none);
+    })
+    (λ d isin id. subst (λ i. latest_from new i (latest c.tables i) ≡ Some s → IsNewest (clone n r changes) i s) id (λ found.
+    elim (latest_is new d.target (latest c.tables d.target) s found) [
+      | inr old ↦ absurd (
+          let gone : latest c.tables d.target ≡ None = none_other c.tables d.target None (λ q q_in q_id. w.none q q_in (let z : Some q.namespace ≡ Some r.target_id = sym (t.owned q q_in) ∙ ap (owner_of c.owners) q_id ∙ w.target d isin in cc)) in
+          let z : None ≡ Some s = sym gone ∙ old in grind arith)
+      | inl q ↦ (
+          let k = cloned_is c.tables r.target_id r.to n r.tables q.0 q.1.0 in
+          let one : k.pair ≡ d = one_target_of r.tables k.pair d w.apart k.paired isin (ap (λ t. t.id) k.is ∙ q.1.1.0) in
+          let was = record_at_is c.tables k.pair.source r.to k.was k.found in
+          let there = latest_there c.tables k.was None was.listed in
+          let own = h k.was.id there.0 there.1 in
+          let newest_is : newest c.tables k.was ≡ there.0 = ap (λ o. unwrap_or o k.was.schema) there.1 in
+          let schema : s ≡ (cloned c.tables r.target_id k.pair.target n k.was).schema = sym q.1.1.1 ∙ ap (λ t. t.schema) (sym k.is) in
+          let source : k.was.id ≡ d.source = was.id_is ∙ ap (λ p. p.source) one in
+          let some = source_is r.tables d w.apart isin in
+          record {
+            next = ap (λ z. z.next) schema ∙ ap (λ z. z.next) newest_is ∙ own.next ∙ ap (λ i. given_to changes i + 1) source ∙ sym (ap (λ o. of_source o (given_to changes) (given_to changes d.target) + 1) some);
+            version = ap (λ z. z.version) schema ∙ sym (ap (λ o. first_version o (version_by changes d.target)) some);
+          })
+    ]) is)
 
 -- Tables that come back
 

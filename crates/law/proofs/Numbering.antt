@@ -1,5 +1,5 @@
 -- After each entry of a legal history the newest schemas go on from the journal's.
-use Rattle.std.proofs.Common.{◌≡◌, ℕ, ◌≤◌, List, [], ◌∷◌, Option, Some, None, false, refl, sym, ap, subst, ◌∙◌, arith, not, le_trans}
+use Rattle.std.proofs.Common.{◌≡◌, ℕ, ◌≤◌, ◌+◌, List, [], ◌∷◌, Option, Some, None, false, refl, sym, ap, subst, ◌∙◌, arith, not, le_trans}
 use Rattle.std.specs.Prelude.{Result, Ok as Granted, Err as Denied}
 use Rattle.std.specs.Option.{option_map_or}
 use Rattle.std.proofs.lemmas.Bool.{cond_both}
@@ -9,18 +9,18 @@ use Rattle.row_values.specs.Schema.{first_schema}
 use Rattle.model.specs.Activity.{Interval}
 use Rattle.model.specs.Catalog.{TableRecord, kept_from}
 use Rattle.model.specs.Journal as made
-use Rattle.model.specs.Records.{RestorationRecord, RestorationState, Fencing, Snapshotting, Switching, Restoring, Releasing, Restored, SnapshotRecord, State, is_restored, first_unacked}
-use Rattle.model.specs.Acts.{Act, Look, Change, Write, Read, Cutoff, Compact, Send, Process, Ack, Advance, Remove, Prune, Restart, Stats, Command, CreateNamespace, DropNamespace, CreateTable, AddColumn, DropColumn, RenameTable, DropTable, Split, CreateSchedule, EditSchedule, DeleteSchedule, TakeSnapshot, Restore, CloneNamespace, ListSchedules, ListSnapshots, ListRestorations, ListClones, ListTablets, Refusal, StalePlan, UnknownColumn}
-use Rattle.model.specs.Parts.{Master, Parts, Outcome, MasterAct, Ticks, MakesNamespace, DropsNamespace, MakesTable, AddsColumn, DropsColumn, RenamesTable, DropsTable, SplitsTablet, MakesSchedule, EditsSchedule, DeletesSchedule, TakesSnapshot, BeginsRestoration, BeginsClone, Sends, Acks, Unsends, Moves, Removes, Prunes, Restarts, If, unless, refused, decided, refusal_in}
-use Rattle.model.specs.Changed.{next_namespace, next_table}
-use Rattle.model.specs.Changes.{change, planned, create_namespace, drop_namespace, create_table, add_column, add_column_checks, drop_column, column_of, found_column, unheld_checks, rename_table, rename_table_checks, drop_table, split, create_schedule, edit_schedule, delete_schedule, take_snapshot, restore, list_tablets, judge_create_namespace, judge_drop_namespace, judge_create_table, judge_add_column, judge_drop_column, judge_rename_table, judge_drop_table, judge_split, judge_create_schedule, judge_edit_schedule, judge_delete_schedule, judge_take_snapshot, judge_restore}
+use Rattle.model.specs.Records.{RestorationRecord, RestorationState, Fencing, Snapshotting, Switching, Restoring, Releasing, Restored, SnapshotRecord, CloneRecord, CloneState, Accepted, CloneSnapshot, Copying, CloneReleasing, CloneComplete, Schedule as ScheduleRecord, schedule_of, State, is_restored, first_unacked}
+use Rattle.model.specs.Acts.{Act, Look, Change, Write, Read, Cutoff, Compact, Send, Process, Ack, Advance, Remove, Prune, Restart, Stats, Command, CreateNamespace, DropNamespace, CreateTable, AddColumn, DropColumn, RenameTable, DropTable, Split, CreateSchedule, DeleteSchedule, TakeSnapshot, Restore, CloneNamespace, ListSchedules, ListSnapshots, ListRestorations, ListClones, ListTablets, Refusal, StalePlan, UnknownColumn, EditSchedule}
+use Rattle.model.specs.Parts.{Master, Parts, Outcome, MasterAct, Ticks, MakesNamespace, DropsNamespace, MakesTable, AddsColumn, DropsColumn, RenamesTable, DropsTable, SplitsTablet, MakesSchedule, DeletesSchedule, TakesSnapshot, BeginsRestoration, BeginsClone, Sends, Acks, Unsends, Moves, Removes, Prunes, Restarts, If, unless, refused, decided, refusal_in, EditsSchedule}
+use Rattle.model.specs.Changed.{next_namespace, next_table, clone_time}
+use Rattle.model.specs.Changes.{change, planned, create_namespace, drop_namespace, create_table, add_column, add_column_checks, drop_column, column_of, found_column, unheld_checks, rename_table, rename_table_checks, drop_table, split, create_schedule, delete_schedule, take_snapshot, restore, clone_namespace, list_tablets, judge_clone, judge_create_namespace, judge_drop_namespace, judge_create_table, judge_add_column, judge_drop_column, judge_rename_table, judge_drop_table, judge_split, judge_create_schedule, judge_delete_schedule, judge_take_snapshot, judge_restore, edit_schedule, judge_edit_schedule}
 use Rattle.model.specs.Cleanup.{prune, removed_of}
 use Rattle.model.specs.Coordination.{unfinished_snapshot, unfinished_restoration, unfinished_clone, acked_by}
 use Rattle.model.specs.Drawn.{SchemasDrawn}
 use Rattle.model.specs.Entries.{Entry, slots_of}
-use Rattle.model.specs.History.{outcome, told, master_effect, replay, journal_of, activity_of, with_changes, with_rows, with_either, with_restoration, Legal}
+use Rattle.model.specs.History.{outcome, told, master_effect, replay, journal_of, activity_of, with_changes, with_rows, with_either, with_restoration, with_clone, Legal}
 use Rattle.model.specs.Looks.{plan_of, found_namespace, found_table}
-use Rattle.model.specs.Moves.{Progress, advance, advancing, moving, moved_of, progress_of, waits_for, completed, restoration_moved}
+use Rattle.model.specs.Moves.{Progress, advance, advancing, moving, moved_of, progress_of, waits_for, completed, restoration_moved, serving_clone, clone_goes, begins_clone, with_clones_snapshot, clone_moved}
 use Rattle.law_invariants.specs.Invariant.{Inv, TablesStand}
 use Rattle.law_invariants.proofs.Cataloguing.{table_is}
 use Rattle.law_invariants.proofs.Judging.{and_found_is, checked_is}
@@ -28,12 +28,13 @@ use Rattle.law_changes.proofs.Schemas.{column_found}
 use Rattle.row_values.specs.declared.value.Item.{Item}
 use Rattle.model.specs.Tablets.{Told}
 use Rattle.law_moves.proofs.Advancing.{no_restoration, no_clone}
-use Rattle.law_moves.proofs.Pending.{unfinished_restoration_is}
+use Rattle.law_moves.proofs.Pending.{unfinished_restoration_is, unfinished_clone_is}
 use Rattle.law_moves.proofs.Serving.{floor_restores}
-use Rattle.law.specs.Covering.{ActCovered, AdvanceCovered, CommandCovered, Covered}
 use Rattle.law.proofs.Plain.{is_weighty, may_weigh, act_none}
-use Rattle.law.proofs.Schemas.{SchemasStand, namespace_changed, namespace_ended, rows_changed, table_made, column_added, column_dropped, table_renamed, table_dropped, tables_pruned, tables_restored}
+use Rattle.law.proofs.Schemas.{SchemasStand, namespace_changed, namespace_ended, rows_changed, table_made, column_added, column_dropped, table_renamed, table_dropped, tables_pruned, tables_restored, tables_cloned_on}
 use Rattle.law.proofs.Law.{legal_holds}
+use Rattle.row_values.specs.Elements.{In}
+use Rattle.law_clones.proofs.Growing.{Becomes, takes_catalog}
 
 abbrev Stand : Master → List made.Change → Type 0
 Stand m changes = SchemasStand m.catalog.tables changes
@@ -57,54 +58,55 @@ decided_go : {A : Type 0} (judgement : Result A Refusal) (go : A → Outcome) (c
 decided_go (Denied why) go command slots n ps changes h accepted = refused_go command slots n ps changes why h
 decided_go (Granted a) go command slots n ps changes h accepted = accepted a refl
 
-planned_go : (command : Command) (slots : List ℕ) (n : ℕ) (ps : Parts) (activity : List Interval) (changes : List made.Change) → CommandCovered command → Inv ps activity changes → Stand ps.master changes
+planned_go : (command : Command) (slots : List ℕ) (n : ℕ) (ps : Parts) (activity : List Interval) (changes : List made.Change) → Inv ps activity changes → Stand ps.master changes
     → GoesOn (Change command slots) n ps changes (planned command slots n ps)
-unfolding create_namespace drop_namespace create_table add_column drop_column rename_table drop_table split create_schedule edit_schedule delete_schedule take_snapshot restore list_tablets
-planned_go (CreateNamespace name) slots n ps activity changes covered inv h =
+unfolding create_namespace drop_namespace create_table add_column drop_column rename_table drop_table split create_schedule edit_schedule delete_schedule take_snapshot restore clone_namespace list_tablets
+planned_go (CreateNamespace name) slots n ps activity changes inv h =
     decided_go (judge_create_namespace name ps.master) _ (CreateNamespace name) slots n ps changes h (λ id e. record { stand = namespace_changed ps.master.catalog.tables changes n (next_namespace ps.master) name h })
-planned_go (DropNamespace name) slots n ps activity changes covered inv h =
+planned_go (DropNamespace name) slots n ps activity changes inv h =
     decided_go (judge_drop_namespace name ps.master) _ (DropNamespace name) slots n ps changes h (λ ns e. record { stand = namespace_ended ps.master.catalog.tables changes n ns h })
-planned_go (CreateTable namespace table tablets columns) slots n ps activity changes covered inv h =
+planned_go (CreateTable namespace table tablets columns) slots n ps activity changes inv h =
     decided_go (judge_create_table namespace table tablets ps.master) _ (CreateTable namespace table tablets columns) slots n ps changes h (λ ns e. record { stand = table_made ps.master.catalog.tables changes n (record { id = next_table ps.master; namespace = ns; name = table; schema = first_schema columns; from = n; to = None }) columns refl h })
-planned_go (AddColumn namespace table name kind) slots n ps activity changes covered inv h =
+planned_go (AddColumn namespace table name kind) slots n ps activity changes inv h =
     let m = ps.master in
     decided_go (judge_add_column namespace table name m) _ (AddColumn namespace table name kind) slots n ps changes h
     (λ t e.
     let is = table_is m namespace table t (checked_is (found_table m namespace table) (λ t. add_column_checks t name m) t e).0 in
     record { stand = column_added m.catalog.tables changes n t name kind inv.master.tables.rise is.listed is.current h })
-planned_go (DropColumn namespace table name) slots n ps activity changes covered inv h =
+planned_go (DropColumn namespace table name) slots n ps activity changes inv h =
     let m = ps.master in
     decided_go (judge_drop_column namespace table name m) _ (DropColumn namespace table name) slots n ps changes h
     (λ c e.
     let found = and_found_is (found_table m namespace table) (column_of name) UnknownColumn c (checked_is (found_column m namespace table name) (λ c. unheld_checks c.table.namespace m) c e).0 in
     let is = table_is m namespace table c.table (found.1.0 ∙ ap Granted (sym (column_found found.0 name c found.1.1).0)) in
     record { stand = column_dropped m.catalog.tables changes n c.table c.column.name c.column.id inv.master.tables.rise is.listed is.current h })
-planned_go (RenameTable namespace table name) slots n ps activity changes covered inv h =
+planned_go (RenameTable namespace table name) slots n ps activity changes inv h =
     let m = ps.master in
     decided_go (judge_rename_table namespace table name m) _ (RenameTable namespace table name) slots n ps changes h
     (λ t e.
     let is = table_is m namespace table t (checked_is (found_table m namespace table) (λ t. rename_table_checks t name m) t e).0 in
     record { stand = table_renamed m.catalog.tables changes n t name inv.master.tables.rise is.listed is.current h })
-planned_go (DropTable namespace table) slots n ps activity changes covered inv h =
+planned_go (DropTable namespace table) slots n ps activity changes inv h =
     decided_go (judge_drop_table namespace table ps.master) _ (DropTable namespace table) slots n ps changes h (λ t e. record { stand = table_dropped ps.master.catalog.tables changes n t.id h })
-planned_go (Split namespace table code) slots n ps activity changes covered inv h =
+planned_go (Split namespace table code) slots n ps activity changes inv h =
     decided_go (judge_split namespace table code ps.master) _ (Split namespace table code) slots n ps changes h (λ f e. record { stand = h })
-planned_go (CreateSchedule interval retention namespace) slots n ps activity changes covered inv h =
+planned_go (CreateSchedule interval retention namespace) slots n ps activity changes inv h =
     decided_go (judge_create_schedule interval retention namespace ps.master) _ (CreateSchedule interval retention namespace) slots n ps changes h (λ ns e. record { stand = h })
-planned_go (EditSchedule schedule interval retention) slots n ps activity changes covered inv h =
+planned_go (EditSchedule schedule interval retention) slots n ps activity changes inv h =
     decided_go (judge_edit_schedule schedule interval retention ps.master) _ (EditSchedule schedule interval retention) slots n ps changes h (λ s e. record { stand = h })
-planned_go (DeleteSchedule schedule) slots n ps activity changes covered inv h =
+planned_go (DeleteSchedule schedule) slots n ps activity changes inv h =
     decided_go (judge_delete_schedule schedule ps.master) _ (DeleteSchedule schedule) slots n ps changes h (λ s e. record { stand = h })
-planned_go (TakeSnapshot schedule) slots n ps activity changes covered inv h =
+planned_go (TakeSnapshot schedule) slots n ps activity changes inv h =
     decided_go (judge_take_snapshot schedule n ps.master) _ (TakeSnapshot schedule) slots n ps changes h (λ s e. record { stand = h })
-planned_go (Restore schedule to) slots n ps activity changes covered inv h =
+planned_go (Restore schedule to) slots n ps activity changes inv h =
     decided_go (judge_restore schedule to n ps.master) _ (Restore schedule to) slots n ps changes h (λ s e. record { stand = h })
-planned_go (CloneNamespace source target to) slots n ps activity changes covered inv h = absurd covered
-planned_go ListSchedules slots n ps activity changes covered inv h = record { stand = h }
-planned_go ListSnapshots slots n ps activity changes covered inv h = record { stand = h }
-planned_go ListRestorations slots n ps activity changes covered inv h = record { stand = h }
-planned_go ListClones slots n ps activity changes covered inv h = record { stand = h }
-planned_go (ListTablets namespace) slots n ps activity changes covered inv h =
+planned_go (CloneNamespace source target to) slots n ps activity changes inv h =
+    decided_go (judge_clone source target (clone_time to n) n ps.master) _ (CloneNamespace source target to) slots n ps changes h (λ s e. record { stand = h })
+planned_go ListSchedules slots n ps activity changes inv h = record { stand = h }
+planned_go ListSnapshots slots n ps activity changes inv h = record { stand = h }
+planned_go ListRestorations slots n ps activity changes inv h = record { stand = h }
+planned_go ListClones slots n ps activity changes inv h = record { stand = h }
+planned_go (ListTablets namespace) slots n ps activity changes inv h =
     decided_go (found_namespace ps.master namespace) _ (ListTablets namespace) slots n ps changes h (λ ns e. record { stand = h })
 
 -- Acts that leave the tables
@@ -156,6 +158,29 @@ restoration_go (Some r) n ps activity changes operation e inv h =
     let is = unfinished_restoration_is ps.master.restorations operation r e in
     state_go r.state r n ps.master changes inv.master.tables (λ unfinished. le_trans (inv.operations.kept r.namespace) (floor_restores ps.master changes r inv.operations is.0 unfinished)) h
 
+clone_state_go : (state : CloneState) (r : CloneRecord) (n : ℕ) (ps : Parts) (activity : List Interval) (changes : List made.Change) → In r ps.master.clones → r.state ≡ state → Inv ps activity changes → Stand ps.master changes
+    → Stand (clone_moved state r n ps.master) (with_clone state r n changes)
+clone_state_go Accepted r n ps activity changes there is inv h = begun (serving_clone ps.master r) (schedule_of ps.master.schedules r.source)
+  where
+    own : (o : Option ScheduleRecord) → Stand (clone_goes Accepted None r n ps.master (with_clones_snapshot o r n ps.master)) changes
+    own None = h
+    own (Some s) = h
+
+    begun : (o : Option SnapshotRecord) (s : Option ScheduleRecord) → Stand (begins_clone o r n ps.master) changes
+    begun (Some k) s = h
+    begun None s = own (schedule_of ps.master.schedules r.source)
+clone_state_go (CloneSnapshot own) r n ps activity changes there is inv h = h
+clone_state_go (Copying serving at) r n ps activity changes there is inv h =
+    let b : Becomes ps activity changes (ps.master.clock + 1) r serving at = record { before = omega arith; kept = there; is = is; inv = inv } in
+    tables_cloned_on ps.master changes r n inv.master.tables (takes_catalog ps activity changes (ps.master.clock + 1) r serving at b) h
+clone_state_go (CloneReleasing serving at) r n ps activity changes there is inv h = h
+clone_state_go (CloneComplete serving at) r n ps activity changes there is inv h = h
+
+clone_go : (found : Option CloneRecord) (n : ℕ) (ps : Parts) (activity : List Interval) (changes : List made.Change) (operation : Id) → unfinished_clone ps.master.clones operation ≡ found → Inv ps activity changes → Stand ps.master changes
+    → Stand (option_map_or (λ r. clone_moved r.state r n ps.master) found (record ps.master { clock = n })) (with_either None found n changes)
+clone_go None n ps activity changes operation e inv h = h
+clone_go (Some r) n ps activity changes operation e inv h = clone_state_go r.state r n ps activity changes (unfinished_clone_is ps.master.clones operation r e).0 refl inv h
+
 snapshot_go : (found : Option SnapshotRecord) (n : ℕ) (m : Master) (changes : List made.Change) → Stand m changes → Stand (option_map_or (λ r. completed r n m) found (record m { clock = n })) changes
 snapshot_go None n m changes h = h
 snapshot_go (Some r) n m changes h = h
@@ -167,18 +192,20 @@ quiet_go n ps activity changes operation rs apart other inv h =
     subst (λ r. SchemasStand rs (with_either r (unfinished_clone ps.master.clones operation) n changes)) (sym (no_restoration ps.master changes operation inv.operations apart))
     (subst (λ c. SchemasStand rs (with_either None c n changes)) (sym (no_clone ps.master changes operation inv.operations other)) h)
 
-kind_go : (kind : Kind) (n : ℕ) (ps : Parts) (activity : List Interval) (changes : List made.Change) (operation : Id) → operation.kind ≡ kind → AdvanceCovered kind → Inv ps activity changes → Stand ps.master changes
+kind_go : (kind : Kind) (n : ℕ) (ps : Parts) (activity : List Interval) (changes : List made.Change) (operation : Id) → operation.kind ≡ kind → Inv ps activity changes → Stand ps.master changes
     → Stand (moved_of kind operation n ps.master) (with_either (unfinished_restoration ps.master.restorations operation) (unfinished_clone ps.master.clones operation) n changes)
-kind_go Clone n ps activity changes operation is covered inv h = absurd covered
-kind_go Restoration n ps activity changes operation is covered inv h =
+kind_go Clone n ps activity changes operation is inv h =
+    subst (λ r. Stand (moved_of Clone operation n ps.master) (with_either r (unfinished_clone ps.master.clones operation) n changes)) (sym (no_restoration ps.master changes operation inv.operations (λ q. let e = sym is ∙ q in grind arith)))
+    (clone_go (unfinished_clone ps.master.clones operation) n ps activity changes operation refl inv h)
+kind_go Restoration n ps activity changes operation is inv h =
     subst (λ c. Stand (moved_of Restoration operation n ps.master) (with_either (unfinished_restoration ps.master.restorations operation) c n changes)) (sym (no_clone ps.master changes operation inv.operations (λ q. let e = sym is ∙ q in grind arith)))
     (restoration_go (unfinished_restoration ps.master.restorations operation) n ps activity changes operation refl inv h)
-kind_go Snapshot n ps activity changes operation is covered inv h =
+kind_go Snapshot n ps activity changes operation is inv h =
     quiet_go n ps activity changes operation _ (λ q. let e = sym is ∙ q in grind arith) (λ q. let e = sym is ∙ q in grind arith) inv (snapshot_go (unfinished_snapshot ps.master.snapshots operation) n ps.master changes h)
-kind_go Namespace n ps activity changes operation is covered inv h = quiet_go n ps activity changes operation _ (λ q. let e = sym is ∙ q in grind arith) (λ q. let e = sym is ∙ q in grind arith) inv h
-kind_go Table n ps activity changes operation is covered inv h = quiet_go n ps activity changes operation _ (λ q. let e = sym is ∙ q in grind arith) (λ q. let e = sym is ∙ q in grind arith) inv h
-kind_go Tablet n ps activity changes operation is covered inv h = quiet_go n ps activity changes operation _ (λ q. let e = sym is ∙ q in grind arith) (λ q. let e = sym is ∙ q in grind arith) inv h
-kind_go Schedule n ps activity changes operation is covered inv h = quiet_go n ps activity changes operation _ (λ q. let e = sym is ∙ q in grind arith) (λ q. let e = sym is ∙ q in grind arith) inv h
+kind_go Namespace n ps activity changes operation is inv h = quiet_go n ps activity changes operation _ (λ q. let e = sym is ∙ q in grind arith) (λ q. let e = sym is ∙ q in grind arith) inv h
+kind_go Table n ps activity changes operation is inv h = quiet_go n ps activity changes operation _ (λ q. let e = sym is ∙ q in grind arith) (λ q. let e = sym is ∙ q in grind arith) inv h
+kind_go Tablet n ps activity changes operation is inv h = quiet_go n ps activity changes operation _ (λ q. let e = sym is ∙ q in grind arith) (λ q. let e = sym is ∙ q in grind arith) inv h
+kind_go Schedule n ps activity changes operation is inv h = quiet_go n ps activity changes operation _ (λ q. let e = sym is ∙ q in grind arith) (λ q. let e = sym is ∙ q in grind arith) inv h
 
 moving_go : (awaited : Option Id) (operation : Id) (next : State) (n : ℕ) (ps : Parts) (changes : List made.Change) → Stand ps.master changes
     → Stand (moved_of operation.kind operation n ps.master) (with_either (unfinished_restoration ps.master.restorations operation) (unfinished_clone ps.master.clones operation) n changes)
@@ -194,36 +221,36 @@ advancing_go (Some p) operation n ps changes h moved = moving_go (waits_for (fir
 
 -- Each act
 
-act_left : (act : Act) (n : ℕ) (ps : Parts) (activity : List Interval) (changes : List made.Change) → ActCovered act → Inv ps activity changes → Stand ps.master changes → Left act n ps changes
+act_left : (act : Act) (n : ℕ) (ps : Parts) (activity : List Interval) (changes : List made.Change) → Inv ps activity changes → Stand ps.master changes → Left act n ps changes
 unfolding change advance prune
-act_left (Change command slots) n ps activity changes covered inv h =
+act_left (Change command slots) n ps activity changes inv h =
     (unless_go (refusal_in (If (not (same_slots slots (plan_of command ps.master))) (StalePlan (plan_of command ps.master)) ∷ [])) command slots n ps changes (planned command slots n ps) h
-    (planned_go command slots n ps activity changes covered inv h)).stand
-act_left (Advance operation) n ps activity changes covered inv h =
-    (advancing_go (progress_of operation.kind ps.master operation) operation n ps changes h (kind_go operation.kind n ps activity changes operation refl covered inv h)).stand
-act_left Prune n ps activity changes covered inv h = tables_pruned ps.master n changes inv.master.tables h
-act_left (Write place version batch) n ps activity changes covered inv h =
+    (planned_go command slots n ps activity changes inv h)).stand
+act_left (Advance operation) n ps activity changes inv h =
+    (advancing_go (progress_of operation.kind ps.master operation) operation n ps changes h (kind_go operation.kind n ps activity changes operation refl inv h)).stand
+act_left Prune n ps activity changes inv h = tables_pruned ps.master n changes inv.master.tables h
+act_left (Write place version batch) n ps activity changes inv h =
     written (outcome (Write place version batch) n ps).tablets n (ps.tablet place.slot).table batch _ changes (plain_left (Write place version batch) n ps changes refl h)
-act_left (Look ask) n ps activity changes covered inv h = plain_left (Look ask) n ps changes refl h
-act_left (Read places version key at columns) n ps activity changes covered inv h = plain_left (Read places version key at columns) n ps changes refl h
-act_left (Cutoff slot) n ps activity changes covered inv h = plain_left (Cutoff slot) n ps changes refl h
-act_left (Compact slot) n ps activity changes covered inv h = plain_left (Compact slot) n ps changes refl h
-act_left (Send operation slot) n ps activity changes covered inv h = plain_left (Send operation slot) n ps changes refl h
-act_left (Process slot other) n ps activity changes covered inv h = plain_left (Process slot other) n ps changes refl h
-act_left (Ack operation slot) n ps activity changes covered inv h = plain_left (Ack operation slot) n ps changes refl h
-act_left (Remove target slots) n ps activity changes covered inv h = plain_left (Remove target slots) n ps changes refl h
-act_left (Restart slot) n ps activity changes covered inv h = plain_left (Restart slot) n ps changes refl h
-act_left (Stats slot) n ps activity changes covered inv h = plain_left (Stats slot) n ps changes refl h
+act_left (Look ask) n ps activity changes inv h = plain_left (Look ask) n ps changes refl h
+act_left (Read places version key at columns) n ps activity changes inv h = plain_left (Read places version key at columns) n ps changes refl h
+act_left (Cutoff slot) n ps activity changes inv h = plain_left (Cutoff slot) n ps changes refl h
+act_left (Compact slot) n ps activity changes inv h = plain_left (Compact slot) n ps changes refl h
+act_left (Send operation slot) n ps activity changes inv h = plain_left (Send operation slot) n ps changes refl h
+act_left (Process slot other) n ps activity changes inv h = plain_left (Process slot other) n ps changes refl h
+act_left (Ack operation slot) n ps activity changes inv h = plain_left (Ack operation slot) n ps changes refl h
+act_left (Remove target slots) n ps activity changes inv h = plain_left (Remove target slots) n ps changes refl h
+act_left (Restart slot) n ps activity changes inv h = plain_left (Restart slot) n ps changes refl h
+act_left (Stats slot) n ps activity changes inv h = plain_left (Stats slot) n ps changes refl h
 
-all_stand : (history : List Entry) (slots : ℕ) → Legal slots history → Covered history → Stand (replay slots history).master (journal_of slots history)
+all_stand : (history : List Entry) (slots : ℕ) → Legal slots history → Stand (replay slots history).master (journal_of slots history)
 unfolding replay journal_of
-all_stand [] slots legal covered = record { columns = tt; newest = λ table s e. absurd (let q = e in grind arith) }
-all_stand (e ∷ earlier) slots legal covered =
+all_stand [] slots legal = record { columns = tt; newest = λ table s e. absurd (let q = e in grind arith) }
+all_stand (e ∷ earlier) slots legal =
     let ps = replay slots earlier in
     let changes = journal_of slots earlier in
-    act_left e.event.act e.stamp ps (activity_of slots earlier) changes covered.1 (legal_holds earlier slots legal.0 covered.0).inv (all_stand earlier slots legal.0 covered.0)
+    act_left e.event.act e.stamp ps (activity_of slots earlier) changes (legal_holds earlier slots legal.0).inv (all_stand earlier slots legal.0)
 
-pub schemas_drawn : (history : List Entry) (slots : ℕ) → Legal slots history → Covered history → SchemasDrawn (replay slots history).master (journal_of slots history)
-schemas_drawn history slots legal covered =
-    let h = all_stand history slots legal covered in
+pub schemas_drawn : (history : List Entry) (slots : ℕ) → Legal slots history → SchemasDrawn (replay slots history).master (journal_of slots history)
+schemas_drawn history slots legal =
+    let h = all_stand history slots legal in
     record { columns = h.columns; next = λ table s e. (h.newest table s e).next; version = λ table s e. (h.newest table s e).version }

@@ -13,18 +13,15 @@ use Rattle.model.specs.Scripts.{ScriptCommand, Numbered}
 use Rattle.model_runs.specs.Courses.{Found, found_by, Course, SetReading, SetLag, Perform, LookFor, WorkOff, ShowEntries, course_of, ScriptAsked}
 use Rattle.model_runs.specs.Running.{Run, may_follow, with_event, reading_for, performed, performed_all, worked_off, after_look, followed, taken, made_by, with_text, text_of, ran, run_from, run_of, begun}
 use Rattle.law_invariants.proofs.Finding.{both_pass}
-use Rattle.law.specs.Covering.{Covered}
 use Rattle.law.proofs.Law.{legal_holds}
-use Rattle.law.specs.Scripts.{ScriptCovered}
 use Rattle.law.proofs.Slots.{replay_slots}
-use Rattle.law.proofs.NoClones.{replay_clones}
+use Rattle.law.proofs.TabletKinds.{replay_kinds}
 use Rattle.law.proofs.Working.{NextFits, next_fits}
 use Rattle.law.proofs.Following.{IsFit, IsAnswer, Follows, CourseFits, course_fits}
 
--- a run so far: its history is legal, and of covered acts
+-- a run so far: its history is legal
 pub record IsLegalRun (slots : ℕ) (r : Run) : Type 0 where
   pub legal : Legal slots r.history
-  pub covered : Covered r.history
   pub reading : r.reading < 2 ^ 50
 
 -- the entry of an event that may follow is a step
@@ -48,7 +45,6 @@ entry_legal : (slots : ℕ) (event : Event) (r : Run) → IsLegalRun slots r →
 unfolding entry_of
 entry_legal slots event r h less fit may = record {
   legal = (h.legal, entry_is_step slots event r.history (record { reading = less; act = fit.asked }) may);
-  covered = (h.covered, fit.covered);
   reading = h.reading;
 }
 
@@ -63,7 +59,7 @@ performed_legal slots act r h fit =
     (λ _. h)
     (λ _. cond_both may (with_entry slots (event_for act r) r) (record r { stopped = true }) (IsLegalRun slots)
     (λ e. entry_legal slots (event_for act r) r h (less_reading (touches act) r h.reading) fit e)
-    (λ _. record { legal = h.legal; covered = h.covered; reading = h.reading }))
+    (λ _. record { legal = h.legal; reading = h.reading }))
 
 all_legal : (acts : List Act) (slots : ℕ) (r : Run) → IsLegalRun slots r → AllOf (IsFit slots) acts → IsLegalRun slots (performed_all slots acts r)
 all_legal [] slots r h fit = h
@@ -83,8 +79,8 @@ stopped_legal slots follow r h e = subst (IsLegalRun slots) (sym (stopped_stays 
 look_answers : (slots : ℕ) (ask : Ask) (r : Run) → IsLegalRun slots (with_entry slots (event_for (Look ask) r) r) → IsAnswer slots ask (entry_of slots (event_for (Look ask) r) r.history).reply
 unfolding entry_of
 look_answers slots ask r h =
-    let before = legal_holds r.history slots h.legal.0 h.covered.0 in
-    let after = legal_holds (with_entry slots (event_for (Look ask) r) r).history slots h.legal h.covered in
+    let before = legal_holds r.history slots h.legal.0 in
+    let after = legal_holds (with_entry slots (event_for (Look ask) r) r).history slots h.legal in
     record {
       stamp = stamp_of (event_for (Look ask) r) (replay slots r.history);
       parts = replay slots r.history;
@@ -93,6 +89,7 @@ look_answers slots ask r h =
       later = omega arith;
       count = replay_slots r.history slots;
       inv = before.inv;
+      kinds = replay_kinds r.history slots;
       is = refl;
       right = after.right.1.0;
     }
@@ -109,7 +106,7 @@ look_legal slots ask follow r h fit fits =
     (λ e. let now = entry_legal slots event r h (less_reading (touches (Look ask)) r h.reading) fit e in
     let look = entry_of slots event r.history in
     all_legal (follow (found_by look.reply)) slots (with_entry slots event r) now (fits look.reply (look_answers slots ask r now)))
-    (λ _. stopped_legal slots follow (record r { stopped = true }) (record { legal = h.legal; covered = h.covered; reading = h.reading }) refl))
+    (λ _. stopped_legal slots follow (record r { stopped = true }) (record { legal = h.legal; reading = h.reading }) refl))
 
 -- Work
 
@@ -139,45 +136,45 @@ next_legal (Some act) count slots r h fit rest =
     (λ e. halts r h e)
     (λ _. cond_both may (with_entry slots event r) (record r { stopped = true }) P
     (λ e. rest (with_entry slots event r) (entry_legal slots event r h h.reading fit e))
-    (λ _. halts (record r { stopped = true }) (record { legal = h.legal; covered = h.covered; reading = h.reading }) refl))
+    (λ _. halts (record r { stopped = true }) (record { legal = h.legal; reading = h.reading }) refl))
 
 work_legal : (count slots : ℕ) (r : Run) → IsLegalRun slots r → IsLegalRun slots (coordinates slots count r)
 work_legal zero slots r h = h
 work_legal (suc count) slots r h =
-    let holds = legal_holds r.history slots h.legal h.covered in
+    let holds = legal_holds r.history slots h.legal in
     next_legal (next_act (replay slots r.history)) count slots r h
-    (next_fits slots (replay slots r.history) _ _ (replay_slots r.history slots) holds.inv (replay_clones r.history slots h.covered))
+    (next_fits slots (replay slots r.history) _ _ (replay_slots r.history slots) holds.inv)
     (λ next legal. work_legal count slots next legal)
 
 taken_legal : (course : Course) (slots : ℕ) (r : Run) → IsLegalRun slots r → CourseFits slots r.reading course → IsLegalRun slots (taken slots course r)
-taken_legal (SetReading micros) slots r h fits = record { legal = h.legal; covered = h.covered; reading = fits }
-taken_legal (SetLag slot micros) slots r h fits = record { legal = h.legal; covered = h.covered; reading = h.reading }
+taken_legal (SetReading micros) slots r h fits = record { legal = h.legal; reading = fits }
+taken_legal (SetLag slot micros) slots r h fits = record { legal = h.legal; reading = h.reading }
 taken_legal (Perform act) slots r h fits = performed_legal slots act r h fits
 taken_legal (LookFor ask follow showing) slots r h fits = look_legal slots ask follow r h fits.0 fits.1
 taken_legal (WorkOff work) slots r h fits =
     let ps = replay slots r.history in subst (λ acts. IsLegalRun slots (worked_off slots acts r)) (sym (fits.is ps)) (work_legal (fits.bound ps) slots r h)
 taken_legal ShowEntries slots r h fits = h
 
-made_legal : (c : ScriptCommand) (slots : ℕ) (r : Run) → IsLegalRun slots r → ScriptAsked slots c → ScriptCovered c → IsLegalRun slots (made_by slots c r)
+made_legal : (c : ScriptCommand) (slots : ℕ) (r : Run) → IsLegalRun slots r → ScriptAsked slots c → IsLegalRun slots (made_by slots c r)
 unfolding made_by
-made_legal c slots r h asked covered = taken_legal (course_of r.reading c) slots r h (course_fits c slots r.reading (asked r.reading h.reading) covered)
+made_legal c slots r h asked = taken_legal (course_of r.reading c) slots r h (course_fits c slots r.reading (asked r.reading h.reading))
 
 text_legal : (slots : ℕ) (text : List ℕ) (r : Run) → IsLegalRun slots r → IsLegalRun slots (with_text text r)
 text_legal slots text r h =
-    cond_both r.stopped r (record r { text = r.text ++ text; done = r.done + 1 }) (IsLegalRun slots) (λ _. h) (λ _. record { legal = h.legal; covered = h.covered; reading = h.reading })
+    cond_both r.stopped r (record r { text = r.text ++ text; done = r.done + 1 }) (IsLegalRun slots) (λ _. h) (λ _. record { legal = h.legal; reading = h.reading })
 
-ran_legal : (slots : ℕ) (c : Numbered) (r : Run) → IsLegalRun slots r → ScriptAsked slots c.command → ScriptCovered c.command → IsLegalRun slots (ran slots c r)
-ran_legal slots c r h asked covered =
+ran_legal : (slots : ℕ) (c : Numbered) (r : Run) → IsLegalRun slots r → ScriptAsked slots c.command → IsLegalRun slots (ran slots c r)
+ran_legal slots c r h asked =
     let after = made_by slots c.command r in
     let text = text_of c.line c.command r after.history in
-    cond_both r.stopped r (with_text text after) (IsLegalRun slots) (λ _. h) (λ _. text_legal slots text after (made_legal c.command slots r h asked covered))
+    cond_both r.stopped r (with_text text after) (IsLegalRun slots) (λ _. h) (λ _. text_legal slots text after (made_legal c.command slots r h asked))
 
 -- a run that goes on stays legal
-pub run_legal : (commands : List Numbered) (slots : ℕ) (r : Run) → IsLegalRun slots r → AllOf (λ c. ScriptAsked slots c.command) commands → AllOf (λ c. ScriptCovered c.command) commands
+pub run_legal : (commands : List Numbered) (slots : ℕ) (r : Run) → IsLegalRun slots r → AllOf (λ c. ScriptAsked slots c.command) commands
     → IsLegalRun slots (run_from slots commands r)
-run_legal [] slots r h asked covered = h
-run_legal (c ∷ commands) slots r h asked covered = run_legal commands slots (ran slots c r) (ran_legal slots c r h asked.0 covered.0) asked.1 covered.1
+run_legal [] slots r h asked = h
+run_legal (c ∷ commands) slots r h asked = run_legal commands slots (ran slots c r) (ran_legal slots c r h asked.0) asked.1
 
-pub script_legal : (slots : ℕ) (commands : List Numbered) → AllOf (λ c. ScriptAsked slots c.command) commands → AllOf (λ c. ScriptCovered c.command) commands → IsLegalRun slots (run_of slots commands)
+pub script_legal : (slots : ℕ) (commands : List Numbered) → AllOf (λ c. ScriptAsked slots c.command) commands → IsLegalRun slots (run_of slots commands)
 unfolding run_of
-script_legal slots commands asked covered = run_legal commands slots begun (record { legal = tt; covered = tt; reading = omega arith }) asked covered
+script_legal slots commands asked = run_legal commands slots begun (record { legal = tt; reading = omega arith }) asked

@@ -18,7 +18,10 @@ use Rattle.model.specs.Restored.{restored_tables}
 use Rattle.std.specs.List.{filter}
 use Rattle.law_invariants.specs.Invariant.{EndsBy, RecordsRise, TablesStand}
 use Rattle.law_invariants.proofs.Finding.{same_self}
-use Rattle.law.proofs.Newest.{AllNewest, newest_added, newest_ended, newest_back, current_latest, pruned_latest, YoungAfter}
+use Rattle.law.proofs.Newest.{AllNewest, newest_added, newest_ended, newest_back, newest_cloned, current_latest, pruned_latest, YoungAfter}
+use Rattle.model.specs.Records.{CloneRecord}
+use Rattle.law_clones.proofs.Viewing.{clone}
+use Rattle.law_clones.proofs.Cataloguing.{MayTake, with_tables}
 
 -- what holds of the columns of the journal, and of the newest schemas of tables
 pub record SchemasStand (rs : List TableRecord) (changes : List made.Change) : Type 0 where
@@ -163,3 +166,7 @@ tables_restored m changes ns to point h known stand = record {
   columns = (stand.columns, tt);
   newest = newest_back m.catalog m.clock m.drawn.tables changes ns to point h known stand.newest;
 }
+
+pub tables_cloned_on : (m : Master) (changes : List made.Change) (r : CloneRecord) (n : ℕ) → TablesStand m.catalog m.clock m.drawn.tables changes → MayTake m.catalog m.drawn.tables changes r → SchemasStand m.catalog.tables changes
+    → SchemasStand (with_tables m.catalog r n) (clone n r changes)
+tables_cloned_on m changes r n h take stand = record { columns = (stand.columns, tt); newest = newest_cloned m.catalog m.clock m.drawn.tables changes r n h take stand.newest }

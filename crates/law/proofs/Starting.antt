@@ -27,7 +27,7 @@ start_holds slots = record {
     listed = λ r l isin. absurd isin;
     listed_of = λ r l isin. absurd isin;
   };
-  remembered = record { kept = λ i isin. absurd isin; each = λ i isin. absurd isin; drawn = λ i isin. absurd isin; drawn_table = λ i isin. absurd isin; reserved = λ c p i isin. absurd isin };
+  remembered = record { part = tt; each = λ i isin. absurd isin; drawn = λ i isin. absurd isin; drawn_table = λ i isin. absurd isin; reserved = λ c p i isin. absurd isin };
   cover = record { once = λ table code x below. omega arith; whole = λ table code x below is. absurd (let q = is in grind arith); ranges = λ i isin. absurd isin };
   slots = λ slot. record {
     good = record { sorted = tt; below = tt; cutoff = omega arith; keys = tt; set_past = λ f held. absurd held; set_sorted = λ f held. absurd held; set_keys = λ f held. absurd held };

@@ -6,7 +6,7 @@ use Rattle.std.proofs.lemmas.Bool.{cond_both}
 use Rattle.row_values.specs.Ids.{Id}
 use Rattle.row_values.specs.Elements.{In, AllOf}
 use Rattle.model.specs.Tablets.{Command, Body, Fence, Freeze, RestoreFrom, Hide, Copy, Release}
-use Rattle.model.specs.Records.{Listed, Sent, RestorationRecord, RestorationState, Fencing, Snapshotting, Switching, Restoring, Releasing, Restored, is_restored, is_cloned, is_sent, first_unacked}
+use Rattle.model.specs.Records.{Listed, Sent, RestorationRecord, RestorationState, Fencing, Snapshotting, Switching, Restoring, Releasing, Restored, CloneRecord, CloneState, Accepted, CloneSnapshot, Copying, CloneReleasing, CloneComplete, is_restored, is_cloned, is_sent, first_unacked}
 use Rattle.model.specs.Journal.{Change as Made}
 use Rattle.model.specs.Activity.{Interval}
 use Rattle.model.specs.Acts.{Act, WorkItem, SendWork, CollectWork, AdvanceWork}
@@ -16,11 +16,10 @@ use Rattle.model.specs.Moves.{Progress, snapshot_progress, restoration_progress,
 use Rattle.model.specs.Work.{unfinished_records, work_at, work_for, first_work, next_work, collecting, act_of_work, next_act}
 use Rattle.model.specs.Entries.{IsSlot}
 use Rattle.law_store.proofs.Keys.{either_way}
-use Rattle.law_invariants.specs.Operations.{IsKnown, RestorationStateGood, IsAfterSwitch}
+use Rattle.law_invariants.specs.Operations.{IsKnown, RestorationStateGood, IsAfterSwitch, CloneStateGood, CloneGood}
 use Rattle.law_invariants.specs.Invariant.{Inv}
 use Rattle.law_invariants.proofs.Finding.{filter_in}
-use Rattle.law.specs.Covering.{AdvanceCovered}
-use Rattle.law.proofs.Following.{IsFit}
+use Rattle.law.proofs.Following.{IsFit, all_append, all_made}
 
 -- a listed tablet is in a slot of the cluster, and so is the one whose rows its command takes
 abbrev LineGood : ℕ → Listed → Type 0
@@ -28,7 +27,6 @@ LineGood slots l = IsSlot slots l.slot × IsSlot slots (source_slot l.slot l.bod
 
 record ProgressGood (slots : ℕ) (p : Progress) : Type 0 where
   lines : (l : Listed) → In l p.listed → LineGood slots l
-  covered : AdvanceCovered p.id.kind
 
 -- Records
 
@@ -56,21 +54,30 @@ restoring_line (Restoring point serving) m changes r slots l good still isin is 
 restoring_line (Releasing point serving) m changes r slots l good still isin is = own_line slots l (Release point) (good.bodies l isin) refl is
 restoring_line _ m changes r slots l good still isin is = absurd (nothing_in r.listed l good.empty isin)
 
-all_append : {A : Type 0} (P : A → Type 0) (xs ys : List A) → AllOf P xs → AllOf P ys → AllOf P (xs ++ ys)
-all_append P [] ys first next = next
-all_append P (x ∷ xs) ys first next = (first.0, all_append P xs ys first.1 next)
-
-all_made : {A B : Type 0} (P : B → Type 0) (f : A → B) (xs : List A) → ((a : A) → In a xs → P (f a)) → AllOf P (map f xs)
-all_made P f [] each = tt
-all_made P f (x ∷ xs) each = (each x (inl refl), all_made P f xs (λ a isin. each a (inr isin)))
+-- a target is in a slot of the cluster, and so is its source
+cloning_line : (state : CloneState) (slots : ℕ) (ps : Parts) (activity : List Interval) (changes : List Made) (r : CloneRecord) (l : Listed) → ps.master.slots ≡ slots → Inv ps activity changes → CloneGood ps.master changes r → is_cloned r.state ≡ false
+    → CloneStateGood state ps.master r → In l r.listed → LineGood slots l
+cloning_line Accepted slots ps activity changes r l count inv good still h isin = absurd (nothing_in r.listed l h isin)
+cloning_line (CloneSnapshot own) slots ps activity changes r l count inv good still h isin = absurd (nothing_in r.listed l h.empty isin)
+cloning_line (Copying serving at) slots ps activity changes r l count inv good still h isin =
+    let k = h.bodies l isin in
+    let p = good.pairs k.pair k.paired in
+    let s = good.sources still k.pair k.paired in
+    let g = (inv.slots s.interval.slot).each s.interval s.kept refl in
+    let target : IsSlot slots l.slot = subst (IsSlot slots) (sym k.slot_is) (p.slot_from, subst (λ c. k.pair.slot ≤ c) count p.slot_to) in
+    let source : IsSlot slots k.pair.source_slot = subst (IsSlot slots) s.slot_is (g.slot_from, subst (λ c. s.interval.slot ≤ c) count g.slot_to) in
+    (target, subst (λ body. IsSlot slots (source_slot l.slot body)) (sym k.body_is) source)
+cloning_line (CloneReleasing serving at) slots ps activity changes r l count inv good still h isin =
+    let k = h.active l isin in
+    own_line slots l (Release h.since) (h.bodies l isin) refl (known_slot slots ps activity changes l count inv (record { interval = k.interval; kept = k.kept; tablet_is = k.tablet_is; slot_is = k.slot_is }))
+cloning_line (CloneComplete serving at) slots ps activity changes r l count inv good still h isin = absurd (nothing_in r.listed l h isin)
 
 not_true : (b : Bool) → not b ≡ true → b ≡ false
 not_true false e = refl
 not_true true e = sym e
 
--- where there is no clone
-records_good : (slots : ℕ) (ps : Parts) (activity : List Interval) (changes : List Made) → ps.master.slots ≡ slots → Inv ps activity changes → ps.master.clones ≡ [] → AllOf (ProgressGood slots) (unfinished_records ps.master)
-records_good slots ps activity changes count inv none =
+records_good : (slots : ℕ) (ps : Parts) (activity : List Interval) (changes : List Made) → ps.master.slots ≡ slots → Inv ps activity changes → AllOf (ProgressGood slots) (unfinished_records ps.master)
+records_good slots ps activity changes count inv =
     let m = ps.master in
     let P = ProgressGood slots in
     let snapshots = filter (λ r. not r.complete) m.snapshots in
@@ -82,7 +89,6 @@ records_good slots ps activity changes count inv none =
     let good = inv.operations.snapshots r there.0 in
     record {
       lines = λ l listed. own_line slots l (Freeze r.id r.at) (good.bodies l listed) refl (known_slot slots ps activity changes l count inv (good.known (not_true r.complete there.1) l listed));
-      covered = subst AdvanceCovered (sym good.kind_is) tt;
     }))
     (all_made P (restoration_progress m) restorations (λ r isin.
     let there = filter_in m.restorations (λ r. not (is_restored r.state)) r isin in
@@ -90,9 +96,12 @@ records_good slots ps activity changes count inv none =
     let still = not_true (is_restored r.state) there.1 in
     record {
       lines = λ l listed. restoring_line r.state m changes r slots l good.in_state still listed (known_slot slots ps activity changes l count inv (good.known still l listed));
-      covered = subst AdvanceCovered (sym good.kind_is) tt;
     })))
-    (subst (λ cs. AllOf P (map (clone_progress m) (filter (λ r. not (is_cloned r.state)) cs))) (sym none) tt)
+    (all_made P (clone_progress m) (filter (λ r. not (is_cloned r.state)) m.clones) (λ r isin.
+    let there = filter_in m.clones (λ r. not (is_cloned r.state)) r isin in
+    let good = inv.operations.clones r there.0 in
+    let still = not_true (is_cloned r.state) there.1 in
+    record { lines = λ l listed. cloning_line r.state slots ps activity changes r l count inv good still good.in_state listed }))
 
 -- The next act
 
@@ -100,7 +109,7 @@ abbrev WorkGood : ℕ → Option WorkItem → Type 0
 WorkGood slots None = Unit {0}
 WorkGood slots (Some (SendWork operation slot)) = IsSlot slots slot
 WorkGood slots (Some (CollectWork operation slot other)) = IsSlot slots slot × IsSlot slots other
-WorkGood slots (Some (AdvanceWork operation)) = AdvanceCovered operation.kind
+WorkGood slots (Some (AdvanceWork operation)) = Unit {0}
 
 unacked_in : (ls : List Listed) (l : Listed) → first_unacked ls ≡ Some l → In l ls
 unacked_in [] l is = absurd (let e = is in grind arith)
@@ -113,7 +122,7 @@ line_work slots l operation sent good = cond_both (is_sent sent operation l.slot
 
 record_work : (found : Option Listed) (awaited : Option Id) (slots : ℕ) (p : Progress) (sent : List Sent) → first_unacked p.listed ≡ found → ProgressGood slots p → WorkGood slots (work_for found awaited p.id sent)
 record_work (Some l) awaited slots p sent is good = line_work slots l p.id sent (good.lines l (unacked_in p.listed l is))
-record_work None None slots p sent is good = good.covered
+record_work None None slots p sent is good = tt
 record_work None (Some on) slots p sent is good = tt
 
 either_work : (slots : ℕ) (a b : Option WorkItem) → WorkGood slots a → WorkGood slots b → WorkGood slots (option_or a b)
@@ -126,8 +135,8 @@ first_good slots (p ∷ ps) sent all =
     either_work slots (work_for (first_unacked p.listed) p.awaited p.id sent) (first_work ps sent) (record_work (first_unacked p.listed) p.awaited slots p sent refl all.0) (first_good slots ps sent all.1)
 
 collecting_fits : (inbox : List Command) (slots : ℕ) (operation : Id) (slot other : ℕ) → IsSlot slots slot → IsSlot slots other → IsFit slots (collecting inbox operation slot other)
-collecting_fits [] slots operation slot other is from = record { asked = is; covered = tt }
-collecting_fits (c ∷ cs) slots operation slot other is from = record { asked = (is, from); covered = tt }
+collecting_fits [] slots operation slot other is from = record { asked = is }
+collecting_fits (c ∷ cs) slots operation slot other is from = record { asked = (is, from) }
 
 -- the act that comes next, where one comes
 abbrev pub NextFits : ℕ → Option Act → Type 0
@@ -136,11 +145,11 @@ NextFits slots (Some act) = IsFit slots act
 
 work_fits : (found : Option WorkItem) (slots : ℕ) (ps : Parts) → next_work ps.master ≡ found → WorkGood slots found → NextFits slots (next_act ps)
 work_fits None slots ps is good = subst (λ w. NextFits slots (option_map (λ w. act_of_work w ps) w)) (sym is) tt
-work_fits (Some (SendWork operation slot)) slots ps is good = subst (λ w. NextFits slots (option_map (λ w. act_of_work w ps) w)) (sym is) (record { asked = good; covered = tt })
+work_fits (Some (SendWork operation slot)) slots ps is good = subst (λ w. NextFits slots (option_map (λ w. act_of_work w ps) w)) (sym is) (record { asked = good })
 work_fits (Some (CollectWork operation slot other)) slots ps is good =
     subst (λ w. NextFits slots (option_map (λ w. act_of_work w ps) w)) (sym is) (collecting_fits (ps.tablet slot).inbox slots operation slot other good.0 good.1)
-work_fits (Some (AdvanceWork operation)) slots ps is good = subst (λ w. NextFits slots (option_map (λ w. act_of_work w ps) w)) (sym is) (record { asked = tt; covered = good })
+work_fits (Some (AdvanceWork operation)) slots ps is good = subst (λ w. NextFits slots (option_map (λ w. act_of_work w ps) w)) (sym is) (record { asked = tt })
 
-pub next_fits : (slots : ℕ) (ps : Parts) (activity : List Interval) (changes : List Made) → ps.master.slots ≡ slots → Inv ps activity changes → ps.master.clones ≡ [] → NextFits slots (next_act ps)
-next_fits slots ps activity changes count inv none =
-    work_fits (next_work ps.master) slots ps refl (first_good slots (unfinished_records ps.master) ps.master.sent (records_good slots ps activity changes count inv none))
+pub next_fits : (slots : ℕ) (ps : Parts) (activity : List Interval) (changes : List Made) → ps.master.slots ≡ slots → Inv ps activity changes → NextFits slots (next_act ps)
+next_fits slots ps activity changes count inv =
+    work_fits (next_work ps.master) slots ps refl (first_good slots (unfinished_records ps.master) ps.master.sent (records_good slots ps activity changes count inv))

@@ -1,6 +1,6 @@
-//! The main law: a legal history is right, and what holds after each entry holds of the parts that it leaves. It speaks of definitions
-//! alone, and so of no code. It is proved of the acts that `Covering` names; each further act adds its lemma, its case there and its line
-//! in the dispatch.
+//! The main law: a legal history is right, and what holds after each entry holds of the parts that it leaves. It speaks
+//! of definitions alone, and so of no code. Each act has a lemma that it keeps what holds, and a line in the dispatch.
+//! Only of the numbers of identifiers is it proved of the acts alone that `Covering` names.
 #![tactic(auto)]
 
 ghost use Rattle.std.specs.Prelude.{ℕ, List, ◌++◌};
@@ -16,46 +16,43 @@ ghost use Rattle.model.specs.Strict.{FixedStays, Divides};
 ghost use Rattle.model.specs.Stands.{RecordFacts, Stands};
 ghost use Rattle.law_invariants.specs.Invariant.{Inv};
 ghost use Rattle.law.specs.Covering.{Covered};
-ghost use Rattle.law.specs.Scripts.{ScriptCovered};
 
-/// A legal history of covered acts is right: each reply is that of one list of stamped changes. What its
-/// restores fixed stays as it was, and no change of their namespaces came too late for them. What
-/// holds after each entry holds of the parts that the history leaves. At each time at which the view
-/// has a table, the ranges of its tablets that were active then cover the codes, none twice, tablets
-/// that were removed since counted in; no range is empty or ends beyond the codes. Each tablet stands for the journal: what is read of its live
-/// store from its cutoff on, and of a frozen set up to its time, is the view's row. And the states of
-/// the records of operations say of the parts what they have to.
+/// A legal history is right: each reply is that of one list of stamped changes. What its restores and clones
+/// fixed stays as it was, and no change of their namespaces came too late for them. What holds after each entry
+/// holds of the parts that the history leaves. At each time at which the view has a table, the ranges of its tablets
+/// that were active then cover the codes, none twice, tablets that were removed since counted in; no range is empty
+/// or ends beyond the codes. Each tablet stands for the journal: what is read of its live store from its cutoff on,
+/// and of a frozen set up to its time, is the view's row. And the states of the records of operations say of the
+/// parts what they have to.
 pub fn legal_is_right()
-    ensures right { (slots : ℕ) (history : List Entry) → Legal slots history → Covered history → Right slots history }
-    ensures holds { (slots : ℕ) (history : List Entry) → Legal slots history → Covered history → Inv (replay slots history) (activity_of slots history) (journal_of slots history) }
-    ensures stands { (slots : ℕ) (history : List Entry) → Legal slots history → Covered history → Stands (replay slots history) (journal_of slots history) }
-    ensures facts { (slots : ℕ) (history : List Entry) → Legal slots history → Covered history → RecordFacts (replay slots history) (journal_of slots history) }
-    ensures cover { (slots : ℕ) (history : List Entry) → Legal slots history → Covered history → Divides (activity_of slots history) (journal_of slots history) }
-    ensures fixed { (slots : ℕ) (history : List Entry) → Legal slots history → Covered history → FixedStays (journal_of slots history) }
+    ensures right { (slots : ℕ) (history : List Entry) → Legal slots history → Right slots history }
+    ensures holds { (slots : ℕ) (history : List Entry) → Legal slots history → Inv (replay slots history) (activity_of slots history) (journal_of slots history) }
+    ensures stands { (slots : ℕ) (history : List Entry) → Legal slots history → Stands (replay slots history) (journal_of slots history) }
+    ensures facts { (slots : ℕ) (history : List Entry) → Legal slots history → RecordFacts (replay slots history) (journal_of slots history) }
+    ensures cover { (slots : ℕ) (history : List Entry) → Legal slots history → Divides (activity_of slots history) (journal_of slots history) }
+    ensures fixed { (slots : ℕ) (history : List Entry) → Legal slots history → FixedStays (journal_of slots history) }
 {}
 
-/// Each entry of a legal history of covered acts draws as many identifiers of each kind as its act
-/// takes, and these are the next ones, in order; a refused entry draws none. The history draws few:
-/// at most as many of each kind as a cluster has slots, for each entry of the master's log. So numbers
-/// of identifiers stay below their bound, of which code makes its identifiers. A new column gets one
-/// more than the greatest id that was ever given to its table; and the newest schema that the catalog
-/// keeps of a table has as its version the changes of columns and the restores that made the table
-/// current, counted from 1. A kept snapshot is as it was taken, in any history.
+/// Each entry of a legal history of covered acts draws as many identifiers of each kind as its act takes, and these
+/// are the next ones, in order; a refused entry draws none. The history draws few: at most as many of each kind as a
+/// cluster has slots, for each entry of the master's log. So numbers of identifiers stay below their bound, of which
+/// code makes its identifiers. A new column gets one more than the greatest id that was ever given to its table; and
+/// the newest schema that the catalog keeps of a table has as its version the changes of columns, and the restores
+/// and the clone, that made the table current, counted from 1. A kept snapshot is as it was taken, in any history.
 pub fn numbers_are_drawn()
     ensures drawn { (slots : ℕ) (history : List Entry) → Legal slots history → Covered history → DrawsInTurn slots history }
     ensures within { (slots : ℕ) (history : List Entry) → Legal slots history → Covered history → DrawnWithin slots history }
     ensures below { (slots : ℕ) (history : List Entry) → Legal slots history → Covered history → DrawnBelow (replay slots history).master }
-    ensures schemas { (slots : ℕ) (history : List Entry) → Legal slots history → Covered history → SchemasDrawn (replay slots history).master (journal_of slots history) }
+    ensures schemas { (slots : ℕ) (history : List Entry) → Legal slots history → SchemasDrawn (replay slots history).master (journal_of slots history) }
     ensures taken { (slots : ℕ) (history : List Entry) → SnapshotsAsTaken slots history }
 {}
 
-/// The history of a script whose commands meet what is asked of them, and are of the covered ones, is
-/// legal, and right: each reply is that of one list of stamped changes. The same is so of what stood
-/// before any of its entries, as of a part of it that was kept. A program whose history is that of the
-/// book's run cites this.
+/// The history of a script whose commands meet what is asked of them is legal, and right: each reply is that of one
+/// list of stamped changes. The same is so of what stood before any of its entries, as of a part of it that was kept.
+/// A program whose history is that of the book's run cites this.
 pub fn runs_are_right()
-    ensures legal { (slots : ℕ) (commands : List Numbered) → AllOf (λ c. ScriptAsked slots c.command) commands → AllOf (λ c. ScriptCovered c.command) commands → Legal slots (run_of slots commands).history }
-    ensures right { (slots : ℕ) (commands : List Numbered) → AllOf (λ c. ScriptAsked slots c.command) commands → AllOf (λ c. ScriptCovered c.command) commands → Right slots (run_of slots commands).history }
+    ensures legal { (slots : ℕ) (commands : List Numbered) → AllOf (λ c. ScriptAsked slots c.command) commands → Legal slots (run_of slots commands).history }
+    ensures right { (slots : ℕ) (commands : List Numbered) → AllOf (λ c. ScriptAsked slots c.command) commands → Right slots (run_of slots commands).history }
     ensures legal_before { (slots : ℕ) (later earlier : List Entry) → Legal slots (later ++ earlier) → Legal slots earlier }
     ensures right_before { (slots : ℕ) (later earlier : List Entry) → Right slots (later ++ earlier) → Right slots earlier }
 {}

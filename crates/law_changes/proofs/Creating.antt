@@ -46,6 +46,7 @@ use Rattle.law_invariants.specs.Operations.{OperationsGood}
 use Rattle.law_changes.proofs.Quiet.{same_names, marks_stay, Carries, good_carried}
 use Rattle.law_changes.proofs.Plans.{has_in, in_has}
 use Rattle.law_changes.proofs.Free.{RiseFrom, rise_in, AreFree, least_free}
+use Rattle.law_invariants.proofs.Parting.{part_same, part_append}
 
 -- No rows are awaited
 
@@ -331,10 +332,7 @@ remembered_made m n changes ns name columns slots activity before long ops h =
     let k = table_made ns name columns slots n m in
     let made = shared slots 0 (length slots) n m in
     record {
-      kept = λ i isin. elim (in_append m.activity made i isin) [
-        | inl old ↦ in_first activity made i (h.kept i old)
-        | inr new ↦ in_second activity made i new
-      ];
+      part = part_append activity m.activity made made h.part (part_same made);
       each = λ i isin. elim (in_append activity made i isin) [
         | inl old ↦ (elim (h.each i old) [
           | inl here ↦ inl (in_first m.activity made i here)

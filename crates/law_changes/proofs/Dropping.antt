@@ -43,6 +43,7 @@ use Rattle.law_changes.proofs.Told.{slots_told, master_early, tablet_early, told
 use Rattle.law_changes.proofs.Quiet.{ended_tables, same_names, marks_stay}
 use Rattle.law_changes.proofs.Plans.{active_planned, planned_active}
 use Rattle.law_changes.proofs.Awaiting.{AwaitNone, none_await}
+use Rattle.law_invariants.proofs.Parting.{part_mapped}
 
 -- where an interval ends that may be one of the table's
 abbrev pub end_of : Id → ℕ → Interval → Option ℕ
@@ -260,7 +261,7 @@ forgotten_cut m n id i before gone =
 
 remembered_dropped : (m : Master) (n : ℕ) (id : Id) (activity : List Interval) → m.clock < n → Remembered m activity → Remembered (table_dropped id n m) (end_table_tablets id n activity)
 remembered_dropped m n id activity before h = record {
-  kept = in_mapped (cut_off id n) (λ i. In i (map (cut_off id n) activity)) m.activity (λ i isin. map_in (cut_off id n) activity i (h.kept i isin));
+  part = part_mapped (cut_off id n) activity m.activity h.part;
   each = in_mapped (cut_off id n) (λ i. In i (map (cut_off id n) m.activity) ⊎ IsForgotten (table_dropped id n m) i) activity (λ i isin. elim (h.each i isin) [
     | inl here ↦ inl (map_in (cut_off id n) m.activity i here)
     | inr gone ↦ inr (forgotten_cut m n id i before gone)

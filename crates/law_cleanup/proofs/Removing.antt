@@ -17,7 +17,7 @@ use Rattle.model.specs.Cleanup.{floor_of_table, hidden_at, is_hidden_as, lister_
 use Rattle.model.specs.History.{told}
 use Rattle.law_store.proofs.Keys.{either_way}
 use Rattle.model.specs.Records.{is_restored}
-use Rattle.law_invariants.specs.Remembered.{Remembered, IsForgotten}
+use Rattle.law_invariants.specs.Remembered.{IsPartOf, Remembered, IsForgotten}
 use Rattle.law_invariants.specs.Invariant.{EndsBy, MasterGood, SlotGood, SlotWorks, Inv, Later}
 use Rattle.law_invariants.proofs.Finding.{either_is, both_pass, second_fails, none_or_some, same_equal, same_self}
 use Rattle.law_invariants.proofs.Lasting.{last_in}
@@ -30,6 +30,7 @@ use Rattle.law_changes.proofs.Plans.{has_in}
 use Rattle.law_invariants.proofs.Awaits.{awaits_is}
 use Rattle.law_cleanup.proofs.Forgetting.{not_false, unlisted, Unlisted, forgetting, kept_in, was_in, operations_forget}
 use Rattle.law_cleanup.proofs.Emptying.{IsGone, slot_emptied, slot_beside, works_emptied, works_beside}
+use Rattle.law_invariants.proofs.Parting.{part_left}
 
 -- What is forgotten
 
@@ -90,7 +91,7 @@ remembered_forget ps activity changes n target i inv r =
     let m = ps.master in
     let h = inv.remembered in
     let before = r.gone.before in
-    let kept : (i : Interval) → In i (forget target ps.master.activity) → In i activity = λ j isin. h.kept j (was_in target m.activity j isin).0 in
+    let part : IsPartOf (forget target ps.master.activity) activity = part_left (λ j. not (same j.tablet target)) activity m.activity h.part in
     let each : (i : Interval) → In i activity → In i (forget target ps.master.activity) ⊎ IsForgotten (forgetting ps.master n target) i = λ j isin. elim (h.each j isin) [
         | inl here ↦ either_way (same j.tablet target)
             (λ e.
@@ -106,7 +107,7 @@ remembered_forget ps activity changes n target i inv r =
         | inr gone ↦ inr (forgotten_on m (forgetting m n target) j (record { clock = le_of_lt before; schedules = refl; restorations = refl; clones = refl }) refl
             (λ k known. gone.unknown k (was_in target m.activity k known).0) gone)
       ] in
-    assumption (kept, each)
+    assumption (part, each)
 
 master_forget : (m : Master) (n : ℕ) (target : Id) (changes : List Made) → m.clock ≤ n → MasterGood m changes → MasterGood (forgetting m n target) changes
 master_forget m n target changes le h = record {

@@ -29,7 +29,7 @@ use Rattle.law_invariants.proofs.Finding.{none_or_some, both_pass, passes_both, 
 use Rattle.law_invariants.proofs.Operating.{target_reserved}
 use Rattle.law_invariants.proofs.Overlap.{one_holder, holder_there}
 use Rattle.law_invariants.proofs.Records.{record_at_is, owners_first}
-use Rattle.law_invariants.proofs.Remembering.{no_lows, low_found, floor_rises}
+use Rattle.law_invariants.proofs.Remembering.{no_lows, low_found, floor_rises, kept_all}
 use Rattle.law_changes.proofs.Free.{rise_in}
 use Rattle.law_changes.proofs.Namespaces.{unreserved_name, not_either}
 use Rattle.law_moves.proofs.Using.{NotUsed, no_time}
@@ -40,6 +40,7 @@ use Rattle.law_clones.proofs.Reserving.{AreNew, owner_stays, reserving, reservin
 use Rattle.law_clones.proofs.Adding.{Adds, adding, adding_keeps}
 use Rattle.law_clones.proofs.Pairing.{tables_then_apart, by_id_only, by_id_has, table_pair, tables_pair_apart, one_target_of, one_source_of, target_there, IsTabletPair, tablet_pair, tablets_one_slot, tablets_one_target, IsActiveOf, source_then, all_free, ends_after}
 use Rattle.law_clones.proofs.Taking.{takers_are, ordered_holders, filtered_holders}
+use Rattle.law_invariants.proofs.Parting.{part_counts}
 
 -- what a clone to a time is accepted for
 pub record MayClone (m : Master) (ns : Id) (least : ℕ) (target : List ℕ) (to n : ℕ) : Type 0 where
@@ -50,10 +51,6 @@ pub record MayClone (m : Master) (ns : Id) (least : ℕ) (target : List ℕ) (to
   pub from : least ≤ to
   pub before : to < n
   pub enough : length (sources m ns to) ≤ length (free_slots m)
-
--- the master keeps no interval more often than it was
-abbrev pub CountedIn : Master → List Interval → Type 0
-CountedIn m activity = (table : Id) (code x : ℕ) → holders m.activity table code x ≤ holders activity table code x
 
 -- the time is not below the floor, so the catalog is kept from it on
 floor_from : (ps : Parts) (activity : List Interval) (changes : List Change) (ns : Id) (s : ℕ) (target : List ℕ) (to n : ℕ) → ps.master.clock ≤ n → MayClone ps.master ns s target to n → floor_of ps.master ns ps.master.clock ≤ to
@@ -164,9 +161,8 @@ is_taken ps activity changes ns s target to n p le may inv isin =
 active_over : (to : Option ℕ) (floor from x : ℕ) → ended_by floor to ≡ true → floor ≤ x → holds_at x from to ≡ true → ⊥
 active_over to floor from x ended le active = ends_after to floor x ended (both_pass (leb from x) (before_end x to) active).1 le
 
-covers_it : (ps : Parts) (activity : List Interval) (changes : List Change) (ns : Id) (s : ℕ) (target : List ℕ) (to n : ℕ) (d : IdPair) (code : ℕ) → ps.master.clock ≤ n → MayClone ps.master ns s target to n → CountedIn ps.master activity
-    → Inv ps activity changes → In d (tables_of ps.master ns to) → code < 65536 → takers (tablets_of ps.master ns to) d.target code ≡ 1
-covers_it ps activity changes ns s target to n d code le may counted inv isin small =
+pub covers_it : (ps : Parts) (activity : List Interval) (changes : List Change) (ns : Id) (s : ℕ) (target : List ℕ) (to n : ℕ) (d : IdPair) (code : ℕ) → ps.master.clock ≤ n → MayClone ps.master ns s target to n → Inv ps activity changes → In d (tables_of ps.master ns to) → code < 65536 → takers (tablets_of ps.master ns to) d.target code ≡ 1
+covers_it ps activity changes ns s target to n d code le may inv isin small =
     let m = ps.master in
     let tables = inv.master.tables in
     let ts = tables_at m.catalog.tables ns to in
@@ -192,7 +188,7 @@ covers_it ps activity changes ns s target to n d code le may counted inv isin sm
           active_over h.0.to (floor_of m ns m.clock) h.0.from to below low_floor inner.0)
     ] in
     let some : 1 ≤ holders m.activity d.source code to = one_holder m.activity h.0 d.source code to here h.1.1 in
-    let most : holders m.activity d.source code to ≤ 1 = le_trans (counted d.source code to) (inv.cover.once d.source code to small) in
+    let most : holders m.activity d.source code to ≤ 1 = le_trans (part_counts activity m.activity d.source code to inv.remembered.part) (inv.cover.once d.source code to small) in
     let exact : holders m.activity d.source code to ≡ 1 = omega arith in
     takers_are (sources m ns to) (free_slots m) m.drawn.tablets (tables_of m ns to) d code to may.enough
     (λ i listed. (source_then m ns to i listed).active)
@@ -216,9 +212,9 @@ covers_it ps activity changes ns s target to n d code le may counted inv isin sm
 
 -- The new record is good
 
-new_good : (ps : Parts) (activity : List Interval) (changes : List Change) (ns : Id) (s : ℕ) (source target : List ℕ) (to n : ℕ) → ps.master.clock ≤ n → MayClone ps.master ns s target to n → CountedIn ps.master activity → Inv ps activity changes
+new_good : (ps : Parts) (activity : List Interval) (changes : List Change) (ns : Id) (s : ℕ) (source target : List ℕ) (to n : ℕ) → ps.master.clock ≤ n → MayClone ps.master ns s target to n → Inv ps activity changes
     → CloneGood (adding (reserving ps.master n (owners_for ps.master ns to) (drawn_for ps.master ns to)) (new_clone ns source target to ps.master)) changes (new_clone ns source target to ps.master)
-new_good ps activity changes ns s source target to n le may counted inv =
+new_good ps activity changes ns s source target to n le may inv =
     let m = ps.master in
     let ts = tables_at m.catalog.tables ns to in
     let ds = tables_of m ns to in
@@ -257,7 +253,7 @@ new_good ps activity changes ns s source target to n le may counted inv =
       owned = λ d paired. (let t = of_source d paired in
           owners_first m.catalog.owners (owners_for m ns to) d.source ns (ap (owner_of m.catalog.owners) t.1.1.0 ∙ tables.owned t.0 t.1.0 ∙ ap Some t.1.1.1));
       drawn_sources = λ d paired. (let t = of_source d paired in let l = tables.drawn_before t.0 t.1.0 in let e : d.source.number ≡ t.0.id.number = ap (λ i. i.number) t.1.1.0 in omega arith);
-      covers = λ d code paired small. covers_it ps activity changes ns s target to n d code le may counted inv paired small;
+      covers = λ d code paired small. covers_it ps activity changes ns s target to n d code le may inv paired small;
       scheduled = λ unfinished. scheduled;
       sources = λ unfinished p paired. (let k = taken p paired in record {
         interval = k.of.interval;
@@ -275,12 +271,12 @@ new_good ps activity changes ns s source target to n le may counted inv =
       });
       reserved = λ unseen p paired. (let k = taken p paired in record {
         free = λ i there at. free.vacant p.slot k.of.isin i there at;
-        unknown = λ i there is. (let l = inv.remembered.drawn i (inv.remembered.kept i there) in let a = k.of.above in let e : i.tablet.number ≡ p.target.number = ap (λ q. q.number) is in omega arith);
+        unknown = λ i there is. (let l = inv.remembered.drawn i (kept_all inv.remembered i there) in let a = k.of.above in let e : i.tablet.number ≡ p.target.number = ap (λ q. q.number) is in omega arith);
         no_snapshot = λ r l there lists is. (let b = (ops.snapshots r there).drawn_listed l lists in let a = k.of.above in let e : l.tablet.number ≡ p.target.number = ap (λ q. q.number) is in omega arith);
         no_restoration = λ r l there lists is. (let b = inv.master.listed r l there lists in let a = k.of.above in let e : l.tablet.number ≡ p.target.number = ap (λ q. q.number) is in omega arith);
       });
       no_tablet = λ unseen i there owner. (
-          let was : owner_of m.catalog.owners i.table ≡ Some next = sym (owner_stays m (owners_for m ns to) (drawn_for m ns to) i.table (owners_new m ns to) (inv.remembered.drawn_table i (inv.remembered.kept i there))) ∙ owner in
+          let was : owner_of m.catalog.owners i.table ≡ Some next = sym (owner_stays m (owners_for m ns to) (drawn_for m ns to) i.table (owners_new m ns to) (inv.remembered.drawn_table i (kept_all inv.remembered i there))) ∙ owner in
           not_next next (ops.owners i.table next was) refl);
       no_table = λ unseen r there is. not_next r.namespace (ops.owners r.id r.namespace (tables.owned r there)) is;
       no_namespace = λ unseen r there. (
@@ -342,9 +338,9 @@ new_floors ps activity changes ns s source target to n may inv = λ id.
 
 -- The acceptance
 
-new_adds : (ps : Parts) (activity : List Interval) (changes : List Change) (ns : Id) (s : ℕ) (source target : List ℕ) (to n : ℕ) → ps.master.clock ≤ n → MayClone ps.master ns s target to n → CountedIn ps.master activity → Inv ps activity changes
+new_adds : (ps : Parts) (activity : List Interval) (changes : List Change) (ns : Id) (s : ℕ) (source target : List ℕ) (to n : ℕ) → ps.master.clock ≤ n → MayClone ps.master ns s target to n → Inv ps activity changes
     → Adds (record { master = reserving ps.master n (owners_for ps.master ns to) (drawn_for ps.master ns to); tablet = ps.tablet }) activity changes (new_clone ns source target to ps.master)
-new_adds ps activity changes ns s source target to n le may counted inv =
+new_adds ps activity changes ns s source target to n le may inv =
     let m = ps.master in
     let c = new_clone ns source target to m in
     let ops = inv.operations in
@@ -374,7 +370,7 @@ new_adds ps activity changes ns s source target to n le may counted inv =
         λ e. (let l = inv.remembered.drawn i isin in let a = k.of.above in let z : i.tablet.number ≡ p.target.number = ap (λ q. q.number) e in omega arith),
         λ e. (let l = inv.remembered.drawn_table i isin in let a = k.above in let z : i.table.number ≡ p.table.number = ap (λ q. q.number) e in omega arith),
       ));
-      good = new_good ps activity changes ns s source target to n le may counted inv;
+      good = new_good ps activity changes ns s source target to n le may inv;
       vacant = λ slot. record {
         empty = λ p paired at. (
             let t = ps.tablet slot in
@@ -387,10 +383,10 @@ new_adds ps activity changes ns s source target to n le may counted inv =
       };
     }
 
-pub begun_keeps : (ps : Parts) (activity : List Interval) (changes : List Change) (ns : Id) (s : ℕ) (source target : List ℕ) (to n : ℕ) → ps.master.clock ≤ n → MayClone ps.master ns s target to n → CountedIn ps.master activity → Inv ps activity changes
+pub begun_keeps : (ps : Parts) (activity : List Interval) (changes : List Change) (ns : Id) (s : ℕ) (source target : List ℕ) (to n : ℕ) → ps.master.clock ≤ n → MayClone ps.master ns s target to n → Inv ps activity changes
     → Inv (record { master = clone_begun ns source target to n ps.master; tablet = ps.tablet }) activity changes
-begun_keeps ps activity changes ns s source target to n le may counted inv =
+begun_keeps ps activity changes ns s source target to n le may inv =
     let m = ps.master in
     let k = reserving m n (owners_for m ns to) (drawn_for m ns to) in
-    adding_keeps (record { master = k; tablet = ps.tablet }) activity changes (new_clone ns source target to m) (new_adds ps activity changes ns s source target to n le may counted inv)
+    adding_keeps (record { master = k; tablet = ps.tablet }) activity changes (new_clone ns source target to m) (new_adds ps activity changes ns s source target to n le may inv)
     (reserving_keeps ps activity changes n (owners_for m ns to) (drawn_for m ns to) le (owners_new m ns to) inv)

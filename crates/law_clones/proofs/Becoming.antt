@@ -44,6 +44,7 @@ use Rattle.law_clones.proofs.Viewing.{clone, table_early, rows_early, table_asid
 use Rattle.law_clones.proofs.Counting.{taken, cloned_covers}
 use Rattle.law_clones.proofs.Cataloguing.{cloned_is, tables_cloned, marks_cloned, names_cloned}
 use Rattle.law_clones.proofs.Growing.{Becomes, grown, fixed_is, good, copying, dark, unlisted, unmade, takes, takes_catalog, by_interval, stays, begins, aside, open_was, open_on, other_use, floors, schedule_grown, scheduled_grown, snapshot_grown, restoration_grown}
+use Rattle.law_invariants.proofs.Parting.{part_same, part_append}
 
 -- the record that becomes current, with the tablets that it is to release
 abbrev pub step : CloneRecord → Id → ℕ → ℕ → Step
@@ -63,7 +64,7 @@ moved_some ns (Some t) = refl
 abbrev pub line : ℕ → Listed → Listed
 line n l = record { tablet = l.tablet; slot = l.slot; body = Release n; acked = false }
 
-module _ (ps : Parts) (activity : List Interval) (changes : List Change) (n : ℕ) (r : CloneRecord) (serving : Id) (at : ℕ) (b : Becomes ps activity changes n r serving at) where
+module _ (ps : Parts) (activity : List Interval) (changes : List Change) (n : ℕ) (r : CloneRecord) (serving : Id) (at : ℕ) (b : Becomes ps activity changes n r serving at) (acked_all : (l : Listed) → In l r.listed → l.acked ≡ true) where
   up : ps.master.clock ≤ n
   up = le_of_lt b.before
 
@@ -74,27 +75,27 @@ module _ (ps : Parts) (activity : List Interval) (changes : List Change) (n : �
 
   -- another clone that is not yet current has other targets
   same_made : (c : CloneRecord) (p q : TabletPair) → In c ps.master.clones → is_visible c.state ≡ false → In q c.tablets → In p r.tablets → q.target ≡ p.target → c ≡ r
-  same_made c p q isin unseen in_q in_p e = b.inv.operations.apart.one_made c r q p isin b.may.kept unseen (dark ps activity changes n r serving at b) in_q in_p e
+  same_made c p q isin unseen in_q in_p e = b.inv.operations.apart.one_made c r q p isin b.kept unseen (dark ps activity changes n r serving at b) in_q in_p e
 
   -- and another target namespace
   same_target : (c : CloneRecord) → In c ps.master.clones → is_cloned c.state ≡ false → c.target_id ≡ r.target_id → c ≡ r
-  same_target c isin open_ e = b.inv.operations.apart.one_clone c r r.target_id isin b.may.kept open_ b.may.unfinished (inr e) (inr refl)
+  same_target c isin open_ e = b.inv.operations.apart.one_clone c r r.target_id isin b.kept open_ (ap is_cloned b.is) (inr e) (inr refl)
 
   slot_yet : (slot : ℕ) → CopyingSlot ps.master changes r at slot (ps.tablet slot)
-  slot_yet slot = subst (λ s. CloneSlot s ps.master changes r slot (ps.tablet slot)) b.is ((b.inv.works slot).obeyed.clones r b.may.kept)
+  slot_yet slot = subst (λ s. CloneSlot s ps.master changes r slot (ps.tablet slot)) b.is ((b.inv.works slot).obeyed.clones r b.kept)
 
   -- each target has copied
   copied : (p : TabletPair) → In p r.tablets → IsCopy changes r at p (ps.tablet p.slot)
   copied p paired =
       let l = (copying ps activity changes n r serving at b).all p paired in
-      (slot_yet p.slot).copied p paired refl ((slot_yet p.slot).acked l.0 l.1.0 l.1.1.1 (b.may.acked l.0 l.1.0))
+      (slot_yet p.slot).copied p paired refl ((slot_yet p.slot).acked l.0 l.1.0 l.1.1.1 (acked_all l.0 l.1.0))
 
   -- none was released yet
   unreleased : (slot : ℕ) → is_done (ps.tablet slot).done r.id ReleaseKind ≡ false
   unreleased slot = either_way (is_done (ps.tablet slot).done r.id ReleaseKind)
       (λ did. absurd (
       let mark = done_is (ps.tablet slot).done r.id ReleaseKind did in
-      let l : 2 ≤ stage_of_clone r.state = subst (λ k. cloning_stage k ≤ stage_of_clone r.state) mark.1.1.1 (((b.inv.works slot).orders.marks mark.0 mark.1.0).by_clone r b.may.kept (sym mark.1.1.0)) in
+      let l : 2 ≤ stage_of_clone r.state = subst (λ k. cloning_stage k ≤ stage_of_clone r.state) mark.1.1.1 (((b.inv.works slot).orders.marks mark.0 mark.1.0).by_clone r b.kept (sym mark.1.1.0)) in
       let e : stage_of_clone r.state ≡ 1 = ap stage_of_clone b.is in omega arith))
       (λ e. e)
 
@@ -144,7 +145,7 @@ module _ (ps : Parts) (activity : List Interval) (changes : List Change) (n : �
   -- the view has a target's table from the stamp on, and not before
 
   source : (p : TabletPair) → In p r.tablets → IsSource ps.master r p
-  source p paired = (good ps activity changes n r serving at b).sources b.may.unfinished p paired
+  source p paired = (good ps activity changes n r serving at b).sources (ap is_cloned b.is) p paired
 
   seen_since : (p : TabletPair) (x : ℕ) → In p r.tablets → n ≤ x → is_some (table_at (clone n r changes) x p.table) ≡ true
   seen_since p x paired l =
@@ -326,7 +327,7 @@ module _ (ps : Parts) (activity : List Interval) (changes : List Change) (n : �
         sources = λ open_ p paired. source_grown c c p refl refl refl (h.sources open_ p paired);
         reserved = λ unseen p paired. (let g = h.reserved unseen p paired in record {
           free = by_interval ps activity changes n r serving at b (λ i. i.slot ≡ p.slot → ⊥) (λ i there is. g.free i there is)
-              (λ q in_q is. apart (b.inv.operations.apart.one_target c r p q isin b.may.kept (visible_later c.state unseen) b.may.unfinished paired in_q (sym is)));
+              (λ q in_q is. apart (b.inv.operations.apart.one_target c r p q isin b.kept (visible_later c.state unseen) (ap is_cloned b.is) paired in_q (sym is)));
           unknown = by_interval ps activity changes n r serving at b (λ i. i.tablet ≡ p.target → ⊥) (λ i there is. g.unknown i there is)
               (λ q in_q is. apart (same_made c q p isin unseen paired in_q (sym is)));
           no_snapshot = g.no_snapshot;
@@ -340,10 +341,10 @@ module _ (ps : Parts) (activity : List Interval) (changes : List Change) (n : �
         ];
         no_namespace = λ unseen. in_added (λ q. (q.id ≡ c.target_id → ⊥) × (is_open q.to ≡ true → q.name ≡ c.target → ⊥)) m.catalog.namespaces (new_namespace r.target_id r.target n)
             (λ q there. h.no_namespace unseen q there)
-            (λ e. apart (same_target c isin (visible_later c.state unseen) (sym e)), λ opened e. apart (b.inv.operations.apart.one_name c r isin b.may.kept unseen (dark ps activity changes n r serving at b) (sym e)));
+            (λ e. apart (same_target c isin (visible_later c.state unseen) (sym e)), λ opened e. apart (b.inv.operations.apart.one_name c r isin b.kept unseen (dark ps activity changes n r serving at b) (sym e)));
         no_schedule = h.no_schedule;
         unfixed = λ open_ to fixed. elim (fixed_is n r changes c.target_id to fixed) [
-          | inl q ↦ apart (b.inv.operations.apart.one_clone c r r.source isin b.may.kept open_ b.may.unfinished (inr q.0) (inl refl))
+          | inl q ↦ apart (b.inv.operations.apart.one_clone c r r.source isin b.kept open_ (ap is_cloned b.is) (inr q.0) (inl refl))
           | inr old ↦ h.unfixed open_ to old
         ];
         in_state = clone_state_grown c.state c (λ open_ e. apart (same_target c isin open_ e)) h.in_state;
@@ -462,10 +463,10 @@ module _ (ps : Parts) (activity : List Interval) (changes : List Change) (n : �
 
   steps : Steps ps.master.clones (step r serving at n)
   steps = record {
-    kept = b.may.kept;
+    kept = b.kept;
     kind_is = (good ps activity changes n r serving at b).kind_is;
-    unfinished = b.may.unfinished;
-    acked = b.may.acked;
+    unfinished = (ap is_cloned b.is);
+    acked = acked_all;
     seen = λ dark_. absurd (true≢false dark_);
     stage = subst (λ s. stage_of_clone s ≤ 2) (sym b.is) (omega arith);
     copied = λ x is. inl (ap copied_at b.is ∙ is);
@@ -524,7 +525,7 @@ module _ (ps : Parts) (activity : List Interval) (changes : List Change) (n : �
     owned = h.owned;
     drawn_sources = h.drawn_sources;
     covers = h.covers;
-    scheduled = λ open_. h.scheduled b.may.unfinished;
+    scheduled = λ open_. h.scheduled (ap is_cloned b.is);
     sources = λ open_ p paired. (let k = source p paired in record {
       interval = k.interval;
       kept = stays ps activity changes n r serving at b k.interval k.kept;
@@ -546,7 +547,7 @@ module _ (ps : Parts) (activity : List Interval) (changes : List Change) (n : �
     no_schedule = λ unseen. absurd (true≢false unseen);
     unfixed = λ open_ to fixed. elim (fixed_is n r changes r.target_id to fixed) [
       | inl k ↦ h.apart (sym k.0)
-      | inr old ↦ h.unfixed b.may.unfinished to old
+      | inr old ↦ h.unfixed (ap is_cloned b.is) to old
     ];
     in_state = now_visible;
   }
@@ -578,14 +579,14 @@ module _ (ps : Parts) (activity : List Interval) (changes : List Change) (n : �
           | inl k ↦ inl (record { interval = k.interval; kept = stays ps activity changes n r serving at b k.interval k.kept; slot_is = k.slot_is; tablet_is = k.tablet_is })
           | inr k ↦ either_way (same k.clone.id r.id)
               (λ e.
-              let one : k.clone ≡ r = ops.apart.clone_ids k.clone r k.kept b.may.kept (same_equal k.clone.id r.id e) in
+              let one : k.clone ≡ r = ops.apart.clone_ids k.clone r k.kept b.kept (same_equal k.clone.id r.id e) in
               inl (record { interval = taken n k.pair; kept = begins ps activity changes n r serving at b k.pair (subst (λ c. In k.pair c.tablets) one k.paired); slot_is = k.slot_is; tablet_is = k.tablet_is }))
               (λ e. inr (record { clone = k.clone; kept = other_in v m.clones k.clone k.kept e; serving = k.serving; at = k.at; state_is = k.state_is; pair = k.pair; paired = k.paired; slot_is = k.slot_is; tablet_is = k.tablet_is }))
         ];
         snapshots = h.snapshots;
         restorations = λ x isin. restoration_slot_beside x.state g cs s (clone n r changes) x slot t
             (restoration_slot_grown x.state x slot (λ open_. other_use ps activity changes n r serving at b x isin open_) (ops.restorations x isin).in_state (h.restorations x isin));
-        clones = λ c. by_entering (λ c. CloneSlot c.state (stepped g v) (clone n r changes) c slot t) v m.clones ops.apart.clone_ids b.may.kept (released_slot slot)
+        clones = λ c. by_entering (λ c. CloneSlot c.state (stepped g v) (clone n r changes) c slot t) v m.clones ops.apart.clone_ids b.kept (released_slot slot)
             (λ x there other. clone_slot_beside x.state g cs s (clone n r changes) x slot t (clone_slot_grown x.state x slot (lt_of_lt_of_le (ops.clones x there).past up) (h.clones x there))) c;
       }
 
@@ -615,7 +616,7 @@ module _ (ps : Parts) (activity : List Interval) (changes : List Change) (n : �
       let ops = b.inv.operations in
       let of_new : (P : Interval → Type 0) → ((p : TabletPair) → In p r.tablets → P (taken n p)) → (i : Interval) → In i new → P i = λ P go i isin. in_mapped {A = TabletPair} {B = Interval} (taken n) P r.tablets go i isin in
       record {
-        kept = λ i isin. elim (in_append m.activity new i isin) [ inl old ↦ in_first activity new i (h.kept i old) | inr came ↦ in_second activity new i came ];
+        part = part_append activity m.activity new new h.part (part_same new);
         each = λ i isin. elim (in_append activity new i isin) [
           | inl old ↦ (elim (h.each i old) [
             | inl here ↦ inl (stays ps activity changes n r serving at b i here)
@@ -626,7 +627,7 @@ module _ (ps : Parts) (activity : List Interval) (changes : List Change) (n : �
         ];
         drawn = λ i isin. elim (in_append activity new i isin) [ inl old ↦ h.drawn i old | inr came ↦ of_new (λ i. i.tablet.number ≤ m.drawn.tablets) (λ p paired. (k.pairs p paired).drawn) i came ];
         drawn_table = λ i isin. elim (in_append activity new i isin) [ inl old ↦ h.drawn_table i old | inr came ↦ of_new (λ i. i.table.number ≤ m.drawn.tables) (λ p paired. (k.pairs p paired).drawn_table) i came ];
-        reserved = λ c p i. by_entering (λ c. is_visible c.state ≡ false → In p c.tablets → In i (activity ++ new) → (i.tablet ≡ p.target → ⊥) × (i.table ≡ p.table → ⊥)) v m.clones ops.apart.clone_ids b.may.kept
+        reserved = λ c p i. by_entering (λ c. is_visible c.state ≡ false → In p c.tablets → In i (activity ++ new) → (i.tablet ≡ p.target → ⊥) × (i.table ≡ p.table → ⊥)) v m.clones ops.apart.clone_ids b.kept
             (λ unseen. absurd (true≢false unseen))
             (λ x there other unseen paired isin. elim (in_append activity new i isin) [
               | inl old ↦ h.reserved x p i there unseen paired old
@@ -664,7 +665,7 @@ module _ (ps : Parts) (activity : List Interval) (changes : List Change) (n : �
         scheduled = λ k isin. scheduled_beside g cs s k floors_now (scheduled_grown ps activity changes n r serving at b k (ops.scheduled k isin));
         snapshots = λ q isin. snapshot_beside g cs s q floors_now (snapshot_grown ps activity changes n r serving at b q isin (ops.snapshots q isin));
         restorations = λ x isin. restoration_beside g cs s new x (restoration_grown ps activity changes n r serving at b x isin (ops.restorations x isin));
-        clones = by_entering (CloneGood (stepped g v) new) v m.clones ops.apart.clone_ids b.may.kept now_good (λ x there other. clone_beside g cs s new x (clone_grown x there (no_other x other) (ops.clones x there)));
+        clones = by_entering (CloneGood (stepped g v) new) v m.clones ops.apart.clone_ids b.kept now_good (λ x there other. clone_beside g cs s new x (clone_grown x there (no_other x other) (ops.clones x there)));
         sent = sent_entering g v steps ops.apart ops.sent;
       }
 
@@ -691,4 +692,4 @@ module _ (ps : Parts) (activity : List Interval) (changes : List Change) (n : �
 -- the move by which the target becomes current
 pub copied_moves : (ps : Parts) (activity : List Interval) (changes : List Change) (n : ℕ) (r : CloneRecord) (serving : Id) (at : ℕ) → ps.master.clock < n → r.state ≡ Copying serving at → MayMove ps.master r → Inv ps activity changes
     → MovedKeeps (Copying serving at) ps activity changes n r
-copied_moves ps activity changes n r serving at before is may inv = became ps activity changes n r serving at (record { before = before; may = may; is = is; inv = inv })
+copied_moves ps activity changes n r serving at before is may inv = became ps activity changes n r serving at (record { before = before; kept = may.kept; is = is; inv = inv }) may.acked

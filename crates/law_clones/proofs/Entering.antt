@@ -354,7 +354,7 @@ entering_keeps ps activity changes v w inv =
     record {
       master = master_beside m cs s changes inv.master;
       remembered = (let h = inv.remembered in record {
-        kept = h.kept;
+        part = h.part;
         each = λ i isin. elim (h.each i isin) [ inl here ↦ inl here | inr gone ↦ inr (forgotten_beside m cs s i floors gone) ];
         drawn = h.drawn;
         drawn_table = h.drawn_table;

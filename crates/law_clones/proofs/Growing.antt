@@ -10,7 +10,7 @@ use Rattle.model.specs.Catalog.{TableRecord, owner_of}
 use Rattle.model.specs.Restored.{with_clone, cloned_activity}
 use Rattle.model.specs.Activity.{Interval, active_within}
 use Rattle.model.specs.Journal.{Change, source_of, table_at}
-use Rattle.model.specs.Records.{Listed, Schedule, SnapshotRecord, RestorationRecord, RestorationState, Fencing, Snapshotting, Switching, Restoring, Releasing, Restored, IdPair, TabletPair, CloneRecord, Copying, ScheduledNamespace, is_restored, is_visible}
+use Rattle.model.specs.Records.{is_cloned, Listed, Schedule, SnapshotRecord, RestorationRecord, RestorationState, Fencing, Snapshotting, Switching, Restoring, Releasing, Restored, IdPair, TabletPair, CloneRecord, Copying, ScheduledNamespace, is_restored, is_visible}
 use Rattle.model.specs.Cleanup.{floor_of}
 use Rattle.model.specs.Right.{is_fixed}
 use Rattle.model.specs.Parts.{Master, Parts}
@@ -19,17 +19,16 @@ use Rattle.law_invariants.specs.Operations.{Uses, takers, IsKnown, IsListed, IsO
 use Rattle.law_invariants.specs.Invariant.{Inv}
 use Rattle.law_invariants.proofs.Finding.{none_or_some, both_pass, same_equal, in_append, in_first, in_second, in_mapped, map_in}
 use Rattle.law_invariants.proofs.Overlap.{holder_there}
-use Rattle.law_invariants.proofs.Remembering.{floor_rises}
+use Rattle.law_invariants.proofs.Remembering.{floor_rises, kept_all}
 use Rattle.law_clones.proofs.Serving.{clone_floor}
-use Rattle.law_clones.proofs.Advancing.{MayMove}
 use Rattle.law_clones.proofs.Viewing.{clone, by_source}
 use Rattle.law_clones.proofs.Counting.{taken, TakesOver}
 use Rattle.law_clones.proofs.Cataloguing.{MayTake, cloned_is}
 
--- a clone whose targets all copied their rows is to make them current
+-- a clone whose targets copy their rows is to make them current
 pub record Becomes (ps : Parts) (activity : List Interval) (changes : List Change) (n : ℕ) (r : CloneRecord) (serving : Id) (at : ℕ) : Type 0 where
   pub before : ps.master.clock < n
-  pub may : MayMove ps.master r
+  pub kept : In r ps.master.clones
   pub is : r.state ≡ Copying serving at
   pub inv : Inv ps activity changes
 
@@ -43,7 +42,7 @@ fixed_is n r changes ns t e = either_way (same r.source ns && eqb r.to t)
     (λ b. let k = both_pass (same r.source ns) (eqb r.to t) b in inl (sym (same_equal r.source ns k.0), sym (eqb-true r.to t k.1)))
     (λ b. inr (rw b at e))
 
-taker_there : (ps : List TabletPair) (table : Id) (code : ℕ) → 1 ≤ takers ps table code → (p : TabletPair) × (In p ps × (p.table ≡ table))
+pub taker_there : (ps : List TabletPair) (table : Id) (code : ℕ) → 1 ≤ takers ps table code → (p : TabletPair) × (In p ps × (p.table ≡ table))
 taker_there [] table code l = absurd (omega (arith, l))
 taker_there (p ∷ ps) table code l = either_way (same p.table table)
     (λ b. (p, (inl refl, same_equal p.table table b)))
@@ -53,7 +52,7 @@ module _ (ps : Parts) (activity : List Interval) (changes : List Change) (n : �
   -- What holds before
 
   pub good : CloneGood ps.master changes r
-  good = b.inv.operations.clones r b.may.kept
+  good = b.inv.operations.clones r b.kept
 
   pub copying : CopyingGood ps.master r serving at
   copying = subst (λ s. CloneStateGood s ps.master r) b.is good.in_state
@@ -62,14 +61,14 @@ module _ (ps : Parts) (activity : List Interval) (changes : List Change) (n : �
   dark = ap is_visible b.is
 
   pub pair_of : (p : TabletPair) → In p r.tablets → (d : IdPair) × (In d r.tables × (d.target ≡ p.table))
-  pair_of p isin = let k = good.sources b.may.unfinished p isin in (k.pair, (k.paired, k.target_is))
+  pair_of p isin = let k = good.sources (ap is_cloned b.is) p isin in (k.pair, (k.paired, k.target_is))
 
   -- each target's table has a tablet
   taker_of : (d : IdPair) → In d r.tables → (p : TabletPair) × (In p r.tablets × (p.table ≡ d.target))
   taker_of d isin = let one = good.covers d 0 isin (omega arith) in taker_there r.tablets d.target 0 (omega (arith, one))
 
   pub unlisted : (p : TabletPair) (i : Interval) → In p r.tablets → In i activity → (i.tablet ≡ p.target → ⊥) × (i.table ≡ p.table → ⊥)
-  unlisted p i paired isin = b.inv.remembered.reserved r p i b.may.kept dark paired isin
+  unlisted p i paired isin = b.inv.remembered.reserved r p i b.kept dark paired isin
 
   pub fresh : (d : IdPair) (i : Interval) → In d r.tables → In i activity → i.table ≡ d.target → ⊥
   fresh d i paired isin e = let p = taker_of d paired in (unlisted p.0 i p.1.0 isin).1 (e ∙ sym p.1.1)
@@ -93,8 +92,8 @@ module _ (ps : Parts) (activity : List Interval) (changes : List Change) (n : �
     paired = pair_of;
     covers = good.covers;
     ranges = λ p isin. (
-        let k = good.sources b.may.unfinished p isin in
-        let g = b.inv.cover.ranges k.interval (b.inv.remembered.kept k.interval k.kept) in
+        let k = good.sources (ap is_cloned b.is) p isin in
+        let g = b.inv.cover.ranges k.interval (kept_all b.inv.remembered k.interval k.kept) in
         subst (λ l. IsRange (record { low = l; high = p.high })) k.low_is (subst (λ h. IsRange (record { low = k.interval.low; high = h })) k.high_is g));
   }
 
@@ -106,7 +105,7 @@ module _ (ps : Parts) (activity : List Interval) (changes : List Change) (n : �
     drawn_target = λ d paired. (let p = taker_of d paired in subst (λ t. t.number ≤ ps.master.drawn.tables) p.1.1 (good.pairs p.0 p.1.0).drawn_table);
     none = good.no_table dark;
     unmade = unmade;
-    known = le_trans (b.inv.operations.kept r.source) (clone_floor ps.master changes r ps.master.clock b.inv.operations b.may.kept b.may.unfinished);
+    known = le_trans (b.inv.operations.kept r.source) (clone_floor ps.master changes r ps.master.clock b.inv.operations b.kept (ap is_cloned b.is));
   }
 
   -- Intervals
@@ -125,7 +124,7 @@ module _ (ps : Parts) (activity : List Interval) (changes : List Change) (n : �
 
   -- one that was there is of no target
   pub aside : (i : Interval) → In i ps.master.activity → source_of r.tables i.table ≡ None
-  aside i isin = by_source r.tables i.table (λ e. e) (λ d paired e. absurd (fresh d i paired (b.inv.remembered.kept i isin) (sym e)))
+  aside i isin = by_source r.tables i.table (λ e. e) (λ d paired e. absurd (fresh d i paired (kept_all b.inv.remembered i isin) (sym e)))
 
   -- another namespace has no interval that begins
   pub was_there : (ns : Id) (i : Interval) → (ns ≡ r.target_id → ⊥) → In i (grown ps.master r n).activity → owner_of ps.master.catalog.owners i.table ≡ Some ns → In i ps.master.activity
@@ -228,7 +227,7 @@ module _ (ps : Parts) (activity : List Interval) (changes : List Change) (n : �
 
   -- no unfinished restoration is of the clone's namespaces
   pub other_use : (x : RestorationRecord) → In x ps.master.restorations → is_restored x.state ≡ false → Uses r x.namespace → ⊥
-  other_use x isin open_ uses = b.inv.operations.apart.one_operation x r isin b.may.kept open_ b.may.unfinished uses
+  other_use x isin open_ uses = b.inv.operations.apart.one_operation x r isin b.kept open_ (ap is_cloned b.is) uses
 
   state_grown : (state : RestorationState) (x : RestorationRecord) → In x ps.master.restorations → (is_restored state ≡ false → Uses r x.namespace → ⊥) → RestorationStateGood state ps.master changes x → RestorationStateGood state (grown ps.master r n) (clone n r changes) x
   state_grown Fencing x isin apart h = record {

@@ -81,7 +81,7 @@ reserving_keeps ps activity changes n os d le new inv =
         listed_of = λ r l isin lists i there is. owners_first m.catalog.owners os i.table r.namespace (h.listed_of r l isin lists i there is);
       };
       remembered = (let r = inv.remembered in record {
-        kept = r.kept;
+        part = r.part;
         each = λ i isin. elim (r.each i isin) [
           | inl here ↦ inl here
           | inr gone ↦ inr (forgotten_on m k i (record { clock = le; schedules = refl; restorations = refl; clones = refl }) (o.owners i.table (r.drawn_table i isin)) gone.unknown gone)

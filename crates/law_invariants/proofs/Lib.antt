@@ -1,4 +1,5 @@
 pub mod Finding
+pub mod Parting
 pub mod Remembering
 pub mod Ticking
 pub mod Frame

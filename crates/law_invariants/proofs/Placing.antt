@@ -24,6 +24,7 @@ use Rattle.law_invariants.proofs.Finding.{both_pass, passes_both, same_equal, sa
 use Rattle.law_invariants.proofs.Overlap.{two_holders, holds, code_below}
 use Rattle.law_invariants.proofs.Looking.{asked, found_at_right}
 use Rattle.law_invariants.proofs.Judging.{step_fault, step_found}
+use Rattle.law_invariants.proofs.Remembering.{kept_all}
 
 -- Lists in order have the same items
 
@@ -161,7 +162,7 @@ one_home (Some h) m n activity changes namespace table x batch id f is less reme
           (λ s. absurd (
           let hh : holds h id (first_code batch) n ≡ true = passes_both _ _ (subst (λ k. same h.table k ≡ true) a.1.0 (same_self h.table)) (passes_both _ _ a.1.1 at_home.passes) in
           let hi : holds i id (first_code batch) n ≡ true = passes_both _ _ (subst (λ k. same i.table k ≡ true) (table_is ∙ is) (same_self i.table)) (passes_both _ _ active (first_held batch i some held)) in
-          let two = two_holders activity h i id (first_code batch) n (remembered.kept h a.0) (remembered.kept i isin) (λ k. let q : eqb h.slot i.slot ≡ true = grind (arith, nat_tests) in true≢false (sym q ∙ s)) hh hi in
+          let two = two_holders activity h i id (first_code batch) n (kept_all remembered h a.0) (kept_all remembered i isin) (λ k. let q : eqb h.slot i.slot ≡ true = grind (arith, nat_tests) in true≢false (sym q ∙ s)) hh hi in
           let one = cover.once id (first_code batch) n (first_below batch) in omega arith)));
     }
 

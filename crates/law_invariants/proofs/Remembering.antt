@@ -17,8 +17,9 @@ use Rattle.model.specs.Acts.{Act, Reply}
 use Rattle.model.specs.Tablets.{Told}
 use Rattle.model.specs.Entries.{slots_of}
 use Rattle.model.specs.Parts.{Master, Parts, Ticks}
-use Rattle.law_invariants.specs.Remembered.{activity_after, IsForgotten, Remembered}
+use Rattle.law_invariants.specs.Remembered.{activity_after, IsPartOf, IsForgotten, Remembered}
 use Rattle.law_store.proofs.Keys.{either_way}
+use Rattle.law_invariants.proofs.Parting.{part_in}
 use Rattle.law_invariants.proofs.Finding.{both_pass, same_equal, same_self}
 
 -- Floors
@@ -208,6 +209,10 @@ pub ended_later : (to : Option ℕ) (m n : ℕ) → m ≤ n → ended_by m to �
 ended_later None m n le h = absurd (let q = h in grind arith)
 ended_later (Some e) m n le h = grind (arith, nat_tests)
 
+-- each interval that the master keeps is one of all
+pub kept_all : {m : Master} {activity : List Interval} → Remembered m activity → (i : Interval) → In i m.activity → In i activity
+kept_all {m} {activity} h i isin = part_in activity m.activity i h.part isin
+
 -- Forgotten intervals
 
 pub forgotten_on : (m k : Master) (i : Interval) → FloorsHold m k → owner_of k.catalog.owners i.table ≡ owner_of m.catalog.owners i.table → ((j : Interval) → In j k.activity → j.tablet ≡ i.tablet → ⊥)
@@ -222,7 +227,7 @@ forgotten_on m k i f owner unknown h = record {
 pub remembered_on : (m k : Master) (activity : List Interval) → FloorsHold m k → k.catalog.owners ≡ m.catalog.owners → k.activity ≡ m.activity → m.drawn.tablets ≤ k.drawn.tablets → m.drawn.tables ≤ k.drawn.tables
     → Remembered m activity → Remembered k activity
 remembered_on m k activity f owners same_ tablets tables h = record {
-  kept = λ i isin. h.kept i (subst (In i) same_ isin);
+  part = subst (λ is. IsPartOf is activity) (sym same_) h.part;
   each = λ i isin. elim (h.each i isin) [
     | inl here ↦ inl (subst (In i) (sym same_) here)
     | inr gone ↦ inr (forgotten_on m k i f (ap (λ os. owner_of os i.table) owners) (λ j known. gone.unknown j (subst (In j) same_ known)) gone)

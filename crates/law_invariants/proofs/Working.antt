@@ -14,7 +14,7 @@ use Rattle.model.specs.Parts.{Master}
 use Rattle.law_invariants.specs.Operations.{is_switched, OperationsGood}
 use Rattle.law_invariants.specs.Remembered.{Remembered}
 use Rattle.law_invariants.specs.Invariant.{ComesFrom, MasterGood, SlotWorks}
-use Rattle.law_invariants.proofs.Remembering.{floor_rises}
+use Rattle.law_invariants.proofs.Remembering.{floor_rises, kept_all}
 use Rattle.law_invariants.proofs.Operating.{Onward, ListedOf, operations_on}
 use Rattle.law_store.proofs.Keys.{either_way}
 use Rattle.model.specs.Stands.{before_restore, is_restore_of}
@@ -25,7 +25,7 @@ abbrev pub TablesDrawn : Master → Type 0
 TablesDrawn m = (i : Interval) → In i m.activity → i.table.number ≤ m.drawn.tables
 
 pub tables_drawn : (m : Master) (activity : List Interval) → Remembered m activity → TablesDrawn m
-tables_drawn m activity h = λ i isin. h.drawn_table i (h.kept i isin)
+tables_drawn m activity h = λ i isin. h.drawn_table i (kept_all h i isin)
 
 -- what the master keeps of the tablets that restorations list
 pub all_listed : (m : Master) (changes : List Change) → MasterGood m changes → (r : RestorationRecord) → In r m.restorations → ListedOf m r

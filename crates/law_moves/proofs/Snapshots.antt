@@ -26,7 +26,7 @@ use Rattle.law_store.proofs.Keys.{either_way}
 use Rattle.law_invariants.specs.Operations.{SnapshotsRise, ScheduleGood, SnapshotGood, OperationsGood, Alone, IsReached, ScheduledGood, IsSent}
 use Rattle.law_invariants.specs.Invariant.{Inv, Later}
 use Rattle.law_invariants.proofs.Finding.{same_equal, same_self, in_append, in_added, in_first, in_second, filter_in, in_filter, in_mapped, map_in}
-use Rattle.law_invariants.proofs.Remembering.{floor_rises}
+use Rattle.law_invariants.proofs.Remembering.{floor_rises, kept_all}
 use Rattle.law_invariants.proofs.Ticking.{by_judgement, refused_keeps, KeepsAll}
 use Rattle.law_invariants.proofs.Judging.{checked_is}
 use Rattle.law_moves.proofs.Recording.{Records, recorded, SnapshotCame, SnapshotOn, Onto, WasSchedule, NewSchedule, IsUnused, Stays, RestorationCame, MovedRestoration}
@@ -115,7 +115,7 @@ taken_good ps activity changes n ns schedule before may inv =
       past = le_refl _;
       bodies = λ l isin. (line l isin).body_is;
       drawn_listed = λ l isin. (
-          let d = inv.remembered.drawn _ (inv.remembered.kept _ (was l isin).0) in
+          let d = inv.remembered.drawn _ (kept_all inv.remembered _ (was l isin).0) in
           let e : l.tablet.number ≡ (line l isin).interval.tablet.number = ap (λ i. i.number) (line l isin).tablet_is in omega arith);
       listed_of = λ l i isin there is. (
           let k = one_place ps activity changes i (line l isin).interval inv there (was l isin).0 (is ∙ (line l isin).tablet_is) in

@@ -21,7 +21,7 @@ use Rattle.law_invariants.specs.Orders.{RowsPast}
 use Rattle.law_invariants.specs.Invariant.{MasterGood, NamespacesStand, TablesStand}
 use Rattle.law_invariants.proofs.Ticking.{namespaces_later, tables_later}
 use Rattle.law_moves.proofs.Recording.{Records, recorded, SnapshotOn, Onto, StaysScheduled}
-use Rattle.law_invariants.proofs.Remembering.{ended_later}
+use Rattle.law_invariants.proofs.Remembering.{ended_later, kept_all}
 
 -- Schedules and snapshots
 
@@ -295,7 +295,7 @@ forgotten_on ps changes w i o h = record {
 
 pub remembered_on : (ps : Parts) (activity : List Interval) (changes : List Change) (w : Records) → Onto ps changes w → Remembered ps.master activity → Remembered (recorded ps.master w) activity
 remembered_on ps activity changes w o h = record {
-  kept = h.kept;
+  part = h.part;
   each = λ i isin. elim (h.each i isin) [ inl here ↦ inl here | inr gone ↦ inr (forgotten_on ps changes w i o gone) ];
   drawn = λ i isin. le_trans (h.drawn i isin) (o.drawn TabletKind);
   drawn_table = λ i isin. le_trans (h.drawn_table i isin) (o.drawn Table);
@@ -316,7 +316,7 @@ master_on ps activity changes w o old h =
   complete = o.complete;
   listed = λ r l isin lists. elim (o.restoration_came r isin) [
     | inl there ↦ le_trans (h.listed r l there lists) (o.drawn TabletKind)
-    | inr came ↦ (let k = came.known l lists in let d = old.drawn k.interval (old.kept k.interval k.kept) in let e : k.interval.tablet.number ≡ l.tablet.number = ap (λ i. i.number) k.tablet_is in let u = o.drawn TabletKind in omega arith)
+    | inr came ↦ (let k = came.known l lists in let d = old.drawn k.interval (kept_all old k.interval k.kept) in let e : k.interval.tablet.number ≡ l.tablet.number = ap (λ i. i.number) k.tablet_is in let u = o.drawn TabletKind in omega arith)
   ];
   marks = h.marks;
   listed_of = λ r l isin lists i there is. elim (o.restoration_came r isin) [

@@ -10,6 +10,7 @@ use Rattle.model.specs.Times.{ended, ended_by, before_end}
 use Rattle.model.specs.Activity.{Interval, active_at}
 use Rattle.model.specs.Catalog.{owner_of, owns}
 use Rattle.model.specs.Restored.{begun_at, end_namespace_tablets}
+use Rattle.model.specs.Lists.{tablets_active_at}
 use Rattle.model.specs.Journal.{Change}
 use Rattle.model.specs.Records.{RestorationRecord, Switching}
 use Rattle.model.specs.Coordination.{unfinished_clone}
@@ -33,6 +34,7 @@ use Rattle.law_moves.proofs.Turned.{slot_turned, master_turned, journal_turned, 
 use Rattle.law_moves.proofs.Recorded.{floors_turned, operations_turned}
 use Rattle.law_moves.proofs.Ordered.{works_turned}
 use Rattle.law_moves.proofs.Restorations.{Moved, moved_is, advance_restoration_by}
+use Rattle.law_invariants.proofs.Parting.{part_append, part_mapped, part_filtered}
 
 -- the activity of all tablets after the switch
 abbrev all_then : Master → RestorationRecord → ℕ → List Interval → List Interval
@@ -98,11 +100,12 @@ remembered_turned ps activity changes n r point serving_ s =
     let m = ps.master in
     let h = s.inv.remembered in
     record {
-      kept = λ j isin. interval_is (λ j. In j (all_then m r point activity)) m r point
-          (λ i there. in_first (end_namespace_tablets m.catalog.owners r.namespace point activity) _ (ended_in m.catalog.owners r.namespace point i)
-          (map_in {A = Interval} {B = Interval} (ended_in m.catalog.owners r.namespace point) activity i (h.kept i there)))
-          (λ i there owner active. in_second (end_namespace_tablets m.catalog.owners r.namespace point activity) (map (begun_at point) (of_then m.catalog.owners r.namespace r.to activity)) (begun_at point i)
-          (map_in {A = Interval} {B = Interval} (begun_at point) (of_then m.catalog.owners r.namespace r.to activity) i (of_then_has m r.namespace r.to activity i (h.kept i there) (is_mine m r.namespace i.table owner) active))) j isin;
+      part = part_append (end_namespace_tablets m.catalog.owners r.namespace point activity) (end_namespace_tablets m.catalog.owners r.namespace point m.activity)
+          (map (begun_at point) (tablets_active_at m.catalog.owners m.activity r.namespace r.to)) (map (begun_at point) (of_then m.catalog.owners r.namespace r.to activity))
+          (part_mapped (ended_in m.catalog.owners r.namespace point) activity m.activity h.part)
+          (part_mapped (begun_at point) (of_then m.catalog.owners r.namespace r.to activity) (tablets_active_at m.catalog.owners m.activity r.namespace r.to)
+          (part_filtered (active_at r.to) (filter (λ i. owns m.catalog.owners r.namespace i.table) activity) (filter (λ i. owns m.catalog.owners r.namespace i.table) m.activity)
+          (part_filtered (λ i. owns m.catalog.owners r.namespace i.table) activity m.activity h.part)));
       each = λ j isin. all_is (λ j. In j (activity_then m r point) ⊎ IsForgotten (turned m r point serving_ n) j) m r point activity
           (λ i there. elim (h.each i there) [
             | inl here ↦ inl (ended_there m r point i here)

@@ -30,6 +30,7 @@ use Rattle.law_moves.proofs.Entering.{entering, entering_it, by_record, entered_
 use Rattle.law_moves.proofs.Viewing.{Inside, restored_before, rows_before, table_back, table_other, row_back, row_other}
 use Rattle.law_moves.proofs.Backing.{new_is, tables_switched}
 use Rattle.law_moves.proofs.Switching.{IsSwitch, listed_then, activity_then, turned, after, back, good_yet, slot_yet, unswitched_yet, may_switch, other_namespace, is_mine, interval_is, ended_other, ended_mine, origin, other_stays, line_is, Holds, none_other, awaited_yet, awaited_mine, back_other, awaited_other, awaited_back, awaited_point}
+use Rattle.law_invariants.proofs.Remembering.{kept_all}
 
 -- The journal
 
@@ -304,7 +305,7 @@ master_turned ps activity changes n r point serving_ s =
       listed = λ q l there. in_mapped {A = RestorationRecord} {B = RestorationRecord} (entering r (Restoring point serving_) (listed_then m r point serving_)) (λ q. In l q.listed → l.tablet.number ≤ m.drawn.tablets) m.restorations
           (λ x isin. by_record (λ x q. In l q.listed → l.tablet.number ≤ m.drawn.tablets) m r (Restoring point serving_) (listed_then m r point serving_) x one s.there isin
           (λ lists. (let k = line_is m r point serving_ l lists in
-          let d = s.inv.remembered.drawn k.interval (s.inv.remembered.kept k.interval k.kept) in let e : k.interval.tablet.number ≡ l.tablet.number = ap (λ z. z.tablet.number) k.is in omega arith))
+          let d = s.inv.remembered.drawn k.interval (kept_all s.inv.remembered k.interval k.kept) in let e : k.interval.tablet.number ≡ l.tablet.number = ap (λ z. z.tablet.number) k.is in omega arith))
           (λ b lists. s.inv.master.listed x l isin lists)) q there;
       listed_of = λ q l there. in_mapped {A = RestorationRecord} {B = RestorationRecord} (entering r (Restoring point serving_) (listed_then m r point serving_))
           (λ q. In l q.listed → (j : Interval) → In j (activity_then m r point) → j.tablet ≡ l.tablet → owner_of m.catalog.owners j.table ≡ Some q.namespace) m.restorations

@@ -33,6 +33,7 @@ use Rattle.law_invariants.proofs.Ticking.{both_left, both_right, master_before, 
 use Rattle.law_retention.proofs.Outcomes.{compact_by, cutoff_by, look_by, master_restarts, read_by, restart_by, stats_by, write_by}
 use Rattle.law_retention.proofs.Sources.{AreLike, CountsIfAny, IsLike, TabletStays, like_self}
 use Rattle.law_retention.proofs.Staying.{staying_takes_nothing}
+use Rattle.law_invariants.proofs.Remembering.{kept_all}
 
 -- what is to be shown of an outcome: where retention holds of what it leaves, it takes nothing that a time needs
 abbrev pub TakesNothing : Act → ℕ → Parts → List Interval → List SnapshotRecord → Outcome → Type 0
@@ -104,7 +105,7 @@ told_takes_nothing act o n ps activity taken changes later inv master tablets re
     staying_takes_nothing Every act ps after activity taken retained (record {
       later = quiet.later;
       owners = ap (λ c. c.owners) quiet.catalog;
-      known = λ i inside. inv.remembered.kept i inside;
+      known = λ i inside. kept_all inv.remembered i inside;
       times = λ s to listed from. record {
         names = ap (λ c. names_at c.namespaces s.namespace to) quiet.catalog;
         tables = ap (λ c. map untimed (tables_at c.tables s.namespace to)) quiet.catalog;

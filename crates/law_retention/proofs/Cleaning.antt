@@ -35,6 +35,7 @@ use Rattle.law_retention.proofs.Outcomes.{by_refusal}
 use Rattle.law_retention.proofs.Sources.{AreLike, CountsIfAny, TabletStays, like_self}
 use Rattle.law_retention.proofs.Staying.{staying_takes_nothing}
 use Rattle.law_retention.proofs.Acting.{answer_takes_nothing, Every, IsHarmless, TakesNothing, every_counts, same_stays, ticked_stays}
+use Rattle.law_invariants.proofs.Remembering.{kept_all}
 
 -- Lists
 
@@ -75,7 +76,7 @@ prune_takes_nothing n ps activity taken changes later inv retained =
     staying_takes_nothing Every Prune ps (told Prune (prune n ps) n ps) activity taken retained (record {
       later = master_before (slots_of Prune) ps n later refl;
       owners = refl;
-      known = λ i inside. inv.remembered.kept i inside;
+      known = λ i inside. kept_all inv.remembered i inside;
       times = λ s to listed from. record {
         names = names_pruned m n to s.namespace from;
         tables = ap (λ rs. map untimed rs) (tables_pruned m n to s.namespace from);
@@ -132,7 +133,7 @@ forgotten_takes_nothing ps after activity taken changes n target slots j before 
     staying_takes_nothing Every (Remove target slots) ps left activity taken retained (record {
       later = before;
       owners = refl;
-      known = λ i inside. inv.remembered.kept i inside;
+      known = λ i inside. kept_all inv.remembered i inside;
       times = λ s to listed from. record {
         names = refl;
         tables = refl;
@@ -229,7 +230,7 @@ discarded_takes_nothing ps after activity taken changes n target slots r inv d t
     staying_takes_nothing (λ snapshot. snapshot ≡ target → ⊥) (Remove target slots) ps left activity taken retained (record {
       later = le_of_lt d.before;
       owners = refl;
-      known = λ i inside. inv.remembered.kept i inside;
+      known = λ i inside. kept_all inv.remembered i inside;
       times = λ s to listed from. record {
         names = refl;
         tables = refl;

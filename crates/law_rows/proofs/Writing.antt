@@ -40,6 +40,7 @@ use Rattle.law_invariants.proofs.Frame.{one_told, rows_told, tells}
 use Rattle.law_invariants.proofs.Overlap.{ends_before, code_below}
 use Rattle.law_rows.proofs.Keeping.{one_touched, clock_before, has_it}
 use Rattle.law_rows.proofs.Rows.{row_change, rows_in, unswitched_stay, tables_stay, namespaces_stay, fixed_stay, switched_stay, before_stay, rows_not_late, not_written, rows_written}
+use Rattle.law_invariants.proofs.Remembering.{kept_all}
 
 -- the master's facts under changes of rows
 master_written : (m : Master) (n : ℕ) (table : Id) (batch : List Item) (changes : List Change) → MasterGood m changes → MasterGood m (rows_made n table batch changes)
@@ -273,7 +274,7 @@ written_inv ps activity changes n place version batch later from inv takes_ unfe
           (λ tables_same range.
           let g = (inv.slots j).each i isin is in
           let soon : x < o.interval.from = ends_before activity i o.interval t.table (code_of key) x (ps.tablet j).clock
-          (inv.cover.once t.table (code_of key) (max i.from o.interval.from) (code_below key)) (inv.remembered.kept i isin) (inv.remembered.kept o.interval o.listed)
+          (inv.cover.once t.table (code_of key) (max i.from o.interval.from) (code_below key)) (kept_all inv.remembered i isin) (kept_all inv.remembered o.interval o.listed)
           (λ e. true≢false (sym (eqb_at slot j (sym o.slot_is ∙ sym e ∙ is)) ∙ apart))
           (subst (λ k. same k t.table ≡ true) (same_equal t.table i.table tables_same) (same_self t.table))
           (subst (λ k. same k t.table ≡ true) z.table_is (same_self t.table))

@@ -15,13 +15,14 @@ use Rattle.law_invariants.specs.Operations.{OperationsGood}
 use Rattle.law_invariants.specs.Invariant.{MasterGood}
 use Rattle.law_invariants.proofs.Finding.{same_equal, in_second}
 use Rattle.law_invariants.proofs.Ticking.{namespaces_later, tables_later}
-use Rattle.law_invariants.proofs.Remembering.{forgotten_on}
+use Rattle.law_invariants.proofs.Remembering.{forgotten_on, kept_all}
 use Rattle.law_invariants.proofs.Operating.{NotHeld, GoesOn, IsNew, Onward}
 use Rattle.law_invariants.proofs.Working.{TablesDrawn}
 use Rattle.law_changes.proofs.Quiet.{same_names}
 use Rattle.law_splits.proofs.Cutting.{cut, cut_other, cut_stays, stays_same, goes_cut}
 use Rattle.law_splits.proofs.Counting.{low_child, high_child, both_children}
 use Rattle.law_splits.proofs.Slots.{IsSplit, split_activity, split_master, each_split, cut_in}
+use Rattle.law_invariants.proofs.Parting.{part_same, part_append, part_mapped}
 
 pub low_in : (p : Interval) (code a b n : ℕ) (m : Master) (is : List Interval) → In (low_child p code a n m) (split_activity p code a b n m is)
 low_in p code a b n m is = in_second (end_tablet p.tablet n is) (both_children p code a b n m) (low_child p code a n m) (inl refl)
@@ -60,7 +61,8 @@ remembered_split m n changes activity p code a b s ops h =
     let k = split_master p code a b n m in
     let old = split_activity p code a b n m m.activity in
     let all = split_activity p code a b n m activity in record {
-      kept = each_split (λ j. In j all) p code a b n m m.activity (λ i isin. cut_in p code a b n m activity i (h.kept i isin)) (low_in p code a b n m activity) (high_in p code a b n m activity);
+      part = part_append (end_tablet p.tablet n activity) (end_tablet p.tablet n m.activity) (both_children p code a b n m) (both_children p code a b n m) (part_mapped (cut p.tablet n) activity m.activity h.part)
+          (part_same (both_children p code a b n m));
       each = each_split (λ j. In j old ⊎ IsForgotten k j) p code a b n m activity
           (λ i isin. elim (h.each i isin) [
             | inl here ↦ inl (cut_in p code a b n m m.activity i here)
@@ -68,11 +70,11 @@ remembered_split m n changes activity p code a b s ops h =
           ])
           (inl (low_in p code a b n m m.activity)) (inl (high_in p code a b n m m.activity));
       drawn = each_split (λ j. j.tablet.number ≤ m.drawn.tablets + 2) p code a b n m activity (λ i isin. le_trans (h.drawn i isin) (omega arith)) (omega arith) (le_refl _);
-      drawn_table = (let table = h.drawn_table p (h.kept p s.listed) in each_split (λ j. j.table.number ≤ m.drawn.tables) p code a b n m activity h.drawn_table table table);
+      drawn_table = (let table = h.drawn_table p (kept_all h p s.listed) in each_split (λ j. j.table.number ≤ m.drawn.tables) p code a b n m activity h.drawn_table table table);
       reserved = λ c q j known unseen paired. (
           let g = (ops.clones c known).pairs q paired in
           let drawn : q.target.number ≤ m.drawn.tablets = g.drawn in
-          let not_table : p.table ≡ q.table → ⊥ = (h.reserved c q p known unseen paired (h.kept p s.listed)).1 in
+          let not_table : p.table ≡ q.table → ⊥ = (h.reserved c q p known unseen paired (kept_all h p s.listed)).1 in
           each_split (λ i. (i.tablet ≡ q.target → ⊥) × (i.table ≡ q.table → ⊥)) p code a b n m activity (λ i isin. h.reserved c q i known unseen paired isin)
           (λ e. absurd (let l : m.drawn.tablets + 1 ≡ q.target.number = ap (λ k. k.number) e in omega arith), not_table)
           (λ e. absurd (let l : m.drawn.tablets + 2 ≡ q.target.number = ap (λ k. k.number) e in omega arith), not_table) j);

@@ -41,6 +41,7 @@ use Rattle.law_splits.proofs.Counting.{low_child, high_child, both_children, All
 use Rattle.law_splits.proofs.Parents.{parent_found, open_kept}
 use Rattle.law_splits.proofs.Slots.{IsSplit, split_activity, split_master, slot_parent, mine_here, IsChild, slot_child, slot_else}
 use Rattle.law_splits.proofs.Masters.{low_in, high_in, master_split_good, remembered_split, OfParent, onward_split, hears}
+use Rattle.law_invariants.proofs.Remembering.{kept_all}
 
 -- What the slots are told
 
@@ -193,7 +194,7 @@ split_inv ps activity changes n command code a b version p made below later s in
     record {
       master = master_split_good m n changes p code a b s inv.master;
       remembered = remembered_split m n changes activity p code a b s inv.operations inv.remembered;
-      cover = split_covers activity changes p code a b n m below (inv.remembered.kept p s.listed) s.opened s.ranged s.narrow (like_parent ps activity changes p n inv s.before s.listed) inv.cover;
+      cover = split_covers activity changes p code a b n m below (kept_all inv.remembered p s.listed) s.opened s.ranged s.narrow (like_parent ps activity changes p n inv s.before s.listed) inv.cover;
       operations = operations_on m n m.catalog more drawn m.sent changes changes w (λ ns. marks_stay m n m.catalog more drawn changes ns (le_of_lt s.before) inv.operations) inv.operations.owners (λ mark isin. isin) (all_listed m changes inv.master) inv.operations;
       journal = journal_on m n m.catalog more drawn m.sent changes changes (same_rows changes) w.fixed (le_refl _) (le_refl _) w.owners inv.journal;
       rows_past = rows_on m n m.catalog more drawn m.sent changes changes ps.tablet after (le_of_lt s.before) (clocks_rise (Change command slots) o n ps (λ slot e. tablet_before (0 ∷ slots) ps n slot later e))

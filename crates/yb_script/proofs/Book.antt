@@ -10,7 +10,6 @@ use Rattle.model.specs.Replies.{Right}
 use Rattle.model.specs.Scripts.{Numbered}
 use Rattle.model_runs.specs.Courses.{ScriptAsked}
 use Rattle.model_runs.specs.Running.{run_of}
-use Rattle.law.specs.Scripts.{ScriptCovered}
 use Rattle.yb_script.specs.Script.{read_script, no_names}
 use Rattle.yb_script.specs.Seen.{slot_count, numbered_of}
 use Rattle.yb_script.specs.Endings.{IsWhole, IsCut, IsBroken, IsRun, IsWriteFault, IsMemoryFault, IsRight, OfTold, entries_of_run, text_of_run, made_by, told_by}
@@ -18,7 +17,7 @@ use Rattle.yb_script.specs.declared.script.ScriptCommand.{ScriptCommand}
 use Rattle.yb_script.proofs.Ordering.{IsScript}
 use Rattle.yb_script.proofs.Running.{appends-nothing}
 use Rattle.yb_script.proofs.ShownRuns.{runs_agree-take, numbered-take}
-use Rattle.yb_script.proofs.ShownAsked.{asked_of, covered_of}
+use Rattle.yb_script.proofs.ShownAsked.{asked_of}
 
 entries_are : (cs : List ScriptCommand) → IsScript cs → (k : ℕ) → made_by cs k ≡ entries_of_run cs k
 entries_are cs is k = (runs_agree-take k cs is.order is.within is.few).history ∙ ap (λ ns. reverse (run_of slot_count ns).history) (numbered-take k 0 no_names cs)
@@ -61,8 +60,8 @@ nothing_told (Some bytes) history count old none at_first = nothing_done (read_s
 
 -- what the law of runs says
 pub record RunsAreRight : Type 0 where
-  pub legal : (slots : ℕ) (commands : List Numbered) → AllOf (λ c. ScriptAsked slots c.command) commands → AllOf (λ c. ScriptCovered c.command) commands → Legal slots (run_of slots commands).history
-  pub right : (slots : ℕ) (commands : List Numbered) → AllOf (λ c. ScriptAsked slots c.command) commands → AllOf (λ c. ScriptCovered c.command) commands → Right slots (run_of slots commands).history
+  pub legal : (slots : ℕ) (commands : List Numbered) → AllOf (λ c. ScriptAsked slots c.command) commands → Legal slots (run_of slots commands).history
+  pub right : (slots : ℕ) (commands : List Numbered) → AllOf (λ c. ScriptAsked slots c.command) commands → Right slots (run_of slots commands).history
   pub legal_before : (slots : ℕ) (later earlier : List Entry) → Legal slots (later ++ earlier) → Legal slots earlier
   pub right_before : (slots : ℕ) (later earlier : List Entry) → Right slots (later ++ earlier) → Right slots earlier
 
@@ -80,11 +79,10 @@ right_none history none = rw none no_history
 first_right : RunsAreRight → (cs : List ScriptCommand) → IsScript cs → (k : ℕ) → IsRight (entries_of_run cs k)
 first_right law cs is k =
     let asked_ = first_all (λ c. ScriptAsked slot_count c.command) k (numbered_of cs) (asked_of cs is.order is.within) in
-    let covers = first_all (λ c. ScriptCovered c.command) k (numbered_of cs) (covered_of cs is.order is.within) in
     let back = reverse-reverse (run_of slot_count (take k (numbered_of cs))).history in
     record {
-      legal = subst (Legal slot_count) (sym back) (law.legal slot_count (take k (numbered_of cs)) asked_ covers);
-      right = subst (Right slot_count) (sym back) (law.right slot_count (take k (numbered_of cs)) asked_ covers);
+      legal = subst (Legal slot_count) (sym back) (law.legal slot_count (take k (numbered_of cs)) asked_);
+      right = subst (Right slot_count) (sym back) (law.right slot_count (take k (numbered_of cs)) asked_);
     }
 
 part_right : RunsAreRight → (history rest whole : List Entry) → whole ≡ history ++ rest → IsRight whole → IsRight history

@@ -9,7 +9,6 @@ use Rattle.model_runs.specs.Courses.{ScriptAsked, key_alone}
 use Rattle.yb_script.specs.Seen.{slot_count, spoken, numbered_from, numbered_of}
 use Rattle.yb_script.specs.Script.{no_names, heard}
 use Rattle.yb_script.specs.Ordered.{InOrder, IsAsked, is_later}
-use Rattle.law.specs.Scripts.{ScriptCovered}
 use Rattle.yb_script.specs.declared.script.Names.{Names}
 use Rattle.yb_script.specs.declared.script.ScriptCommand.{ScriptCommand}
 use Rattle.yb_script.specs.declared.script.ScriptCommand.TheVariants as script
@@ -21,22 +20,22 @@ record AreNames (names : Names) : Type 0 where
   table : IsName names.table
   column : IsName names.column
 
--- what a command of a script meets, and that the law covers it
+-- what a command of a script meets
 abbrev Meets : scripts.Numbered → Type 0
-Meets c = ScriptAsked slot_count c.command × ScriptCovered c.command
+Meets c = ScriptAsked slot_count c.command
 
 -- a read looks for its key alone
 alone : (key : List ℕ) → IsKey key → IsNamedBatch (key_alone key)
 alone key is = (omega arith, omega arith, ((is, (omega arith, tt {0})), tt {0}))
 
-later_meets : (names : Names) (c : ScriptCommand) → is_later c ≡ true → IsAsked c → AreNames names → ScriptAsked slot_count (spoken names c) × ScriptCovered (spoken names c)
-later_meets names (script.Tick micros) later asked are = (λ reading less. omega (arith, asked), tt {0})
+later_meets : (names : Names) (c : ScriptCommand) → is_later c ≡ true → IsAsked c → AreNames names → ScriptAsked slot_count (spoken names c)
+later_meets names (script.Tick micros) later asked are = λ reading less. omega (arith, asked)
 later_meets names (script.CreateNamespace name) later asked are = absurd cc
 later_meets names (script.CreateTable table column) later asked are = absurd cc
 later_meets names (script.Put key number) later asked are =
-    (λ reading less. (are.namespace, are.table, (omega arith, omega arith, ((asked, (omega arith, ((are.column, tt {0}), tt {0}))), tt {0})), tt {0}), tt {0})
-later_meets names (script.Get key) later asked are = (λ reading less. (are.namespace, are.table, alone key asked, tt {0}), tt {0})
-later_meets names (script.GetAt key at) later asked are = (λ reading less. (are.namespace, are.table, alone key asked.0, asked.1), tt {0})
+    λ reading less. (are.namespace, are.table, (omega arith, omega arith, ((asked, (omega arith, ((are.column, tt {0}), tt {0}))), tt {0})), tt {0})
+later_meets names (script.Get key) later asked are = λ reading less. (are.namespace, are.table, alone key asked, tt {0})
+later_meets names (script.GetAt key at) later asked are = λ reading less. (are.namespace, are.table, alone key asked.0, asked.1)
 
 later_heard : (names : Names) (c : ScriptCommand) → is_later c ≡ true → AreNames names → AreNames (heard names c)
 later_heard names (script.Tick micros) later are = are
@@ -59,7 +58,7 @@ from_table line names [] ordered asked is = tt {0}
 from_table line names (script.CreateTable table column ∷ cs) ordered asked is =
     let c : ScriptCommand = script.CreateTable table column in
     let limits : IsName table × IsName column = All-head IsAsked c cs asked in (
-      (λ reading less. (is, limits.0, (omega arith, omega arith), (omega arith, omega arith), (limits.1, tt {0}), (tt {0}, tt {0})), tt {0}),
+      λ reading less. (is, limits.0, (omega arith, omega arith), (omega arith, omega arith), (limits.1, tt {0}), (tt {0}, tt {0})),
       all_later 3 (line + 1) (heard names c) cs (omega arith) ordered.1 (All-tail IsAsked c cs asked) (record { namespace = is; table = limits.0; column = limits.1 }),
     )
 from_table line names (_ ∷ cs) ordered asked is = absurd (let no_ = ordered.0 in cc)
@@ -69,7 +68,7 @@ from_namespace line names [] ordered asked = tt {0}
 from_namespace line names (script.CreateNamespace name ∷ cs) ordered asked =
     let c : ScriptCommand = script.CreateNamespace name in
     let is : IsName name = All-head IsAsked c cs asked in
-    ((λ reading less. (is, tt {0}), tt {0}), from_table (line + 1) (heard names c) cs ordered.1 (All-tail IsAsked c cs asked) is)
+    (λ reading less. (is, tt {0}), from_table (line + 1) (heard names c) cs ordered.1 (All-tail IsAsked c cs asked) is)
 from_namespace line names (_ ∷ cs) ordered asked = absurd (let no_ = ordered.0 in cc)
 
 from_tick : (line : ℕ) (names : Names) (cs : List ScriptCommand) → InOrder 0 cs → All IsAsked cs → AllOf Meets (numbered_from line names cs)
@@ -77,17 +76,9 @@ from_tick line names [] ordered asked = tt {0}
 from_tick line names (script.Tick micros ∷ cs) ordered asked =
     let c : ScriptCommand = script.Tick micros in
     let soon : micros < 2 ^ 49 = All-head IsAsked c cs asked in
-    ((λ reading less. omega (arith, soon), tt {0}), from_namespace (line + 1) (heard names c) cs ordered.1 (All-tail IsAsked c cs asked))
+    (λ reading less. omega (arith, soon), from_namespace (line + 1) (heard names c) cs ordered.1 (All-tail IsAsked c cs asked))
 from_tick line names (_ ∷ cs) ordered asked = absurd (let no_ = ordered.0 in cc)
-
-each : {A : Type 0} (P Q : A → Type 0) → ((x : A) → P x → Q x) → (xs : List A) → AllOf P xs → AllOf Q xs
-each P Q gives [] all = tt {0}
-each P Q gives (x ∷ xs) all = (gives x all.0, each P Q gives xs all.1)
 
 -- the book's limits hold of each command
 pub asked_of : (commands : List ScriptCommand) → InOrder 0 commands → All IsAsked commands → AllOf (λ c. ScriptAsked slot_count c.command) (numbered_of commands)
-asked_of commands ordered asked = each Meets (λ c. ScriptAsked slot_count c.command) (λ c meets. meets.0) (numbered_of commands) (from_tick 0 no_names commands ordered asked)
-
--- the law covers each command
-pub covered_of : (commands : List ScriptCommand) → InOrder 0 commands → All IsAsked commands → AllOf (λ c. ScriptCovered c.command) (numbered_of commands)
-covered_of commands ordered asked = each Meets (λ c. ScriptCovered c.command) (λ c meets. meets.1) (numbered_of commands) (from_tick 0 no_names commands ordered asked)
+asked_of commands ordered asked = from_tick 0 no_names commands ordered asked

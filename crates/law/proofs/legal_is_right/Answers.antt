@@ -7,12 +7,12 @@ use Rattle.law.proofs.legal_is_right.Goals as goal
 
 pub returns : goal.returns
 returns c = record {
-  right = λ slots history legal covered. (legal_holds history slots legal covered).right;
-  holds = λ slots history legal covered. (legal_holds history slots legal covered).inv;
-  stands = λ slots history legal covered. all_stand _ _ _ (legal_holds history slots legal covered).inv;
-  facts = λ slots history legal covered. all_recorded _ _ _ (legal_holds history slots legal covered).inv;
-  cover = λ slots history legal covered.
-      let cover = (legal_holds history slots legal covered).inv.cover in
+  right = λ slots history legal. (legal_holds history slots legal).right;
+  holds = λ slots history legal. (legal_holds history slots legal).inv;
+  stands = λ slots history legal. all_stand _ _ _ (legal_holds history slots legal).inv;
+  facts = λ slots history legal. all_recorded _ _ _ (legal_holds history slots legal).inv;
+  cover = λ slots history legal.
+      let cover = (legal_holds history slots legal).inv.cover in
       record { cover = λ table code x below there. cover.whole table code x below there; ranges = λ i isin. cover.ranges i isin };
-  fixed = λ slots history legal covered. fixed_stays history slots legal covered;
+  fixed = λ slots history legal. fixed_stays history slots legal;
 }

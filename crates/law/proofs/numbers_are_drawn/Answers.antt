@@ -11,5 +11,5 @@ returns c = record {
   within = λ slots history legal covered. drawn_within history slots legal covered;
   below = λ slots history legal covered. drawn_below history slots legal covered;
   taken = λ slots history. as_taken history slots;
-  schemas = λ slots history legal covered. schemas_drawn history slots legal covered;
+  schemas = λ slots history legal. schemas_drawn history slots legal;
 }

@@ -6,8 +6,8 @@ use Rattle.law.proofs.runs_are_right.Goals as goal
 
 pub returns : goal.returns
 returns c = record {
-  legal = λ slots commands asked_ covered. (script_legal slots commands asked_ covered).legal;
-  right = λ slots commands asked_ covered. let run = script_legal slots commands asked_ covered in (legal_holds _ slots run.legal run.covered).right;
+  legal = λ slots commands asked_. (script_legal slots commands asked_).legal;
+  right = λ slots commands asked_. let run = script_legal slots commands asked_ in (legal_holds _ slots run.legal).right;
   legal_before = λ slots later earlier legal. legal_tail later earlier slots legal;
   right_before = λ slots later earlier right. right_tail later earlier slots right;
 }

@@ -311,7 +311,7 @@ plain_told : (act : Act) (n : ℕ) (ps : Parts) → may_weigh act ≡ false → 
 plain_told act n ps e =
     cond_both (has (slots_of act) 0) (master_effect (outcome act n ps).master n ps.master) ps.master (λ m. m.drawn ≡ ps.master.drawn) (λ touched. plain_drawn (outcome act n ps).master n ps.master (act_none act n ps e).none) (λ alone. refl)
 
-act_next : (act : Act) (slots n : ℕ) (ps : Parts) (activity : List Interval) (changes : List Made) → ActAsked slots act → ActCovered act → Inv ps activity changes → Turn act n ps
+pub act_next : (act : Act) (slots n : ℕ) (ps : Parts) (activity : List Interval) (changes : List Made) → ActAsked slots act → ActCovered act → Inv ps activity changes → Turn act n ps
 unfolding change advance prune
 act_next (Change command plan) slots n ps activity changes asked covered inv = (by (same_slots plan (plan_of command ps.master)) refl).next
   where

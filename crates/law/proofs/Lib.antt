@@ -8,6 +8,8 @@ pub mod TabletKinds
 pub mod Working
 pub mod Running
 pub mod Runs
+pub mod Giving
+pub mod Counted
 pub mod Drawing
 pub mod Newest
 pub mod Schemas

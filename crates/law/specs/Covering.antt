@@ -1,4 +1,4 @@
--- The acts of which the law is proved so far. The definition grows with each act whose lemma stands.
+-- The acts of which it is proved so far that their numbers are given in turn.
 use Rattle.std.specs.Prelude.{List, [], ◌∷◌}
 use Rattle.row_values.specs.Ids.{Kind, Clone}
 use Rattle.model.specs.Acts.{Act, Command, Split, CreateSchedule, EditSchedule, DeleteSchedule, TakeSnapshot, Restore, Look, Change, Write, Read, Cutoff, Compact, Send, Process, Ack, Advance, Remove, Prune, Restart, Stats}

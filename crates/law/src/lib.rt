@@ -1,16 +1,16 @@
 //! The main law: a legal history is right, and what holds after each entry holds of the parts that it leaves. It speaks
 //! of definitions alone, and so of no code. Each act has a lemma that it keeps what holds, and a line in the dispatch.
-//! Only of the numbers of identifiers is it proved of the acts alone that `Covering` names.
+//! Only that identifiers are given in order is proved of the acts alone that `Covering` names.
 #![tactic(auto)]
 
-ghost use Rattle.std.specs.Prelude.{ℕ, List, ◌++◌};
+ghost use Rattle.std.specs.Prelude.{ℕ, ◌≤◌, List, ◌++◌};
 ghost use Rattle.model.specs.Scripts.{Numbered};
 ghost use Rattle.model_runs.specs.Courses.{ScriptAsked};
 ghost use Rattle.model_runs.specs.Running.{run_of};
 ghost use Rattle.model.specs.Entries.{Entry};
 ghost use Rattle.row_values.specs.Elements.{AllOf};
 ghost use Rattle.model.specs.History.{Legal, replay, journal_of, activity_of};
-ghost use Rattle.model.specs.Drawn.{DrawnBelow, DrawnWithin, DrawsInTurn, SchemasDrawn, SnapshotsAsTaken};
+ghost use Rattle.model.specs.Drawn.{DrawnBelow, DrawnWithin, DrawsInTurn, most_slots, SchemasDrawn, SnapshotsAsTaken};
 ghost use Rattle.model.specs.Replies.{Right};
 ghost use Rattle.model.specs.Strict.{FixedStays, Divides};
 ghost use Rattle.model.specs.Stands.{RecordFacts, Stands};
@@ -34,15 +34,16 @@ pub fn legal_is_right()
 {}
 
 /// Each entry of a legal history of covered acts draws as many identifiers of each kind as its act takes, and these
-/// are the next ones, in order; a refused entry draws none. The history draws few: at most as many of each kind as a
-/// cluster has slots, for each entry of the master's log. So numbers of identifiers stay below their bound, of which
-/// code makes its identifiers. A new column gets one more than the greatest id that was ever given to its table; and
-/// the newest schema that the catalog keeps of a table has as its version the changes of columns, and the restores
-/// and the clone, that made the table current, counted from 1. A kept snapshot is as it was taken, in any history.
+/// are the next ones, in order; a refused entry draws none. Any history of a cluster of at most `most_slots` slots
+/// draws few: at most so many of each kind, for each entry of the master's log. So numbers of identifiers stay below
+/// their bound, of which code makes its identifiers. A new column gets one more than the greatest id that was ever
+/// given to its table; and the newest schema that the catalog keeps of a table has as its version the changes of
+/// columns, and the restores and the clone, that made the table current, counted from 1. A kept snapshot is as it was
+/// taken, in any history.
 pub fn numbers_are_drawn()
     ensures drawn { (slots : ℕ) (history : List Entry) → Legal slots history → Covered history → DrawsInTurn slots history }
-    ensures within { (slots : ℕ) (history : List Entry) → Legal slots history → Covered history → DrawnWithin slots history }
-    ensures below { (slots : ℕ) (history : List Entry) → Legal slots history → Covered history → DrawnBelow (replay slots history).master }
+    ensures within { (slots : ℕ) (history : List Entry) → Legal slots history → slots ≤ most_slots → DrawnWithin slots history }
+    ensures below { (slots : ℕ) (history : List Entry) → Legal slots history → slots ≤ most_slots → DrawnBelow (replay slots history).master }
     ensures schemas { (slots : ℕ) (history : List Entry) → Legal slots history → SchemasDrawn (replay slots history).master (journal_of slots history) }
     ensures taken { (slots : ℕ) (history : List Entry) → SnapshotsAsTaken slots history }
 {}

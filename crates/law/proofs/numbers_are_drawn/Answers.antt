@@ -8,8 +8,8 @@ use Rattle.law.proofs.numbers_are_drawn.Goals as goal
 pub returns : goal.returns
 returns c = record {
   drawn = λ slots history legal covered. drawn_in_turn history slots legal covered;
-  within = λ slots history legal covered. drawn_within history slots legal covered;
-  below = λ slots history legal covered. drawn_below history slots legal covered;
+  within = λ slots history legal most. drawn_within history slots legal most;
+  below = λ slots history legal most. drawn_below history slots legal most;
   taken = λ slots history. as_taken history slots;
   schemas = λ slots history legal. schemas_drawn history slots legal;
 }

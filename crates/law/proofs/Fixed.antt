@@ -14,7 +14,7 @@ use Rattle.model.specs.Records.{RestorationRecord, RestorationState, Switching, 
 use Rattle.std.specs.Prelude.{Result, Ok, Err}
 use Rattle.model.specs.Acts.{ListSchedules, ListSnapshots, ListRestorations, ListClones, ListTablets, Split, CreateSchedule, EditSchedule, DeleteSchedule, TakeSnapshot, Restore, CloneNamespace, StaleSchema, Fenced, At, Command, CreateNamespace, DropNamespace, CreateTable, AddColumn, DropColumn, RenameTable, DropTable, Act, Change, Write, Advance, Ok, Refusal, Ok as ReplyOk}
 use Rattle.model.specs.Journal as made
-use Rattle.model.specs.Journal.{ChangeAct, TableView, table_at, owner_in}
+use Rattle.model.specs.Journal.{ChangeAct, TableView, table_at}
 use Rattle.model.specs.Parts.{Master, Parts, MasterAct, MakesNamespace, DropsNamespace, MakesTable, AddsColumn, DropsColumn, RenamesTable, DropsTable, Moves, Ticks, Check, If, Names, Fault, Outcome, judged, decided, unless}
 use Rattle.model.specs.Looks.{found_namespace}
 use Rattle.model.specs.Changed.{next_table, clone_time}

@@ -1,5 +1,5 @@
 -- How many identifiers a clone draws: no more tables than tablets, and no more of these than there are slots.
-use Rattle.std.proofs.Common.{Bool, true, false, sym, ap, subst, ◌∙◌, refl, cond, ◌≡◌, ℕ, ◌≤◌, ◌+◌, not, List, [], ◌∷◌, length, Option, inl, inr, arith, le_refl, ◌&&◌}
+use Rattle.std.proofs.Common.{Bool, false, sym, ap, ◌∙◌, refl, ◌≡◌, ℕ, ◌≤◌, ◌+◌, not, List, [], ◌∷◌, length, Option, inl, inr, arith, le_refl}
 use Rattle.std.specs.Prelude.{Ok as Granted}
 use Rattle.std.specs.List.{filter}
 use Rattle.std.specs.Option.{option_map_or}

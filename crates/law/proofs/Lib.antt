@@ -9,7 +9,8 @@ pub mod Working
 pub mod Running
 pub mod Runs
 pub mod Giving
-pub mod Counted
+pub mod Sorted
+pub mod Begun
 pub mod Drawing
 pub mod Newest
 pub mod Schemas

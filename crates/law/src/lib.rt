@@ -1,6 +1,5 @@
 //! The main law: a legal history is right, and what holds after each entry holds of the parts that it leaves. It speaks
 //! of definitions alone, and so of no code. Each act has a lemma that it keeps what holds, and a line in the dispatch.
-//! Only that identifiers are given in order is proved of the acts alone that `Covering` names.
 #![tactic(auto)]
 
 ghost use Rattle.std.specs.Prelude.{ℕ, ◌≤◌, List, ◌++◌};
@@ -15,7 +14,6 @@ ghost use Rattle.model.specs.Replies.{Right};
 ghost use Rattle.model.specs.Strict.{FixedStays, Divides};
 ghost use Rattle.model.specs.Stands.{RecordFacts, Stands};
 ghost use Rattle.law_invariants.specs.Invariant.{Inv};
-ghost use Rattle.law.specs.Covering.{Covered};
 
 /// A legal history is right: each reply is that of one list of stamped changes. What its restores and clones
 /// fixed stays as it was, and no change of their namespaces came too late for them. What holds after each entry
@@ -33,7 +31,7 @@ pub fn legal_is_right()
     ensures fixed { (slots : ℕ) (history : List Entry) → Legal slots history → FixedStays (journal_of slots history) }
 {}
 
-/// Each entry of a legal history of covered acts draws as many identifiers of each kind as its act takes, and these
+/// Each entry of a legal history draws as many identifiers of each kind as its act takes, and these
 /// are the next ones, in order; a refused entry draws none. Any history of a cluster of at most `most_slots` slots
 /// draws few: at most so many of each kind, for each entry of the master's log. So numbers of identifiers stay below
 /// their bound, of which code makes its identifiers. A new column gets one more than the greatest id that was ever
@@ -41,7 +39,7 @@ pub fn legal_is_right()
 /// columns, and the restores and the clone, that made the table current, counted from 1. A kept snapshot is as it was
 /// taken, in any history.
 pub fn numbers_are_drawn()
-    ensures drawn { (slots : ℕ) (history : List Entry) → Legal slots history → Covered history → DrawsInTurn slots history }
+    ensures drawn { (slots : ℕ) (history : List Entry) → Legal slots history → DrawsInTurn slots history }
     ensures within { (slots : ℕ) (history : List Entry) → Legal slots history → slots ≤ most_slots → DrawnWithin slots history }
     ensures below { (slots : ℕ) (history : List Entry) → Legal slots history → slots ≤ most_slots → DrawnBelow (replay slots history).master }
     ensures schemas { (slots : ℕ) (history : List Entry) → Legal slots history → SchemasDrawn (replay slots history).master (journal_of slots history) }

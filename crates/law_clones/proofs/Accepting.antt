@@ -62,7 +62,7 @@ floor_from ps activity changes ns s target to n le may =
     le_trans (subst (λ y. floor_of m ns m.clock ≤ y) is up) may.from
 
 -- the table of a source tablet has a record at the time
-source_table : (ps : Parts) (activity : List Interval) (changes : List Change) (ns : Id) (s : ℕ) (target : List ℕ) (to n : ℕ) (i : Interval) → ps.master.clock ≤ n → MayClone ps.master ns s target to n → Inv ps activity changes
+pub source_table : (ps : Parts) (activity : List Interval) (changes : List Change) (ns : Id) (s : ℕ) (target : List ℕ) (to n : ℕ) (i : Interval) → ps.master.clock ≤ n → MayClone ps.master ns s target to n → Inv ps activity changes
     → IsActiveOf ps.master ns to i → (t : TableRecord) × (In t (tables_at ps.master.catalog.tables ns to) × (t.id ≡ i.table))
 source_table ps activity changes ns s target to n i le may inv h =
     let m = ps.master in

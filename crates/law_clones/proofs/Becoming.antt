@@ -26,7 +26,7 @@ use Rattle.law_invariants.specs.Remembered.{Remembered}
 use Rattle.law_invariants.specs.Operations.{Uses, is_switched, IsListed, IsActive, IsSource, IsReserved, VisibleGood, CloneStateGood, CloneGood, OperationsGood, JournalGood, RestorationStateGood}
 use Rattle.law_invariants.specs.Orders.{FencePlace, ClonePlace, IsFence, OrdersGood, RestoringSlot, ReleasingSlot, RestorationSlot, CopyingSlot, CloneSlot, IsCopy, ObeyedGood, RowsPast, stage_of_clone, cloning_stage}
 use Rattle.law_invariants.specs.Invariant.{Inv, IsGood, SlotGood, SlotWorks, MasterGood, ComesFrom}
-use Rattle.law_invariants.proofs.Finding.{both_pass, same_equal, same_self, not_same, in_append, in_first, in_second, in_mapped, map_in, in_added}
+use Rattle.law_invariants.proofs.Finding.{both_pass, same_equal, same_self, not_same, in_append, in_second, in_mapped, map_in, in_added}
 use Rattle.law_invariants.proofs.Operating.{visible_later}
 use Rattle.law_invariants.proofs.Remembering.{forgotten_on, no_lows}
 use Rattle.law_invariants.proofs.Records.{kept_by, kept_beside}

@@ -22,14 +22,14 @@ use Rattle.model.specs.Moves.{restoration_moved, after_restoration, advance}
 use Rattle.model.specs.History.{with_either, with_restoration}
 use Rattle.law_invariants.specs.Remembered.{Remembered, IsForgotten}
 use Rattle.law_invariants.specs.Invariant.{Inv, Later}
-use Rattle.law_invariants.proofs.Finding.{in_append, in_first, in_second, in_mapped, map_in, in_filter, filter_in, both_pass, same_equal}
+use Rattle.law_invariants.proofs.Finding.{in_append, in_mapped, in_filter, filter_in, both_pass, same_equal}
 use Rattle.law_invariants.proofs.Ticking.{KeepsAll}
 use Rattle.law_invariants.proofs.Undoing.{owned_is}
 use Rattle.law_moves.proofs.Acting.{alone_keeps}
 use Rattle.law_moves.proofs.Advancing.{moves}
 use Rattle.law_moves.proofs.Serving.{floor_restores}
 use Rattle.law_moves.proofs.Counting.{ended_in, of_then, switched_covers}
-use Rattle.law_moves.proofs.Switching.{IsSwitch, is_mine, activity_then, turned, after, unfinished_yet, good_yet, interval_is, ended_there, begun_there, origin}
+use Rattle.law_moves.proofs.Switching.{IsSwitch, activity_then, turned, after, unfinished_yet, good_yet, ended_there, begun_there, origin}
 use Rattle.law_moves.proofs.Turned.{slot_turned, master_turned, journal_turned, rows_turned}
 use Rattle.law_moves.proofs.Recorded.{floors_turned, operations_turned}
 use Rattle.law_moves.proofs.Ordered.{works_turned}

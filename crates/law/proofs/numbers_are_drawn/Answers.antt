@@ -7,7 +7,7 @@ use Rattle.law.proofs.numbers_are_drawn.Goals as goal
 
 pub returns : goal.returns
 returns c = record {
-  drawn = λ slots history legal covered. drawn_in_turn history slots legal covered;
+  drawn = λ slots history legal. drawn_in_turn history slots legal;
   within = λ slots history legal most. drawn_within history slots legal most;
   below = λ slots history legal most. drawn_below history slots legal most;
   taken = λ slots history. as_taken history slots;

@@ -93,10 +93,10 @@ begun_given Restoration ps activity changes ns least source target to n le may k
 begun_given Clone ps activity changes ns least source target to n le may kinds inv = refl
 
 -- an accepted command of a clone draws the next of each kind
-pub clone_next : (ps : Parts) (activity : List Interval) (changes : List Made) (source target : List ℕ) (at : Option ℕ) (slots : List ℕ) (n : ℕ) (s : CloneSource) → ps.master.clock ≤ n → KindsGood ps.master → Inv ps activity changes
+pub begun_next : (ps : Parts) (activity : List Interval) (changes : List Made) (source target : List ℕ) (at : Option ℕ) (slots : List ℕ) (n : ℕ) (s : CloneSource) → ps.master.clock ≤ n → KindsGood ps.master → Inv ps activity changes
     → judge_clone source target (clone_time at n) n ps.master ≡ Granted s
     → DrawsNext (Change (CloneNamespace source target at) slots) (accepts (BeginsClone s.namespace source target (clone_time at n)) [] (next_clone ps.master ∷ [])).reply n ps.master (clone_begun s.namespace source target (clone_time at n) n ps.master)
-clone_next ps activity changes source target at slots n s le kinds inv e =
+begun_next ps activity changes source target at slots n s le kinds inv e =
     let m = ps.master in
     let to = clone_time at n in
     let may = may_clone ps activity changes source target to n s inv e in

@@ -27,7 +27,7 @@ use Rattle.law_invariants.proofs.Judging.{checked_is}
 use Rattle.law_changes.proofs.Free.{AreFree, least_free}
 use Rattle.law_changes.proofs.Told.{slots_equal}
 use Rattle.law.proofs.TabletKinds.{KindsGood, replay_kinds}
-use Rattle.law.proofs.Begun.{clone_next}
+use Rattle.law.proofs.Begun.{begun_next}
 use Rattle.law.proofs.Sorted.{none_made}
 use Rattle.law_clones.proofs.Serving.{clone_scheduled}
 use Rattle.std.proofs.lemmas.List.{append-nil}
@@ -188,7 +188,7 @@ planned_next (Restore schedule to) slots n ps activity changes asked le kinds pl
     (λ s e. record { next = next_of _ _ n ps.master _ (omega arith, (refl, tt)) (omega arith, (refl, tt)) (omega arith, (refl, tt)) (omega arith, (refl, tt)) (omega arith, (refl, tt)) (refl, (refl, (refl, tt))) (omega arith, (refl, tt)) })
 planned_next (CloneNamespace source target to) slots n ps activity changes asked le kinds plan inv =
     decided_next (judge_clone source target (clone_time to n) n ps.master) _ (CloneNamespace source target to) slots n ps.master
-    (λ s e. record { next = clone_next ps activity changes source target to slots n s le kinds inv e })
+    (λ s e. record { next = begun_next ps activity changes source target to slots n s le kinds inv e })
 planned_next (DropNamespace name) slots n ps activity changes asked le kinds plan inv =
     decided_next (judge_drop_namespace name ps.master) _ (DropNamespace name) slots n ps.master (λ found e. made_none (DropNamespace name) slots _ _ n ps.master refl)
 planned_next (AddColumn namespace table name kind) slots n ps activity changes asked le kinds plan inv =

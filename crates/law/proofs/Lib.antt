@@ -20,3 +20,4 @@ pub mod Taking
 pub mod Plain
 pub mod Fixing
 pub mod Fixed
+pub mod Retaining

@@ -2,13 +2,18 @@
 //! of definitions alone, and so of no code. Each act has a lemma that it keeps what holds, and a line in the dispatch.
 #![tactic(auto)]
 
-ghost use Rattle.std.specs.Prelude.{ℕ, ◌≤◌, List, ◌++◌};
+ghost use Rattle.std.specs.Prelude.{ℕ, ◌≤◌, List, ◌∷◌, ◌++◌};
 ghost use Rattle.model.specs.Scripts.{Numbered};
 ghost use Rattle.model_runs.specs.Courses.{ScriptAsked};
 ghost use Rattle.model_runs.specs.Running.{run_of};
 ghost use Rattle.model.specs.Entries.{Entry};
 ghost use Rattle.row_values.specs.Elements.{AllOf};
-ghost use Rattle.model.specs.History.{Legal, replay, journal_of, activity_of};
+ghost use Rattle.row_values.specs.Ids.{Id};
+ghost use Rattle.model.specs.History.{Legal, replay, journal_of, activity_of, snapshots_taken};
+ghost use Rattle.model.specs.Cleanup.{pruned};
+ghost use Rattle.model.specs.Retained.{Retained};
+ghost use Rattle.model.specs.Taking.{MarkRaised, TakesNothingNeeded};
+ghost use Rattle.law_retention.specs.Covering.{TakingCovered};
 ghost use Rattle.model.specs.Drawn.{DrawnBelow, DrawnWithin, DrawsInTurn, most_slots, SchemasDrawn, SnapshotsAsTaken};
 ghost use Rattle.model.specs.Replies.{Right};
 ghost use Rattle.model.specs.Strict.{FixedStays, Divides};
@@ -44,6 +49,18 @@ pub fn numbers_are_drawn()
     ensures below { (slots : ℕ) (history : List Entry) → Legal slots history → slots ≤ most_slots → DrawnBelow (replay slots history).master }
     ensures schemas { (slots : ℕ) (history : List Entry) → Legal slots history → SchemasDrawn (replay slots history).master (journal_of slots history) }
     ensures taken { (slots : ℕ) (history : List Entry) → SnapshotsAsTaken slots history }
+{}
+
+/// Retention holds of what a legal history leaves: each tablet that was active from the floor of a
+/// namespace with a schedule on is present, its rows at each time from the floor on can be had, cutoffs
+/// and the catalog's marks pass nothing that is needed, a record in progress finds its tablets, and all
+/// snapshots that were ever taken follow each other. A covered act of such a history takes nothing that
+/// a time needs, from the floor up to the master's clock; and a prune on what it leaves raises a mark at
+/// most to the less of the floor and 900 seconds before its stamp.
+pub fn retention_is_kept()
+    ensures retained { (slots : ℕ) (history : List Entry) → Legal slots history → Retained (replay slots history) (activity_of slots history) (snapshots_taken slots history) }
+    ensures needed { (slots : ℕ) (e : Entry) (earlier : List Entry) → Legal slots (e ∷ earlier) → TakingCovered e.event.act → TakesNothingNeeded e.event.act (replay slots earlier) (replay slots (e ∷ earlier)) }
+    ensures mark { (slots : ℕ) (history : List Entry) (n : ℕ) (ns : Id) → Legal slots history → MarkRaised (replay slots history).master (pruned n (replay slots history).master) n ns }
 {}
 
 /// The history of a script whose commands meet what is asked of them is legal, and right: each reply is that of one

@@ -33,34 +33,34 @@ abbrev pub KeepsFacts : Act → (ℕ → Parts → Outcome) → Type 0
 KeepsFacts act made = (n : ℕ) (ps : Parts) (activity : List Interval) (changes : List Change) → Later (slots_of act) ps n → Inv ps activity changes → Facts ps → HoldsFacts act n ps (made n ps)
 
 pub look_keeps_facts : (ask : Ask) → KeepsFacts (Look ask) (λ n ps. look ask n ps.master)
-look_keeps_facts ask n ps activity changes later inv facts = look_by (HoldsFacts (Look ask) n ps) ask n ps.master (λ reply. answer_holds (Look ask) reply n ps later facts)
+look_keeps_facts ask n ps activity changes later inv facts = look_by (HoldsFacts (Look ask) n ps) ask n ps.master (λ reply. answer_holds (Look ask) reply n ps activity changes later inv facts)
 
 pub write_keeps_facts : (place : At) (version : ℕ) (batch : List Item) → KeepsFacts (Write place version batch) (write place version batch)
 write_keeps_facts place version batch n ps activity changes later inv facts =
     let act = Write place version batch in
-    write_by (HoldsFacts act n ps) place version batch n ps (λ reply. answer_holds act reply n ps later facts)
-    (one_holds act place.slot (WriteRows batch) (Ok []) n ps later facts (λ i e is here. like_on _ (ps.tablet i) (effect (WriteRows batch) n (ps.tablet i)) here refl refl refl))
+    write_by (HoldsFacts act n ps) place version batch n ps (λ reply. answer_holds act reply n ps activity changes later inv facts)
+    (one_holds act place.slot (WriteRows batch) (Ok []) n ps activity changes later inv facts (λ i e is here. like_on _ (ps.tablet i) (effect (WriteRows batch) n (ps.tablet i)) here refl refl refl))
 
 pub read_keeps_facts : (places : List At) (version : ℕ) (key : Option (List ℕ)) (at : Option ℕ) (columns : List ℕ)
     → KeepsFacts (Read places version key at columns) (read places version key at columns)
 read_keeps_facts places version key at columns n ps activity changes later inv facts =
     let act = Read places version key at columns in
-    read_by (HoldsFacts act n ps) places version key at columns n ps (λ reply. answer_holds act reply n ps later facts)
+    read_by (HoldsFacts act n ps) places version key at columns n ps (λ reply. answer_holds act reply n ps activity changes later inv facts)
 
 pub compact_keeps_facts : (slot : ℕ) → KeepsFacts (Compact slot) (compact slot)
 compact_keeps_facts slot n ps activity changes later inv facts =
-    compact_by (HoldsFacts (Compact slot) n ps) slot n ps (λ reply. answer_holds (Compact slot) reply n ps later facts)
-    (λ reply. one_holds (Compact slot) slot CompactTablet reply n ps later facts (λ i e is here. like_on _ (ps.tablet i) (effect CompactTablet n (ps.tablet i)) here refl refl refl))
+    compact_by (HoldsFacts (Compact slot) n ps) slot n ps (λ reply. answer_holds (Compact slot) reply n ps activity changes later inv facts)
+    (λ reply. one_holds (Compact slot) slot CompactTablet reply n ps activity changes later inv facts (λ i e is here. like_on _ (ps.tablet i) (effect CompactTablet n (ps.tablet i)) here refl refl refl))
 
 pub stats_keeps_facts : (slot : ℕ) → KeepsFacts (Stats slot) (stats slot)
-stats_keeps_facts slot n ps activity changes later inv facts = stats_by (HoldsFacts (Stats slot) n ps) slot n ps (λ reply. answer_holds (Stats slot) reply n ps later facts)
+stats_keeps_facts slot n ps activity changes later inv facts = stats_by (HoldsFacts (Stats slot) n ps) slot n ps (λ reply. answer_holds (Stats slot) reply n ps activity changes later inv facts)
 
 pub restart_keeps_facts : (slot : ℕ) → KeepsFacts (Restart slot) (restart slot)
 restart_keeps_facts slot n ps activity changes later inv facts = restart_by (HoldsFacts (Restart slot) n ps) slot n ps
-    (told_holds (Restart slot) master_restarts n ps facts
+    (told_holds (Restart slot) master_restarts n ps activity changes inv facts
     (λ is. on_clock ps.master n [] ps.master.catalog refl (master_before (slots_of (Restart slot)) ps n later is))
     (λ i is here. like_on _ (ps.tablet i) (record (ps.tablet i) { clock = n }) here refl refl refl))
-    (one_holds (Restart slot) slot RestartTablet (Ok []) n ps later facts (λ i e is here. like_on _ (ps.tablet i) (effect RestartTablet n (ps.tablet i)) here refl refl refl))
+    (one_holds (Restart slot) slot RestartTablet (Ok []) n ps activity changes later inv facts (λ i e is here. like_on _ (ps.tablet i) (effect RestartTablet n (ps.tablet i)) here refl refl refl))
 
 -- A cutoff goes just past the last complete snapshot of the tablet's namespace
 
@@ -122,8 +122,8 @@ cutoff_keeps_facts slot n ps activity changes later inv facts =
     let reply = CutoffAt (max (ps.tablet slot).cutoff to) in
     let before = master_before (slots_of act) ps n later refl in
     let past : to ≤ n = allowed_past (scheduled_at m slot) m n before (λ k e. inv.master.complete k (in_scheduled m.scheduled _ k e)) in
-    cutoff_by (HoldsFacts act n ps) slot n ps (λ r. answer_holds act r n ps later facts)
-    (one_holds act slot (RaiseCutoff to) reply n ps later facts
+    cutoff_by (HoldsFacts act n ps) slot n ps (λ r. answer_holds act r n ps activity changes later inv facts)
+    (one_holds act slot (RaiseCutoff to) reply n ps activity changes later inv facts
     (λ i e is here.
     let t = ps.tablet i in
     let at : slot ≡ i = eqb-true slot i e in

@@ -1,46 +1,42 @@
 -- Sends, acks and cleanup keep how far back tablets go, and how snapshots follow each other.
-use Rattle.std.proofs.Common.{max, ◌<◌, ◌≤◌, ◌≡◌, ◌∷◌, ◌∙◌, ◌&&◌, ◌||◌, ℕ, List, [], false, Option, Some, None, map, not, refl, sym, ap, subst, inl, inr, arith, le_of_lt, eqb, leb}
+use Rattle.std.proofs.Common.{max, ◌<◌, ◌≤◌, ◌≡◌, ◌∷◌, ◌∙◌, ℕ, List, [], false, Option, Some, None, map, not, refl, sym, ap, subst, inl, inr, arith, le_of_lt, eqb, leb}
 use Rattle.std.proofs.lemmas.Bool.{cond_both, true≢false}
 use Rattle.std.proofs.lemmas.Bool.Decides.{nat_tests}
-use Rattle.std.specs.Option.{option_map, option_or}
 use Rattle.row_values.specs.Ids.{Clone, Id, Kind, Restoration, Snapshot, Tablet as TabletKind, same}
 use Rattle.row_values.specs.Elements.{In}
 use Rattle.row_values.specs.Slots.{same_slots}
 use Rattle.model.specs.Activity.{Interval, forget, last_from, last_of}
 use Rattle.model.specs.Acts.{Ack, Acked, InWindow, Moved, NotDone, NotPending, Prune, Refusal, Refused, Remove, Removed, Send, StalePlan, UnknownSnapshot}
 use Rattle.model.specs.Cleanup.{floor_of, floor_of_table, hidden_at, is_hidden_as, lister_of_snapshot, lister_of_tablet, prune, pruned, remove, removed_of, removing, removing_snapshot, removing_tablet, removable_snapshot, removable_tablet, snapshot_plan}
-use Rattle.model.specs.Coordination.{ack, acked_by, acked_clone, acked_restoration, acked_snapshot, acknowledging, command_for, pending, send, sending}
+use Rattle.model.specs.Coordination.{ack, acked_by, acked_restoration, acked_snapshot, acknowledging, command_for, pending, send, sending}
 use Rattle.model.specs.Entries.{IsRemovable, slots_of}
 use Rattle.model.specs.History.{told}
 use Rattle.model.specs.Journal.{Change}
-use Rattle.model.specs.Operations.{clone_with, restoration_of}
 use Rattle.model.specs.Parts.{judged, Acks, Fault, If, Master, Outcome, Parts, Removes, Unsends, refused}
-use Rattle.model.specs.Records.{CloneRecord, Listed, RestorationRecord, SnapshotRecord, is_cloned, is_restored, snapshot_with}
-use Rattle.model.specs.Retained.{floor_now}
-use Rattle.model.specs.Schedules.{floor, least_low}
+use Rattle.model.specs.Records.{Listed, RestorationRecord, SnapshotRecord, snapshot_with}
 use Rattle.model.specs.Tablets.{Clear, Clock, DropFrozen, Empty, Offer, Tablet, effect, is_done, is_empty, kind_of, standing}
 use Rattle.law_store.proofs.Keys.{either_way}
 use Rattle.law_invariants.specs.Invariant.{Inv, Later}
-use Rattle.law_invariants.proofs.Finding.{filter_in, map_in, not_passing, same_equal, same_self}
-use Rattle.law_invariants.proofs.Remembering.{floor_rises}
+use Rattle.law_invariants.proofs.Finding.{filter_in, in_mapped, map_in, not_passing, same_equal}
 use Rattle.law_invariants.proofs.Ticking.{master_before}
 use Rattle.law_cleanup.proofs.Discarding.{IsDiscarded, discarding, is_discarded, kept_record, was_record}
 use Rattle.law_cleanup.proofs.Removing.{nothing_keeps}
 use Rattle.law_retention.specs.Facts.{Facts}
 use Rattle.law_retention.proofs.Outcomes.{by_refusal}
-use Rattle.law_retention.proofs.Holding.{HasLike, HoldsFacts, MasterOn, TabletOn, answer_holds, like_itself, like_on, on_clock, told_holds}
+use Rattle.law_retention.proofs.Holding.{HasLike, HoldsFacts, MasterLike, TabletOn, WasIn, answer_holds, like_itself, like_on, on_clock, they_are, told_holds}
+use Rattle.law_retention.proofs.Growing.{they_go_on}
 use Rattle.law_retention.proofs.Acts.{KeepsFacts}
 use Rattle.law_retention.proofs.Cleaning.{either_told}
 
 -- Sends
 
 sending_keeps_facts : (l : Option Listed) (operation : Id) (slot : ℕ) → KeepsFacts (Send operation slot) (λ n ps. sending l operation slot)
-sending_keeps_facts None operation slot n ps activity changes later inv facts = answer_holds (Send operation slot) (Refused (NotPending operation)) n ps later facts
+sending_keeps_facts None operation slot n ps activity changes later inv facts = answer_holds (Send operation slot) (Refused (NotPending operation)) n ps activity changes later inv facts
 sending_keeps_facts (Some l) operation slot n ps activity changes later inv facts =
     let act = Send operation slot in
     let o = sending (Some l) operation slot in
     let offer = Offer (command_for operation l) in
-    told_holds act o n ps facts
+    told_holds act o n ps activity changes inv facts
     (λ is. on_clock ps.master n _ ps.master.catalog refl (master_before (slots_of act) ps n later is))
     (λ i is. cond_both (eqb slot i) offer Clock (λ a. is_empty (effect a n (ps.tablet i)).presence ≡ false → TabletOn (told act o n ps).master (ps.tablet i) (effect a n (ps.tablet i)))
     (λ e here. like_on _ (ps.tablet i) (effect offer n (ps.tablet i)) here refl refl refl)
@@ -78,64 +74,51 @@ acked_still rs operation slot q inside = record {
   at_is = refl;
 }
 
-restored_time : (rs : List RestorationRecord) (operation : Id) (slot : ℕ) (ns : Id) → option_map (λ r. r.to) (restoration_of (acked_restoration operation slot rs) ns) ≡ option_map (λ r. r.to) (restoration_of rs ns)
-restored_time [] operation slot ns = refl
-restored_time (r ∷ rs) operation slot ns = let rest = restored_time rs operation slot ns in
-    either_way (same r.namespace ns && not (is_restored r.state)) (λ e. rw e refl) (λ e. rw e rest)
+restored_was : (m : Master) (operation : Id) (slot : ℕ) (r : RestorationRecord) → In r (acked_restoration operation slot m.restorations) → WasIn m r
+restored_was m operation slot =
+    in_mapped {A = RestorationRecord} {B = RestorationRecord} _ (WasIn m) m.restorations (λ r there. record { was = r; kept = there; namespace_is = refl; state_is = refl })
 
-cloned_time : (cs : List CloneRecord) (operation : Id) (slot : ℕ) (ns : Id) → option_map (λ c. c.to) (clone_with (acked_clone operation slot cs) ns) ≡ option_map (λ c. c.to) (clone_with cs ns)
-cloned_time [] operation slot ns = refl
-cloned_time (c ∷ cs) operation slot ns = let rest = cloned_time cs operation slot ns in
-    either_way ((same c.target_id ns || same c.source ns) && not (is_cloned c.state)) (λ e. rw e refl) (λ e. rw e rest)
-
-acked_on : (kind : Kind) (m : Master) (operation : Id) (slot n : ℕ) → m.clock ≤ n → MasterOn m (acked_by kind operation slot n m)
+acked_on : (kind : Kind) (m : Master) (operation : Id) (slot n : ℕ) → m.clock ≤ n → MasterLike m (acked_by kind operation slot n m)
 acked_on Snapshot m operation slot n before = record {
   later = before;
   scheduled = refl;
   owners = refl;
-  inside = λ i there. there;
-  last = λ tablet i is. is;
+  activity = they_go_on m;
   was = λ r there. acked_was m.snapshots operation slot r there;
-  still = λ q there. inl (acked_still m.snapshots operation slot q there);
-  floors = λ ns. floor_rises m (acked_by Snapshot operation slot n m) ns (record { clock = before; schedules = refl; restorations = refl; clones = refl });
+  still = λ q there open_. acked_still m.snapshots operation slot q there;
+  states = they_are m;
 }
 acked_on Restoration m operation slot n before = record {
   later = before;
   scheduled = refl;
   owners = refl;
-  inside = λ i there. there;
-  last = λ tablet i is. is;
+  activity = they_go_on m;
   was = λ r there. like_itself m.snapshots r there;
-  still = λ q there. inl (like_itself m.snapshots q there);
-  floors = λ ns.
-      let same_ = ap (λ t. floor (least_low m.schedules ns n) (option_or t (option_map (λ c. c.to) (clone_with m.clones ns))) n) (restored_time m.restorations operation slot ns) in
-      subst (λ f. floor_now m ns ≤ f) (sym same_) (floor_rises m (record m { clock = n }) ns (record { clock = before; schedules = refl; restorations = refl; clones = refl }));
+  still = λ q there open_. like_itself m.snapshots q there;
+  states = λ r point serving there is. restored_was m operation slot r there;
 }
 acked_on Clone m operation slot n before = record {
   later = before;
   scheduled = refl;
   owners = refl;
-  inside = λ i there. there;
-  last = λ tablet i is. is;
+  activity = they_go_on m;
   was = λ r there. like_itself m.snapshots r there;
-  still = λ q there. inl (like_itself m.snapshots q there);
-  floors = λ ns.
-      let same_ = ap (λ t. floor (least_low m.schedules ns n) (option_or (option_map (λ r. r.to) (restoration_of m.restorations ns)) t) n) (cloned_time m.clones operation slot ns) in
-      subst (λ f. floor_now m ns ≤ f) (sym same_) (floor_rises m (record m { clock = n }) ns (record { clock = before; schedules = refl; restorations = refl; clones = refl }));
+  still = λ q there open_. like_itself m.snapshots q there;
+  states = they_are m;
 }
 acked_on _ m operation slot n before = on_clock m n m.sent m.catalog refl before
 
 acknowledging_keeps_facts : (l : Option Listed) (operation : Id) (slot : ℕ) → KeepsFacts (Ack operation slot) (λ n ps. acknowledging l operation slot (ps.tablet slot))
-acknowledging_keeps_facts None operation slot n ps activity changes later inv facts = answer_holds (Ack operation slot) (Refused (NotPending operation)) n ps later facts
+acknowledging_keeps_facts None operation slot n ps activity changes later inv facts = answer_holds (Ack operation slot) (Refused (NotPending operation)) n ps activity changes later inv facts
 acknowledging_keeps_facts (Some l) operation slot n ps activity changes later inv facts =
     let act = Ack operation slot in
     let yes_ : Outcome = record { master = Acks operation slot; tablets = []; reply = Acked } in
     let no_ : Outcome = record { master = Unsends operation slot; tablets = []; reply = Refused NotDone } in
     cond_both (is_done (ps.tablet slot).done operation (kind_of l.body)) yes_ no_ (HoldsFacts act n ps)
-    (λ e. told_holds act yes_ n ps facts
+    (λ e. told_holds act yes_ n ps activity changes inv facts
     (λ is. acked_on operation.kind ps.master operation slot n (master_before (slots_of act) ps n later is))
     (λ i is here. like_on _ (ps.tablet i) (effect Clock n (ps.tablet i)) here refl refl refl))
-    (λ e. told_holds act no_ n ps facts
+    (λ e. told_holds act no_ n ps activity changes inv facts
     (λ is. on_clock ps.master n _ ps.master.catalog refl (master_before (slots_of act) ps n later is))
     (λ i is here. like_on _ (ps.tablet i) (effect Clock n (ps.tablet i)) here refl refl refl))
 
@@ -148,7 +131,7 @@ ack_keeps_facts operation slot n ps activity changes later inv facts = acknowled
 pub prune_keeps_facts : KeepsFacts Prune prune
 unfolding prune
 prune_keeps_facts n ps activity changes later inv facts =
-    told_holds Prune (prune n ps) n ps facts
+    told_holds Prune (prune n ps) n ps activity changes inv facts
     (λ is. on_clock ps.master n ps.master.sent (pruned n ps.master).catalog refl (master_before (slots_of Prune) ps n later refl))
     (λ i is here. like_on _ (ps.tablet i) (effect Clock n (ps.tablet i)) here refl refl refl)
 
@@ -176,23 +159,25 @@ last_known is target tablet i e = either_way (same tablet target)
     (λ gone. let none : None ≡ Some i = sym (last_gone is target tablet (same_equal tablet target gone)) ∙ e in cc)
     (λ stays. sym (last_left is target tablet None stays) ∙ e)
 
-forgotten_on : (m : Master) (n : ℕ) (target : Id) → m.clock ≤ n → MasterOn m (record m { clock = n; activity = forget target m.activity })
+forgotten_on : (m : Master) (n : ℕ) (target : Id) → m.clock ≤ n → MasterLike m (record m { clock = n; activity = forget target m.activity })
 forgotten_on m n target before = record {
   later = before;
   scheduled = refl;
   owners = refl;
-  inside = λ i there. (filter_in m.activity (λ j. not (same j.tablet target)) i there).0;
-  last = λ tablet i is. last_known m.activity target tablet i is;
+  activity = record {
+    each = λ i there. (they_go_on m).each i (filter_in m.activity (λ j. not (same j.tablet target)) i there).0;
+    last = λ tablet i is. (they_go_on m).last tablet i (last_known m.activity target tablet i is);
+  };
   was = λ r there. like_itself m.snapshots r there;
-  still = λ q there. inl (like_itself m.snapshots q there);
-  floors = λ ns. floor_rises m (record m { clock = n; activity = forget target m.activity }) ns (record { clock = before; schedules = refl; restorations = refl; clones = refl });
+  still = λ q there open_. like_itself m.snapshots q there;
+  states = they_are m;
 }
 
 unknown_keeps_facts : (target : Id) (slots : List ℕ) (why : Refusal) → KeepsFacts (Remove target slots) (λ n ps. judged (If (not (same_slots slots [])) (StalePlan []) ∷ []) (refused why))
 unknown_keeps_facts target slots why n ps activity changes later inv facts =
     by_refusal (HoldsFacts (Remove target slots) n ps) (If (not (same_slots slots [])) (StalePlan []) ∷ []) (refused why)
-    (λ other. answer_holds (Remove target slots) (Refused other) n ps later facts)
-    (λ passes. answer_holds (Remove target slots) (Refused why) n ps later facts)
+    (λ other. answer_holds (Remove target slots) (Refused other) n ps activity changes later inv facts)
+    (λ passes. answer_holds (Remove target slots) (Refused why) n ps activity changes later inv facts)
 
 removing_tablet_keeps_facts : (found : Option Interval) (target : Id) (slots : List ℕ) → target.kind ≡ TabletKind → KeepsFacts (Remove target slots) (λ n ps. removing_tablet found target slots n ps)
 removing_tablet_keeps_facts None target slots kind n ps activity changes later inv facts = unknown_keeps_facts target slots (Moved 0 Empty) n ps activity changes later inv facts
@@ -206,16 +191,16 @@ removing_tablet_keeps_facts (Some i) target slots kind n ps activity changes lat
     ∷ Fault (removable_tablet (hidden_at t.presence) (floor_of_table ps.master i.table n) (lister_of_tablet ps.master target))
     ∷ [])
     o
-    (λ why. answer_holds act (Refused why) n ps later facts)
-    (λ passes. told_holds act o n ps facts
-    (λ is. subst (λ k. MasterOn ps.master (removed_of k target n ps.master)) (sym kind) (forgotten_on ps.master n target (master_before (slots_of act) ps n later refl)))
+    (λ why. answer_holds act (Refused why) n ps activity changes later inv facts)
+    (λ passes. told_holds act o n ps activity changes inv facts
+    (λ is. subst (λ k. MasterLike ps.master (removed_of k target n ps.master)) (sym kind) (forgotten_on ps.master n target (master_before (slots_of act) ps n later refl)))
     (λ slot is. cond_both (eqb i.slot slot) Clear Clock (λ a. is_empty (effect a n (ps.tablet slot)).presence ≡ false → TabletOn (told act o n ps).master (ps.tablet slot) (effect a n (ps.tablet slot)))
     (λ e here. absurd (true≢false here))
     (λ e here. like_on _ (ps.tablet slot) (effect Clock n (ps.tablet slot)) here refl refl refl)))
 
 -- The removal of a snapshot
 
-discarded_on : (ps : Parts) (activity : List Interval) (changes : List Change) (n : ℕ) (target : Id) (r : SnapshotRecord) → Inv ps activity changes → IsDiscarded ps.master n target r → MasterOn ps.master (discarding ps.master n target)
+discarded_on : (ps : Parts) (activity : List Interval) (changes : List Change) (n : ℕ) (target : Id) (r : SnapshotRecord) → Inv ps activity changes → IsDiscarded ps.master n target r → MasterLike ps.master (discarding ps.master n target)
 discarded_on ps activity changes n target r inv d =
     let m = ps.master in
     let k = discarding m n target in
@@ -223,18 +208,11 @@ discarded_on ps activity changes n target r inv d =
       later = le_of_lt d.before;
       scheduled = refl;
       owners = refl;
-      inside = λ i there. there;
-      last = λ tablet i is. is;
+      activity = they_go_on m;
       was = λ q there. like_itself m.snapshots q (was_record target m.snapshots q there).0;
-      still = λ q there. either_way (same q.id target)
-          (λ e.
-          let is : q ≡ r = d.alone q there (same_equal q.id target e) in
-          inr (record {
-            complete = ap (λ x. x.complete) is ∙ d.complete;
-            below = subst (λ x. x.at < floor_of m x.namespace n) (sym is) d.below;
-          }))
-          (λ e. inl (like_itself k.snapshots q (kept_record target m.snapshots q there (λ is. true≢false (sym (ap (λ id. same id target) is ∙ same_self target) ∙ e)))));
-      floors = λ ns. floor_rises m k ns (record { clock = le_of_lt d.before; schedules = refl; restorations = refl; clones = refl });
+      still = λ q there open_. like_itself k.snapshots q (kept_record target m.snapshots q there
+          (λ is. true≢false (sym d.complete ∙ sym (ap (λ x. x.complete) (d.alone q there is)) ∙ open_)));
+      states = they_are m;
     }
 
 unfrozen_on : (k : Master) (t : Tablet) (target : Id) (n : ℕ) → is_empty t.presence ≡ false → TabletOn k t (effect (DropFrozen target) n t)
@@ -263,14 +241,14 @@ removing_snapshot_keeps_facts (Some r) target slots n ps activity changes e kind
     ∷ Fault (removable_snapshot r.at (floor_of m r.namespace n) (lister_of_snapshot m r))
     ∷ [])
     o
-    (λ why. answer_holds act (Refused why) n ps later facts)
+    (λ why. answer_holds act (Refused why) n ps activity changes later inv facts)
     (λ passes.
     let unneeded = nothing_keeps (leb floor_ r.at) (lister_of_snapshot m r) (InWindow r.at floor_) passes.1.0 in
     let late : leb floor_ r.at ≡ false = unneeded.0 in
     let below : r.at < floor_ = grind (arith, nat_tests) in
     let d = is_discarded m n changes target r (later 0 refl) inv.operations e below unneeded.1 in
-    told_holds act o n ps facts
-    (λ is. subst (λ k. MasterOn m (removed_of k target n m)) (sym kind) (discarded_on ps activity changes n target r inv d))
+    told_holds act o n ps activity changes inv facts
+    (λ is. subst (λ k. MasterLike m (removed_of k target n m)) (sym kind) (discarded_on ps activity changes n target r inv d))
     (λ slot is. either_told (λ a. is_empty (effect a n (ps.tablet slot)).presence ≡ false → TabletOn (told act o n ps).master (ps.tablet slot) (effect a n (ps.tablet slot))) plan (DropFrozen target) slot
     (λ here. unfrozen_on _ (ps.tablet slot) target n here)
     (λ here. like_on _ (ps.tablet slot) (effect Clock n (ps.tablet slot)) here refl refl refl)))

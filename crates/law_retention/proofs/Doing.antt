@@ -1,5 +1,5 @@
 -- What a tablet does of a command keeps how far back it goes.
-use Rattle.std.proofs.Common.{◌<◌, ◌≤◌, ◌≡◌, ◌∷◌, ◌∙◌, ◌+◌, ℕ, List, [], true, false, Some, max, not, refl, sym, ap, subst, inl, inr, arith, le_refl, eqb, eqb-true}
+use Rattle.std.proofs.Common.{◌<◌, ◌≤◌, ◌≡◌, ◌∷◌, ◌∙◌, ◌+◌, ℕ, List, [], true, false, Some, max, not, refl, sym, ap, subst, inl, inr, arith, le_refl, le_trans, eqb, eqb-true}
 use Rattle.std.proofs.lemmas.Bool.{cond_both}
 use Rattle.row_values.specs.Ids.{Id, same}
 use Rattle.row_values.specs.Elements.{In}
@@ -22,7 +22,7 @@ use Rattle.model.specs.Tablets as tell
 use Rattle.law_invariants.specs.Invariant.{Inv, Later}
 use Rattle.law_invariants.specs.Operations.{CloneStateGood, CopyingGood, IsActive, IsKnown, ReleasingGood, RestorationStateGood, RestoringGood, VisibleGood}
 use Rattle.law_invariants.proofs.Finding.{in_append, same_self, same_equal}
-use Rattle.law_invariants.proofs.Frame.{tells, touched}
+use Rattle.law_invariants.proofs.Frame.{tells}
 use Rattle.law_invariants.proofs.Lasting.{last_in}
 use Rattle.law_invariants.proofs.Ticking.{master_before}
 use Rattle.law_commands.proofs.Copies.{copying_is, no_restoration_copy}
@@ -34,7 +34,7 @@ use Rattle.law_commands.proofs.Restores.{no_clone_restore, restoring_is}
 use Rattle.law_retention.specs.Facts.{Facts, GoesBack}
 use Rattle.law_retention.proofs.Outcomes.{by_refusal}
 use Rattle.law_retention.proofs.Reaching.{there_live}
-use Rattle.law_retention.proofs.Holding.{HoldsFacts, MasterOn, answer_holds, back_on, facts_by, like_on, on_clock}
+use Rattle.law_retention.proofs.Holding.{HoldsFacts, MasterLike, answer_holds, back_on, holds_like, like_on, on_clock, told_by}
 use Rattle.law_retention.proofs.Acts.{KeepsFacts}
 
 -- a tablet that is like another goes back as far
@@ -244,13 +244,12 @@ body_keeps (Copy source snapshot to stamp table low high version) = copy_keeps s
 
 -- The act
 
--- what holds under the master before holds under the one after
-later_back : (m k : Master) (u : Tablet) → MasterOn m k → is_empty u.presence ≡ false → GoesBack m u → GoesBack k u
-later_back m k u on here back = back_on m k u u on back (like_on k u u here refl refl refl)
+later_back : (m : Master) (n : ℕ) (u : Tablet) → m.clock ≤ n → GoesBack m u → GoesBack (record m { clock = n }) u
+later_back m n u le back = record { live = back.live; now = le_trans back.now le; sets = back.sets }
 
 processing_keeps_facts : (inbox : List Command) (slot other n : ℕ) (ps : Parts) (activity : List Interval) (changes : List Change) → (ps.tablet slot).inbox ≡ inbox → Later (slots_of (Process slot other)) ps n → Inv ps activity changes → Facts ps
     → HoldsFacts (Process slot other) n ps (processing inbox slot other (ps.tablet other))
-processing_keeps_facts [] slot other n ps activity changes e later inv facts = answer_holds (Process slot other) (Refused Idle) n ps later facts
+processing_keeps_facts [] slot other n ps activity changes e later inv facts = answer_holds (Process slot other) (Refused Idle) n ps activity changes later inv facts
 processing_keeps_facts (c ∷ cs) slot other n ps activity changes e later inv facts =
     let m = ps.master in
     let act = Process slot other in
@@ -258,22 +257,25 @@ processing_keeps_facts (c ∷ cs) slot other n ps activity changes e later inv f
     let rows = rows_for c.body source.frozen in
     let reply = Done c.operation (kind_of c.body) in
     let o = tells slot (tell.Process rows) reply in
-    let k = (told act o n ps).master in
-    let on : MasterOn m k = cond_both (has (slots_of act) 0) (record m { clock = n }) m (λ l. MasterOn m l)
-    (λ is. on_clock m n m.sent m.catalog refl (master_before (slots_of act) ps n later is)) (λ is. on_clock m m.clock m.sent m.catalog refl (le_refl _)) in
     let order = (inv.works slot).orders.orders c (subst (In c) (sym e) (inl refl)) in
     let pends = pending_is m c.operation slot _ order.is_pending in
-    let mine : is_empty (effect (tell.Process rows) n (ps.tablet slot)).presence ≡ false → GoesBack k (effect (tell.Process rows) n (ps.tablet slot)) =
-    subst (λ q. is_empty (processed q rows n (ps.tablet slot)).presence ≡ false → GoesBack k (processed q rows n (ps.tablet slot))) (sym e)
-    (λ here. later_back m k _ on here (body_keeps c.body ps activity changes slot n c.operation c.tablet rows cs _ inv facts pends here)) in
+    let mine : is_empty (effect (tell.Process rows) n (ps.tablet slot)).presence ≡ false → GoesBack m (effect (tell.Process rows) n (ps.tablet slot)) =
+    subst (λ q. is_empty (processed q rows n (ps.tablet slot)).presence ≡ false → GoesBack m (processed q rows n (ps.tablet slot))) (sym e)
+    (λ here. body_keeps c.body ps activity changes slot n c.operation c.tablet rows cs _ inv facts pends here) in
     by_refusal (HoldsFacts act n ps) (If (not (eqb other (source_slot slot c.body))) (OtherSlot (source_slot slot c.body)) ∷ gone c.body source.frozen) o
-    (λ why. answer_holds act (Refused why) n ps later facts)
-    (λ passes. facts_by ps (told act o n ps) facts on
-    (λ i. cond_both (touched act i) (effect (act_for o.tablets i) n (ps.tablet i)) (ps.tablet i) (λ u. is_empty u.presence ≡ false → GoesBack k u)
-    (λ is. cond_both (eqb slot i) (tell.Process rows) Clock (λ a. is_empty (effect a n (ps.tablet i)).presence ≡ false → GoesBack k (effect a n (ps.tablet i)))
-    (λ at. subst (λ j. is_empty (effect (tell.Process rows) n (ps.tablet j)).presence ≡ false → GoesBack k (effect (tell.Process rows) n (ps.tablet j))) (eqb-true slot i at) mine)
-    (λ at here. back_on m k (ps.tablet i) (effect Clock n (ps.tablet i)) on (facts.tablets i here) (like_on k (ps.tablet i) (effect Clock n (ps.tablet i)) here refl refl refl)))
-    (λ is here. later_back m k (ps.tablet i) on here (facts.tablets i here))))
+    (λ why. answer_holds act (Refused why) n ps activity changes later inv facts)
+    (λ passes.
+    let k = (told act o n ps).master in
+    let like : MasterLike m k = cond_both (has (slots_of act) 0) (record m { clock = n }) m (λ l. MasterLike m l)
+    (λ is. on_clock m n m.sent m.catalog refl (master_before (slots_of act) ps n later is)) (λ is. on_clock m m.clock m.sent m.catalog refl (le_refl _)) in
+    let holds = holds_like ps activity changes k inv facts like in
+    let done : is_empty (effect (tell.Process rows) n (ps.tablet slot)).presence ≡ false → GoesBack k (effect (tell.Process rows) n (ps.tablet slot)) = λ here.
+    cond_both (has (slots_of act) 0) (record m { clock = n }) m (λ l. GoesBack l (effect (tell.Process rows) n (ps.tablet slot)))
+    (λ is. later_back m n _ (master_before (slots_of act) ps n later is) (mine here)) (λ is. mine here) in
+    told_by act o n ps activity changes inv facts holds
+    (λ i is. cond_both (eqb slot i) (tell.Process rows) Clock (λ a. is_empty (effect a n (ps.tablet i)).presence ≡ false → GoesBack k (effect a n (ps.tablet i)))
+    (λ at. subst (λ j. is_empty (effect (tell.Process rows) n (ps.tablet j)).presence ≡ false → GoesBack k (effect (tell.Process rows) n (ps.tablet j))) (eqb-true slot i at) done)
+    (λ at here. back_on ps activity changes k i (effect Clock n (ps.tablet i)) inv holds.on (facts.tablets i here) (like_on k (ps.tablet i) (effect Clock n (ps.tablet i)) here refl refl refl))))
 
 pub process_keeps_facts : (slot other : ℕ) → KeepsFacts (Process slot other) (process slot other)
 unfolding process

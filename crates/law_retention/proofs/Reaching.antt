@@ -1,13 +1,13 @@
 -- The rows at each time from the floor on can be had: it follows from how far back each tablet goes, and from how the times
 -- of snapshots follow each other.
-use Rattle.std.proofs.Common.{◌||◌, ltb-true, ◌+◌, ◌<◌, ◌≤◌, ◌≡◌, ◌∷◌, ◌∙◌, ◌&&◌, ℕ, List, [], true, false, Option, Some, None, not, max, refl, sym, ap, subst, inl, inr, arith, leb, leb-true, leb-false, le_refl, le_of_lt, unwrap_or}
+use Rattle.std.proofs.Common.{◌⊎◌, Bool, ◌||◌, ltb-true, ◌+◌, ◌<◌, ◌≤◌, ◌≡◌, ◌∷◌, ◌∙◌, ◌&&◌, ℕ, List, [], true, false, Option, Some, None, not, max, refl, sym, ap, subst, inl, inr, arith, leb, leb-true, leb-false, le_refl, le_of_lt, unwrap_or}
 use Rattle.std.proofs.lemmas.Bool.{cond_both, true≢false}
 use Rattle.std.proofs.lemmas.Bool.Decides.{nat_tests}
 use Rattle.std.specs.Option.{option_map}
 use Rattle.row_values.specs.Ids.{Id, same}
 use Rattle.row_values.specs.Elements.{In}
 use Rattle.model.specs.Times.{before_end}
-use Rattle.model.specs.Activity.{Interval, active_at, active_within, last_from, last_of}
+use Rattle.model.specs.Activity.{Interval, active_at, active_within, last_of}
 use Rattle.model.specs.Catalog.{owner_of, owns}
 use Rattle.model.specs.Cleanup.{floor_of}
 use Rattle.model.specs.Journal.{Change}
@@ -25,6 +25,7 @@ use Rattle.law_invariants.proofs.Lasting.{last_in}
 use Rattle.law_invariants.proofs.Undoing.{owned_is}
 use Rattle.law_cleanup.proofs.Forgetting.{any_in}
 use Rattle.law_retention.specs.Facts.{Facts, GoesBack, LastSince, TimesFollow}
+use Rattle.law_retention.proofs.Growing.{no_last}
 
 -- Which snapshot serves
 
@@ -134,9 +135,56 @@ after_before m changes s r to ops serves low =
           (λ e. let early : q.at < to = leb-false to q.at e in omega (arith, at_is, early)))
     ]
 
+-- the last complete snapshot is kept, unless it is below the floor
+pub record IsKeptAt (rs : List SnapshotRecord) (ns : Id) (at : ℕ) : Type 0 where
+  pub snapshot : SnapshotRecord
+  pub kept : In snapshot rs
+  pub namespace_is : snapshot.namespace ≡ ns
+  pub complete : snapshot.complete ≡ true
+  pub at_is : snapshot.at ≡ at
+
+none_left : (rs : List SnapshotRecord) (ns : Id) (q : SnapshotRecord) → unfinished rs ns ≡ None → In q rs → q.namespace ≡ ns → q.complete ≡ false → ⊥
+none_left [] ns q e inside of open_ = inside
+none_left (p ∷ rs) ns q e inside of open_ =
+    either_way (same p.namespace ns && not p.complete)
+    (λ yes_. let none : Some p ≡ None = rw yes_ at e in cc)
+    (λ no_. elim inside [
+      | inl same_ ↦ (
+          let passes : (same p.namespace ns && not p.complete) ≡ true = passes_both (same p.namespace ns) (not p.complete) (ap (λ x. same x.namespace ns) same_ ∙ ap (λ id. same id ns) of ∙ same_self ns) (ap (λ x. not x.complete) same_ ∙ ap not open_) in
+          true≢false (sym passes ∙ no_))
+      | inr later ↦ none_left rs ns q (rw no_ at e) later of open_
+    ])
+
+last_kept : (m : Master) (changes : List Change) (s : ScheduledNamespace) → OperationsGood m changes → In s m.scheduled → TimesFollow m s → (complete_to s < floor_now m s.namespace) ⊎ IsKeptAt m.snapshots s.namespace (complete_to s)
+last_kept m changes s ops listed times = none_or_some (unfinished m.snapshots s.namespace)
+    (λ none.
+    let last = times.last (λ r kept of open_. none_left m.snapshots s.namespace r none kept of open_) in
+    elim (ops.scheduled s listed).reached [
+      | inl past ↦ inl (subst (λ a. a < floor_now m s.namespace) last past)
+      | inr h ↦ inr (record {
+        snapshot = h.0;
+        kept = h.1.0;
+        namespace_is = h.1.1.0;
+        complete = not_false h.0.complete (λ open_. none_left m.snapshots s.namespace h.0 none h.1.0 h.1.1.0 open_);
+        at_is = h.1.1.1 ∙ last;
+      })
+    ])
+    (λ r some.
+    let left = unfinished_is m.snapshots s.namespace r some in
+    let after = times.unfinished r left.kept left.namespace_is left.open_is in
+    elim (ops.snapshots r left.kept).reached [
+      | inl past ↦ inl (subst (λ ns. complete_to s < floor_now m ns) left.namespace_is (subst (λ a. a < floor_now m r.namespace) after past))
+      | inr h ↦ inr (record { snapshot = h.0; kept = h.1.0; namespace_is = h.1.1.0 ∙ left.namespace_is; complete = h.1.1.1.1; at_is = h.1.1.1.0 ∙ after })
+    ])
+  where
+    not_false : (b : Bool) → (b ≡ false → ⊥) → b ≡ true
+    not_false true h = refl
+    not_false false h = absurd (h refl)
+
 -- what is past the last complete snapshot, where none serves a time from the floor on
-unserved_late : (m : Master) (s : ScheduledNamespace) (to : ℕ) → TimesFollow m s → serving m.snapshots s.namespace to ≡ None → floor_now m s.namespace ≤ to → complete_to s < to
-unserved_late m s to times none low = elim times.kept [
+unserved_late : (m : Master) (changes : List Change) (s : ScheduledNamespace) (to : ℕ) → OperationsGood m changes → In s m.scheduled → TimesFollow m s → serving m.snapshots s.namespace to ≡ None → floor_now m s.namespace ≤ to
+    → complete_to s < to
+unserved_late m changes s to ops listed times none low = elim (last_kept m changes s ops listed times) [
   | inl past ↦ omega (arith, past, low)
   | inr h ↦ either_way (leb to (complete_to s))
       (λ e. let late : to ≤ complete_to s = leb-true _ _ e in
@@ -161,19 +209,6 @@ set_is [] id f e = cc
 set_is (g ∷ fs) id f e = either_way (same g.snapshot id)
     (λ yes_. let first : Some g ≡ Some f = rw yes_ at e in let is : g ≡ f = cc in (inl is, ap (λ x. x.snapshot) (sym is) ∙ same_equal g.snapshot id yes_))
     (λ no_. let rest = set_is fs id f (rw no_ at e) in (inr rest.0, rest.1))
-
--- a tablet that has an interval has a last one
-
-last_stays : (is : List Interval) (tablet : Id) (found : Interval) → last_from is tablet (Some found) ≡ None → ⊥
-last_stays [] tablet found e = cc
-last_stays (i ∷ is) tablet found e = either_way (same i.tablet tablet) (λ b. last_stays is tablet i (rw b at e)) (λ b. last_stays is tablet found (rw b at e))
-
-no_last : (is : List Interval) (tablet : Id) (i : Interval) (found : Option Interval) → In i is → i.tablet ≡ tablet → last_from is tablet found ≡ None → ⊥
-no_last [] tablet i found inside of e = inside
-no_last (j ∷ is) tablet i found (inl here) of e =
-    let same_ : same j.tablet tablet ≡ true = ap (λ k. same k.tablet tablet) here ∙ ap (λ id. same id tablet) of ∙ same_self tablet in
-    last_stays is tablet j (rw same_ at e)
-no_last (j ∷ is) tablet i found (inr later) of e = no_last is tablet i _ later of e
 
 -- all that is known of a tablet that was active at a time
 pub record IsThere (ps : Parts) (changes : List Change) (activity : List Interval) (s : ScheduledNamespace) (i : Interval) (to : ℕ) : Type 0 where
@@ -231,13 +266,13 @@ reaches_with (Some r) left ps changes activity s i to h low e f =
     let reaches : held.set.cutoff ≤ to = back.sets held.set r i to set.0 serves.kept (sym set.1) h.inside (sym g.tablet_is) h.active after serves.late in
     (subst (λ o. ReachesBack (option_map from_set o) to) (sym held.held) reaches, tt)
 reaches_with None None ps changes activity s i to h low e f =
-    (there_live ps changes activity s i to h (unserved_late ps.master s to (h.facts.times s h.listed) e low), tt)
+    (there_live ps changes activity s i to h (unserved_late ps.master changes s to h.inv.operations h.listed (h.facts.times s h.listed) e low), tt)
 reaches_with None (Some r) ps changes activity s i to h low e f =
     let m = ps.master in
     let t = ps.tablet i.slot in
     let left = unfinished_is m.snapshots s.namespace r f in
     let times = h.facts.times s h.listed in
-    let late = unserved_late m s to times e low in
+    let late = unserved_late m changes s to h.inv.operations h.listed times e low in
     let after_is = times.unfinished r left.kept left.namespace_is left.open_is in
     let after : r.after < to = subst (λ x. x < to) (sym after_is) late in
     let reaches = there_live ps changes activity s i to h late in

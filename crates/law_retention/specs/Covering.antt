@@ -1,24 +1,7 @@
 -- The acts of which retention is proved so far.
 use Rattle.model.specs.Acts.{Act, Look, Change, Write, Read, Cutoff, Compact, Send, Process, Ack, Advance, Remove, Prune, Restart, Stats}
 
--- those that keep the facts that it rests on: all but changes and moves
-abbrev pub FactsCovered : Act → Type 0
-FactsCovered (Look ask) = Unit {0}
-FactsCovered (Change command slots) = ⊥
-FactsCovered (Write place version batch) = Unit {0}
-FactsCovered (Read places version key at columns) = Unit {0}
-FactsCovered (Cutoff slot) = Unit {0}
-FactsCovered (Compact slot) = Unit {0}
-FactsCovered (Send operation slot) = Unit {0}
-FactsCovered (Process slot other) = Unit {0}
-FactsCovered (Ack operation slot) = Unit {0}
-FactsCovered (Advance operation) = ⊥
-FactsCovered (Remove target slots) = Unit {0}
-FactsCovered Prune = Unit {0}
-FactsCovered (Restart slot) = Unit {0}
-FactsCovered (Stats slot) = Unit {0}
-
--- those that take nothing that a time needs: besides, not what tablets do of commands
+-- those that take nothing that a time needs: all but changes, moves and what tablets do of commands
 abbrev pub TakingCovered : Act → Type 0
 TakingCovered (Look ask) = Unit {0}
 TakingCovered (Change command slots) = ⊥

@@ -1,11 +1,12 @@
 -- What retention rests on, besides what holds after each entry anyway: how far back each tablet goes, and how the times
 -- of snapshots follow each other.
-use Rattle.std.specs.Prelude.{◌≡◌, ℕ, ◌≤◌, ◌<◌, true, false, Some, ◌+◌, ◌⊎◌, max}
+use Rattle.std.specs.Prelude.{◌≡◌, ℕ, ◌≤◌, ◌<◌, true, false, Some, ◌+◌, max}
 use Rattle.row_values.specs.Elements.{In}
+use Rattle.row_values.specs.Ids.{Id}
 use Rattle.model.specs.Activity.{Interval, active_at, last_of}
 use Rattle.model.specs.Parts.{Master, Parts}
-use Rattle.model.specs.Records.{ScheduledNamespace, SnapshotRecord}
-use Rattle.model.specs.Retained.{IsTabletOf, floor_now}
+use Rattle.model.specs.Records.{RestorationRecord, ScheduledNamespace, SnapshotRecord, Switching}
+use Rattle.model.specs.Retained.{IsTabletOf}
 use Rattle.model.specs.Schedules.{after_of, complete_to}
 use Rattle.model.specs.Tablets.{FrozenSet, Tablet, is_empty}
 
@@ -29,14 +30,6 @@ LastSince m = (k : ScheduledNamespace) (i j : Interval) (x : ℕ) → In k m.sch
 abbrev pub LastIsLatest : Master → Type 0
 LastIsLatest m = (i j : Interval) → In i m.activity → last_of m.activity i.tablet ≡ Some j → i.from ≤ j.from
 
--- the namespace's snapshot of a time is complete and kept
-pub record IsKeptAt (m : Master) (k : ScheduledNamespace) (at : ℕ) : Type 0 where
-  pub snapshot : SnapshotRecord
-  pub kept : In snapshot m.snapshots
-  pub namespace_is : snapshot.namespace ≡ k.namespace
-  pub complete : snapshot.complete ≡ true
-  pub at_is : snapshot.at ≡ at
-
 -- how the times of a namespace's snapshots follow each other
 pub record TimesFollow (m : Master) (k : ScheduledNamespace) : Type 0 where
   pub complete : (r : SnapshotRecord) → In r m.snapshots → r.namespace ≡ k.namespace → r.complete ≡ true
@@ -47,11 +40,15 @@ pub record TimesFollow (m : Master) (k : ScheduledNamespace) : Type 0 where
   -- where none is unfinished, the last one is complete
   pub last : ((r : SnapshotRecord) → In r m.snapshots → r.namespace ≡ k.namespace → r.complete ≡ false → ⊥)
       → after_of k ≡ complete_to k
-  -- the last complete one is kept, unless it is below the floor
-  pub kept : (complete_to k < floor_now m k.namespace) ⊎ IsKeptAt m k (complete_to k)
+
+-- where a restoration is to switch, its own snapshot is complete: it is the one just before the point
+abbrev pub OwnComplete : Master → Type 0
+OwnComplete m = (r : RestorationRecord) (k : ScheduledNamespace) (point : ℕ) (serving : Id) → In r m.restorations
+    → r.state ≡ Switching point serving → In k m.scheduled → k.namespace ≡ r.namespace → point ≤ complete_to k + 1
 
 pub record Facts (ps : Parts) : Type 0 where
   pub tablets : (slot : ℕ) → is_empty (ps.tablet slot).presence ≡ false → GoesBack ps.master (ps.tablet slot)
   pub last_since : LastSince ps.master
   pub latest : LastIsLatest ps.master
   pub times : (k : ScheduledNamespace) → In k ps.master.scheduled → TimesFollow ps.master k
+  pub own : OwnComplete ps.master

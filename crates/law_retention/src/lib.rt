@@ -18,7 +18,7 @@ ghost use Rattle.model.specs.Retained.{Retained, TimesRise};
 ghost use Rattle.model.specs.Tablets.{Command};
 ghost use Rattle.model.specs.Taking.{MarkRaised, TakesNothingNeeded};
 ghost use Rattle.law_invariants.specs.Invariant.{Inv, Later, MasterGood};
-ghost use Rattle.law_retention.specs.Covering.{FactsCovered, TakingCovered};
+ghost use Rattle.law_retention.specs.Covering.{TakingCovered};
 ghost use Rattle.law_retention.specs.Facts.{Facts};
 
 /// Retention follows from what holds after each entry, and from facts of its own: how far back each
@@ -34,12 +34,11 @@ pub fn rows_are_never_gone()
     ensures found { (ps : Parts) (activity : List Interval) (changes : List Change) (slot : ℕ) (c : Command) → Inv ps activity changes → Facts ps → In c (ps.tablet slot).inbox → refusal_in (gone c.body (ps.tablet (source_slot slot c.body)).frozen) ≡ None }
 {}
 
-/// The facts hold at the start, and each covered act keeps them: reads, writes, cutoffs, compactions,
-/// restarts, sends, what tablets do of commands, acks, removals and prunes. Changes and moves are not
-/// covered yet.
+/// The facts hold at the start, and each act keeps them, where what holds after each entry holds before
+/// it and after it.
 pub fn facts_are_kept()
     ensures start { (slots : ℕ) → Facts (start slots) }
-    ensures kept { (act : Act) (slots n : ℕ) (ps : Parts) (activity : List Interval) (changes : List Change) → ActAsked slots act → FactsCovered act → Later (slots_of act) ps n → Inv ps activity changes → Facts ps → Facts (told act (outcome act n ps) n ps) }
+    ensures kept { (act : Act) (slots n : ℕ) (ps : Parts) (activity : List Interval) (changes : List Change) (later_activity : List Interval) (later_changes : List Change) → ActAsked slots act → Later (slots_of act) ps n → Inv ps activity changes → Facts ps → Inv (told act (outcome act n ps) n ps) later_activity later_changes → Facts (told act (outcome act n ps) n ps) }
 {}
 
 /// Where retention holds of what a covered act leaves, the act took nothing that a time needs, from the

@@ -13,7 +13,7 @@ use Rattle.script_places.specs.Places.{look_up}
 use Rattle.script_places.specs.Grammar.{all_right, words_differ, SpelledIn, RefusedIn}
 use Rattle.script_places.proofs.TableWords.{found, finds, refused_in, refuses_in}
 use Rattle.model.specs.Scripts.{ScriptCommand}
-use Rattle.script_lang.specs.Table.{table, from_rows, from_catalog, command_of}
+use Rattle.script_lang.specs.Table.{table, from_work, from_restores, from_schedules, from_tablets, from_rows, from_catalog, command_of}
 use Rattle.script_lang.specs.Script.{of_words, line_of}
 use Rattle.script_lang.specs.Grammar.{IsPlainLine, IsLine, LineRefused}
 
@@ -25,7 +25,7 @@ differ : words_differ table ≡ true
 differ = refl
 
 looked : (slots : ℕ) (w : Word) (ws : List Word) → command_of slots w ws ≡ look_up slots table w ws (Err UnknownCommand)
-unfolding command_of from_catalog from_rows
+unfolding command_of from_catalog from_rows from_tablets from_schedules from_restores from_work
 looked slots w ws = refl
 
 pub command_is : (slots : ℕ) (command : ScriptCommand) (w : List ℕ) (ws : List (List ℕ)) → slots < 2 ^ 64 → command_of slots w ws ≡ Ok command → SpelledIn slots table command w ws

@@ -3,6 +3,7 @@ use Rattle.std.specs.Prelude.{List, [], ◌∷◌, codes}
 use Rattle.script_places.specs.declared.place.Place.TheVariants.{Tablets, Name, Number, Column, Columns}
 use Rattle.script_places.specs.Places.{Form}
 use Rattle.model.specs.Scripts.{ScriptCommand, CreateNamespace, DropNamespace, CreateTable, AddColumn, DropColumn, RenameTable, DropTable}
+use Rattle.script_lang.specs.Limits.{most_tablets}
 
 abbrev pub create_namespace : Form ScriptCommand
 create_namespace = record { word = codes "create_namespace"; places = Name ∷ []; makes = CreateNamespace }
@@ -13,7 +14,7 @@ drop_namespace = record { word = codes "drop_namespace"; places = Name ∷ []; m
 abbrev pub create_table : Form ScriptCommand
 create_table = record {
   word = codes "create_table";
-  places = Name ∷ Name ∷ Tablets ∷ Number 1 1 ∷ Columns ∷ [];
+  places = Name ∷ Name ∷ Tablets ∷ Number 1 most_tablets ∷ Columns ∷ [];
   makes = λ namespace table _ tablets columns. CreateTable namespace table tablets columns;
 }
 

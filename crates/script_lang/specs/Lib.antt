@@ -1,6 +1,11 @@
 pub mod Catalog
 pub mod Grammar
+pub mod Limits
+pub mod Restores
 pub mod Rows
+pub mod Schedules
 pub mod Script
 pub mod Settings
 pub mod Table
+pub mod Tablets
+pub mod Work

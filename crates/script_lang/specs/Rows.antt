@@ -2,7 +2,7 @@
 use Rattle.std.specs.Prelude.{List, [], ◌∷◌, Some, None, codes}
 use Rattle.model.specs.Acts.{NamedUpsert, NamedDelete}
 use Rattle.model.specs.Scripts.{ScriptCommand, WriteRows, ReadRow, ReadTable}
-use Rattle.script_places.specs.declared.place.Place.TheVariants.{Name, Key, Time, Cells}
+use Rattle.script_places.specs.declared.place.Place.TheVariants.{Name, Key, Time, Cells, Items}
 use Rattle.script_places.specs.Places.{Form}
 
 abbrev pub put : Form ScriptCommand
@@ -18,6 +18,9 @@ delete = record {
   places = Name ∷ Name ∷ Key ∷ [];
   makes = λ namespace table key. WriteRows namespace table (record { key = key; op = NamedDelete } ∷ []);
 }
+
+abbrev pub batch : Form ScriptCommand
+batch = record { word = codes "batch"; places = Name ∷ Name ∷ Items ∷ []; makes = WriteRows }
 
 abbrev pub get : Form ScriptCommand
 get = record {
@@ -48,4 +51,4 @@ scan_at = record {
 }
 
 abbrev pub forms : List (Form ScriptCommand)
-forms = put ∷ delete ∷ get ∷ get_at ∷ scan ∷ scan_at ∷ []
+forms = put ∷ delete ∷ batch ∷ get ∷ get_at ∷ scan ∷ scan_at ∷ []

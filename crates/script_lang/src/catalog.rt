@@ -6,6 +6,7 @@ ghost use Rattle.script_places.specs.Places.{read_form};
 ghost use Rattle.script_lang.specs.Catalog as catalog;
 ghost use Rattle.script_lang.specs.Table.{from_catalog};
 
+use crate::limits::MOST_TABLETS;
 use crate::reading::Reading;
 use crate::rows;
 use commands::ScriptCommand;
@@ -35,7 +36,10 @@ fn drop_namespace(with: Reading, words: &[Bytes]) -> Result<ScriptCommand, LineE
 fn create_table(with: Reading, words: &[Bytes]) -> Result<ScriptCommand, LineError>
     ensures exact { Gives script_command_of result (read_form with.slots catalog.create_table words.now) }
 {
-    let count = Place::Number { least: 1, most: 1 };
+    let count = Place::Number {
+        least: 1,
+        most: MOST_TABLETS,
+    };
     counted(
         &[
             Place::Name,
@@ -49,7 +53,7 @@ fn create_table(with: Reading, words: &[Bytes]) -> Result<ScriptCommand, LineErr
     let (namespace, rest) = name_at(with.alloc, words)?;
     let (table, rest) = name_at(with.alloc, rest)?;
     let (_, rest) = next_of(rest)?;
-    let (tablets, rest) = number_at(rest, Cause::BadNumber, 1, 1)?;
+    let (tablets, rest) = number_at(rest, Cause::BadNumber, 1, MOST_TABLETS)?;
     let columns = columns(with.alloc, rest)?;
     Ok(ScriptCommand::CreateTable {
         namespace,

@@ -6,10 +6,15 @@
 
 mod catalog;
 mod laws;
+mod limits;
 mod reading;
+mod restores;
 mod rows;
+mod schedules;
 mod script;
 mod settings;
+mod tablets;
+mod work;
 
 pub use commands::{NamedCell, NamedItem, NamedOp, ScriptCommand, Time};
 pub use laws::{

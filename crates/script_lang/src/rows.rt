@@ -7,10 +7,11 @@ ghost use Rattle.script_lang.specs.Rows as rows;
 ghost use Rattle.script_lang.specs.Table.{from_rows};
 
 use crate::reading::Reading;
+use crate::tablets;
 use commands::ScriptCommand;
 use row_values::Bytes;
-use script_places::{Place, cells, counted, key_at, name_at, time};
-use script_words::{Cause, LineError};
+use script_places::{Place, cells, counted, items, key_at, name_at, time};
+use script_words::LineError;
 
 #[tactic(auto, unfolding(script_places::specs::Places::read_form))]
 fn put(with: Reading, words: &[Bytes]) -> Result<ScriptCommand, LineError>
@@ -41,6 +42,21 @@ fn delete(with: Reading, words: &[Bytes]) -> Result<ScriptCommand, LineError>
         namespace,
         table,
         key,
+    })
+}
+
+#[tactic(auto, unfolding(script_places::specs::Places::read_form))]
+fn batch(with: Reading, words: &[Bytes]) -> Result<ScriptCommand, LineError>
+    ensures exact { Gives script_command_of result (read_form with.slots rows.batch words.now) }
+{
+    counted(&[Place::Name, Place::Name, Place::Items], words)?;
+    let (namespace, rest) = name_at(with.alloc, words)?;
+    let (table, rest) = name_at(with.alloc, rest)?;
+    let items = items(with.alloc, rest)?;
+    Ok(ScriptCommand::Batch {
+        namespace,
+        table,
+        items,
     })
 }
 
@@ -113,6 +129,9 @@ pub fn command_of(with: Reading, word: &[u8], rest: &[Bytes]) -> Result<ScriptCo
     if word == b"delete".as_slice() {
         return delete(with, rest);
     }
+    if word == b"batch".as_slice() {
+        return batch(with, rest);
+    }
     if word == b"get".as_slice() {
         return get(with, rest);
     }
@@ -125,5 +144,5 @@ pub fn command_of(with: Reading, word: &[u8], rest: &[Bytes]) -> Result<ScriptCo
     if word == b"scan_at".as_slice() {
         return scan_at(with, rest);
     }
-    Err(LineError::Refused(Cause::UnknownCommand))
+    tablets::command_of(with, word, rest)
 }

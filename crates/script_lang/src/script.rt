@@ -106,14 +106,8 @@ fn read_lines(with: Reading, bytes: &[u8]) -> Result<Script, ScriptRefused>
 
 /// Reads the text of a script for so many slots. It is Ok exactly where each line is in the grammar,
 /// with the commands that the text means; else it names the first line that isn't, and that line's
-/// first cause. `sections` says whether the lines of sections are in the grammar. None of them is
-/// built yet, so they are unknown commands either way.
-pub fn read_script(
-    alloc: Global,
-    bytes: &[u8],
-    slots: u32,
-    sections: bool,
-) -> Result<Script, ScriptRefused>
+/// first cause.
+pub fn read_script(alloc: Global, bytes: &[u8], slots: u32) -> Result<Script, ScriptRefused>
     ensures exact { MatchResult result
         (λ script. script_of slots bytes.now ≡ Ok script.lines)
         (RefusedFor (script_of slots bytes.now)) }
@@ -122,6 +116,5 @@ pub fn read_script(
     ensures accepted { (found : List ScriptLine) → IsScript slots bytes.now found → IsOkUnless result NoMemory }
     ensures told { (line : ℕ) (cause : Cause) → IsRefusedAt slots bytes.now line cause → IsErr result }
 {
-    let _ = sections;
     read_lines(Reading { alloc, slots }, bytes)
 }

@@ -14,7 +14,6 @@ unknown command: par
 unknown command: worker compactor 1
 unknown command: client
 unknown command: end
-unknown command: lag 1 1
 wrong words: tick
 wrong words: tick 5 5
 wrong words: create_namespace
@@ -72,12 +71,11 @@ bad name: add_column a t v
 bad name: add_column a t v:float
 bad name: add_column a t V:int
 repeated column: create_table a t tablets 1 v:int w:int v:text
-bad number: tick 562949953421312
+bad number: tick 1125899906842624
 bad number: tick 18446744073709551616
 bad number: tick 05
 bad number: tick -5
 bad number: tick '5'
-bad number: create_table a t tablets 2 v:int
 bad number: create_table a t tablets 0 v:int
 bad time: scan_at a t 1125899906842624
 bad time: scan_at a t minus 10000001s
@@ -91,7 +89,7 @@ bad name: get A t !
 bad key: put a t ! v=x
 bad value: put a t k v=x W=1
 bad name: put a t k W=x v=x
-bad number: create_table a t tablets 2 V:int
+bad number: create_table a t tablets 65 V:int
 repeated column: create_table a t tablets 1 v:int v:int V:int
 bad key: get_at a t ! never
 ok: get_at a t k 1125899906842623
@@ -99,8 +97,102 @@ ok: scan_at a t minus 10000000m
 ok: scan_at a t minus 0s
 ok: scan_at a t ht 4611686018427387903
 ok: tick 0
-ok: tick 562949953421311
+ok: tick 1125899906842623
 ok: add_column a t v:int
+wrong words: lag 1
+no such slot: lag 0 5
+no such slot: lag 65 5
+ok: lag 64 18446744073709551615
+bad number: lag 1 18446744073709551616
+ok: create_table a t tablets 64 v:int
+bad number: create_table a t tablets 65 v:int
+ok: batch a t k v=1 w='x y' / l delete / m v=2
+wrong words: batch a t
+wrong words: batch a t k
+wrong words: batch a t k v=1 /
+wrong words: batch a t k v=1 / / l delete
+bad key: batch a t k v=1 / ! delete
+bad value: batch a t k delete v=1
+bad name: batch a t k v=1 / l V=1
+ok: split a t 0
+ok: split a t 65535
+wrong words: split a t
+bad number: split a t 65536
+bad number: split a t x
+wrong words: list_tablets
+bad name: list_tablets A
+ok: list_tablets a
+ok: cutoff
+wrong words: cutoff 1
+ok: compact
+wrong words: compact 1
+ok: stats 1
+wrong words: stats
+no such slot: stats 65
+no such slot: stats x
+ok: create_snapshot_schedule 0 18446744073709551615 a
+ok: create_snapshot_schedule 1 10 ysql.a
+wrong words: create_snapshot_schedule 1 10
+bad number: create_snapshot_schedule 18446744073709551616 10 a
+bad number: create_snapshot_schedule 1 18446744073709551616 a
+bad number: create_snapshot_schedule 1 010 A
+bad name: create_snapshot_schedule 1 10 ysql.
+bad name: create_snapshot_schedule 1 10 ysql.ysql.a
+bad name: create_snapshot_schedule 1 10 YSQL.a
+bad name: create_snapshot_schedule 1 10 ycql.a
+ok: create_snapshot_schedule 1 10 ysql.abcdefghijklmnopqrstuvwxyz012345
+bad name: create_snapshot_schedule 1 10 ysql.abcdefghijklmnopqrstuvwxyz0123456
+ok: edit_snapshot_schedule 00000004-0000-4000-8000-000000000001 18446744073709551615 0
+wrong words: edit_snapshot_schedule 00000004-0000-4000-8000-000000000001 5
+bad identifier: edit_snapshot_schedule S1 5 10
+bad identifier: edit_snapshot_schedule 00000005-0000-4000-8000-000000000001 x 10
+bad number: edit_snapshot_schedule 00000004-0000-4000-8000-000000000001 18446744073709551616 0
+bad number: edit_snapshot_schedule 00000004-0000-4000-8000-000000000001 5 10m
+ok: delete_snapshot_schedule {00000004-0000-4000-8000-000000000001}
+wrong words: delete_snapshot_schedule
+bad identifier: delete_snapshot_schedule 00000004-0000-4000-8000-000000000000
+ok: take_snapshot 00000004000040008000000000000001
+wrong words: take_snapshot
+bad identifier: take_snapshot 1
+ok: list_snapshot_schedules
+wrong words: list_snapshot_schedules a
+ok: list_snapshots
+wrong words: list_snapshots a
+ok: restore_snapshot_schedule 00000004-0000-4000-8000-000000000001 ht 4096000003
+ok: restore_snapshot_schedule 00000004-0000-4000-8000-000000000001 minus 5m
+wrong words: restore_snapshot_schedule 00000004-0000-4000-8000-000000000001
+wrong words: restore_snapshot_schedule 00000004-0000-4000-8000-000000000001 ht 5 5
+bad identifier: restore_snapshot_schedule 00000006-0000-4000-8000-000000000001 never
+bad time: restore_snapshot_schedule 00000004-0000-4000-8000-000000000001 never
+ok: clone_namespace a b
+ok: clone_namespace a b 5
+ok: clone_namespace a b minus 5s
+wrong words: clone_namespace a
+wrong words: clone_namespace a b ht 5 5
+bad name: clone_namespace A b never
+bad name: clone_namespace a B
+bad time: clone_namespace a b never
+bad time: clone_namespace a b ht
+ok: list_snapshot_restorations
+wrong words: list_snapshot_restorations a
+ok: list_clones
+wrong words: list_clones a
+ok: cleanup
+wrong words: cleanup a
+ok: coordinate 0
+ok: coordinate 1000000
+wrong words: coordinate
+bad number: coordinate 1000001
+ok: settle
+wrong words: settle 5
+ok: restart_master
+wrong words: restart_master 0
+ok: restart_tablet 64
+wrong words: restart_tablet
+no such slot: restart_tablet 0
+no such slot: restart_tablet 65
+ok: history
+wrong words: history 1
 ok: add_column a t w:text";
 
 fn name_of(cause: Cause) -> &'static str {
@@ -109,7 +201,6 @@ fn name_of(cause: Cause) -> &'static str {
         Cause::BadByte => "bad byte",
         Cause::OpenQuote => "open quote",
         Cause::UnknownCommand => "unknown command",
-        Cause::Section => "section",
         Cause::WrongWords => "wrong words",
         Cause::BadName => "bad name",
         Cause::BadKey => "bad key",
@@ -124,7 +215,7 @@ fn name_of(cause: Cause) -> &'static str {
 
 // The number of the refused line, 0 where there is none, and what is told.
 fn told(rt: &HostRuntime, text: &[u8]) -> (u64, &'static str) {
-    match &read_script(rt.alloc(), text, 64, false) {
+    match &read_script(rt.alloc(), text, 64) {
         Ok(_) => (0, "ok"),
         Err(ScriptRefused::Line { line, cause }) => (*line, name_of(*cause)),
         Err(ScriptRefused::NoMemory) => (0, "no memory"),
@@ -140,7 +231,7 @@ fn each_cause_at_each_kind_of_word(rt: HostRuntime) {
             count = count.saturating_add(1);
         }
     }
-    assert_eq!(rt; count, 99);
+    assert_eq!(rt; count, 191);
     let long = [b'a'; 4097];
     assert_eq!(rt; told(&rt, &long[..4096]), (1, "unknown command"));
     assert_eq!(rt; told(&rt, &long), (1, "line too long"));
@@ -159,7 +250,7 @@ fn each_cause_at_each_kind_of_word(rt: HostRuntime) {
 #[test]
 fn the_commands_are_those_of_the_text(rt: HostRuntime) {
     let text: &[u8] = b"tick 7\n\nput a t k v=-2 w='x y'\nget_at a t k minus 3m\n";
-    let read = read_script(rt.alloc(), text, 1, true);
+    let read = read_script(rt.alloc(), text, 1);
     let script = match &read {
         Ok(script) => script,
         Err(_) => return,

@@ -1,3 +1,4 @@
+pub mod DatabaseWords
 pub mod AsciiTexts
 pub mod CellWords
 pub mod ColumnWords

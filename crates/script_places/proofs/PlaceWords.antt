@@ -13,18 +13,18 @@ use Rattle.model.specs.Scripts.{Time, Micros, MinusMinutes, MinusSeconds, Exact}
 use Rattle.script_places.specs.declared.place.Place.{Place}
 use Rattle.script_places.specs.declared.place.Place.TheVariants as places
 use Rattle.script_places.specs.Words.{Word, wanted}
-use Rattle.script_places.specs.Names.{is_name, is_key, name_at, key_at}
+use Rattle.script_places.specs.Names.{is_name, is_key, name_at, unprefixed, database_at, key_at}
 use Rattle.script_places.specs.Numbers.{number_of, from_least, number_in, number_at}
 use Rattle.yb_ident.specs.Seen.{kind_of}
 use Rattle.script_places.specs.Identifiers.{ident_of}
 use Rattle.script_places.specs.Values.{cells_from}
 use Rattle.script_places.specs.Columns.{column_of, column_at, columns_from}
-use Rattle.script_places.specs.Times.{time_of}
+use Rattle.script_places.specs.Times.{time_of, maybe_time}
 use Rattle.script_places.specs.Groups.{groups, item_fits, items_fit}
 use Rattle.script_places.specs.Items.{items_from}
 use Rattle.script_places.specs.Counts.{takes_rest, rest_fits, word_fits, fits}
 use Rattle.script_places.specs.Places.{Meaning, at}
-use Rattle.script_places.specs.Spelling.{cell_word, FitsCell, column_word, FitsColumn, AreNew, time_words, item_words, FitsItem, joined, Writes}
+use Rattle.script_places.specs.Spelling.{cell_word, FitsCell, column_word, FitsColumn, AreNew, time_words, maybe_words, item_words, FitsItem, joined, Writes}
 use Rattle.script_places.specs.Grammar.{IsNumber, is_bounded, RefusedAt}
 use Rattle.script_places.proofs.Results.{okay, failed, same_ok, same_cause}
 use Rattle.script_places.proofs.Decimals.{is_decimal, decimal_is}
@@ -34,7 +34,8 @@ use Rattle.script_places.proofs.ColumnWords.{column_is, column_again, column_not
 use Rattle.script_places.proofs.IdentWords.{ident_is, ident_again, ident_not, no_ident}
 use Rattle.script_places.proofs.Slashes.{some_group, joined_groups, groups_joined}
 use Rattle.script_places.proofs.ItemWords.{no_slashes, items_count, items_again, items_are, items_not, items_refused}
-use Rattle.script_places.proofs.TimeWords.{time_is, time_again, time_not, no_time}
+use Rattle.script_places.proofs.TimeWords.{time_is, time_again, time_not, no_time, maybe_is, maybe_again, maybe_not, no_maybe}
+use Rattle.script_places.proofs.DatabaseWords.{database_is, database_again, database_not, no_database}
 
 abbrev put : {A : Type 0} → List Word → A → Result (A × List Word) Cause
 put ws x = Ok (x, ws)
@@ -146,7 +147,7 @@ between n e = let p = and_parts (nat_le 1 n) (nat_le n 16) e in (at_most 1 n p.0
 -- what is made of the words is what they write
 pub stands : (slots : ℕ) (place : Place) (rest : List Place) (ws : List Word) (p : Meaning place × List Word) → slots < 2 ^ 64 → is_bounded place ≡ true
     → (takes_rest place ≡ true → rest ≡ []) → fits (place ∷ rest) ws ≡ true → at slots place ws ≡ Ok p → Stands slots place rest ws p
-unfolding fits name_at key_at number_at column_at
+unfolding fits name_at database_at key_at number_at column_at
 stands slots places.Tablets rest [] p few bound last fit e = absurd cc
 stands slots places.Tablets rest (w ∷ ws) p few bound last fit e =
     let f = and_parts (bytes_eq w (codes "tablets")) (fits rest ws) fit in
@@ -155,6 +156,10 @@ stands slots places.Name rest [] p few bound last fit e = absurd cc
 stands slots places.Name rest (w ∷ ws) p few bound last fit e =
     let t = took (is_name w) (w, ws) BadName p e in
     one_word slots places.Name rest w ws w p t.1 (refl, t.0) fit
+stands slots places.Database rest [] p few bound last fit e = absurd cc
+stands slots places.Database rest (w ∷ ws) p few bound last fit e =
+    let t = took (is_name (unprefixed w)) (unprefixed w, ws) BadName p e in
+    one_word slots places.Database rest w ws (unprefixed w) p t.1 (w, refl, database_is w t.0) fit
 stands slots places.Key rest [] p few bound last fit e = absurd cc
 stands slots places.Key rest (w ∷ ws) p few bound last fit e =
     let t = took (is_key w) (w, ws) BadKey p e in
@@ -181,6 +186,9 @@ stands slots places.Column rest (w ∷ ws) p few bound last fit e =
 stands slots places.Time rest ws p few bound last fit e =
     let t = took_some (time_of ws) BadTime [] p e in
     all_words slots places.Time rest ws t.0 p t.2 (time_is ws t.0 t.1) (last refl)
+stands slots places.MaybeTime rest ws p few bound last fit e =
+    let t = took_some (maybe_time ws) BadTime [] p e in
+    all_words slots places.MaybeTime rest ws t.0 p t.2 (maybe_is ws t.0 t.1) (last refl)
 stands slots places.Cells rest ws p few bound last fit e =
     let t = took_one (cells_from [] ws) [] p e in
     let c = cells_are ws [] t.0 t.1 in
@@ -218,9 +226,11 @@ number_first cause least most n others small low high = rw (number_again least m
 
 pub read_again : (slots : ℕ) (place : Place) (x : Meaning place) (front others : List Word) → slots < 2 ^ 64 → is_bounded place ≡ true
     → (takes_rest place ≡ true → others ≡ []) → Writes slots place x front → at slots place (front ++ others) ≡ Ok (x, others)
-unfolding name_at key_at column_at
+unfolding name_at database_at key_at column_at
 read_again slots places.Tablets x front others few bound last w = ap (read_one slots places.Tablets others) w
 read_again slots places.Name x front others few bound last w = ap (read_one slots places.Name others) w.0 ∙ rw w.1 refl
+read_again slots places.Database x front others few bound last w =
+    ap (read_one slots places.Database others) w.1 ∙ rw (database_again x w.0 w.2, w.2.0) refl
 read_again slots places.Key x front others few bound last w = ap (read_one slots places.Key others) w.0 ∙ rw w.1 refl
 read_again slots (places.Number least most) x front others few bound last w =
     ap (read_one slots (places.Number least most) others) w.0 ∙ number_first BadNumber least most x others (below most (2 ^ 64) bound) w.1 w.2
@@ -231,6 +241,10 @@ read_again slots places.Column x front others few bound last w = ap (read_one sl
 read_again slots places.Time x front others few bound last w =
     let e : front ++ others ≡ time_words x = ap (λ (vs : List Word). front ++ vs) (last refl) ∙ append-nil front ∙ w.0 in
     let t : time_of (front ++ others) ≡ Some x = ap time_of e ∙ time_again x w.1 in
+    rw t (ap (λ (vs : List Word). okay (x, vs)) (sym (last refl)))
+read_again slots places.MaybeTime x front others few bound last w =
+    let e : front ++ others ≡ maybe_words x = ap (λ (vs : List Word). front ++ vs) (last refl) ∙ append-nil front ∙ w.0 in
+    let t : maybe_time (front ++ others) ≡ Some x = ap maybe_time e ∙ maybe_again x w.1 in
     rw t (ap (λ (vs : List Word). okay (x, vs)) (sym (last refl)))
 read_again slots places.Cells x front others few bound last w =
     let e : front ++ others ≡ map cell_word x = ap (λ (vs : List Word). front ++ vs) (last refl) ∙ append-nil front ∙ w.0 in
@@ -254,6 +268,13 @@ time_count (MinusMinutes n) = refl
 time_count (MinusSeconds n) = refl
 time_count (Exact n) = refl
 
+maybe_count : (time : Option Time) → rest_fits places.MaybeTime (maybe_words time) ≡ true
+maybe_count None = refl
+maybe_count (Some (Micros n)) = refl
+maybe_count (Some (MinusMinutes n)) = refl
+maybe_count (Some (MinusSeconds n)) = refl
+maybe_count (Some (Exact n)) = refl
+
 fit_first : (place : Place) (rest : List Place) (w : Word) (others : List Word) → takes_rest place ≡ false → word_fits place w ≡ true → fits rest others ≡ true
     → fits (place ∷ rest) (w ∷ others) ≡ true
 unfolding fits
@@ -266,6 +287,8 @@ pub fit_again : (slots : ℕ) (place : Place) (rest : List Place) (x : Meaning p
     → (takes_rest place ≡ true → others ≡ []) → Writes slots place x front → fits rest others ≡ true → fits (place ∷ rest) (front ++ others) ≡ true
 fit_again slots places.Tablets rest x front others last w fit = ap (fit_all rest places.Tablets others) w ∙ fit_first places.Tablets rest (codes "tablets") others refl refl fit
 fit_again slots places.Name rest x front others last w fit = ap (fit_all rest places.Name others) w.0 ∙ fit_first places.Name rest x others refl refl fit
+fit_again slots places.Database rest x front others last w fit =
+    ap (fit_all rest places.Database others) w.1 ∙ fit_first places.Database rest w.0 others refl refl fit
 fit_again slots places.Key rest x front others last w fit = ap (fit_all rest places.Key others) w.0 ∙ fit_first places.Key rest x others refl refl fit
 fit_again slots (places.Number least most) rest x front others last w fit =
     ap (fit_all rest (places.Number least most) others) w.0 ∙ fit_first (places.Number least most) rest (decimal x) others refl refl fit
@@ -276,6 +299,9 @@ fit_again slots places.Column rest x front others last w fit = ap (fit_all rest 
 fit_again slots places.Time rest x front others last w fit =
     let e : front ++ others ≡ time_words x = ap (λ (vs : List Word). front ++ vs) (last refl) ∙ append-nil front ∙ w.0 in
     ap (fits (places.Time ∷ rest)) e ∙ counts places.Time rest (time_words x) refl (time_count x)
+fit_again slots places.MaybeTime rest x front others last w fit =
+    let e : front ++ others ≡ maybe_words x = ap (λ (vs : List Word). front ++ vs) (last refl) ∙ append-nil front ∙ w.0 in
+    ap (fits (places.MaybeTime ∷ rest)) e ∙ counts places.MaybeTime rest (maybe_words x) refl (maybe_count x)
 fit_again slots places.Cells rest x front others last w fit =
     let e : front ++ others ≡ map cell_word x = ap (λ (vs : List Word). front ++ vs) (last refl) ∙ append-nil front ∙ w.0 in
     let long : length (map cell_word x) ≡ length x = length-map x cell_word in
@@ -296,11 +322,14 @@ fit_again slots places.Items rest x front others last w fit =
 -- what is refused has no meaning, for that cause
 pub refused_there : (slots : ℕ) (place : Place) (rest : List Place) (cause : Cause) (ws : List Word) → slots < 2 ^ 64 → is_bounded place ≡ true
     → fits (place ∷ rest) ws ≡ true → at slots place ws ≡ Err cause → RefusedAt slots place cause ws
-unfolding fits name_at key_at number_at column_at
+unfolding fits name_at database_at key_at number_at column_at
 refused_there slots places.Tablets rest cause [] few bound fit e = absurd cc
 refused_there slots places.Tablets rest cause (w ∷ ws) few bound fit e = absurd cc
 refused_there slots places.Name rest cause [] few bound fit e = absurd cc
 refused_there slots places.Name rest cause (w ∷ ws) few bound fit e = not_took (is_name w) (w, ws) BadName cause e
+refused_there slots places.Database rest cause [] few bound fit e = absurd cc
+refused_there slots places.Database rest cause (w ∷ ws) few bound fit e =
+    let n = not_took (is_name (unprefixed w)) (unprefixed w, ws) BadName cause e in (database_not w n.0, n.1)
 refused_there slots places.Key rest cause [] few bound fit e = absurd cc
 refused_there slots places.Key rest cause (w ∷ ws) few bound fit e = not_took (is_key w) (w, ws) BadKey cause e
 refused_there slots (places.Number least most) rest cause [] few bound fit e = absurd cc
@@ -315,6 +344,7 @@ refused_there slots (places.Identifier kind) rest cause (w ∷ ws) few bound fit
 refused_there slots places.Column rest cause [] few bound fit e = absurd cc
 refused_there slots places.Column rest cause (w ∷ ws) few bound fit e = column_not w cause (not_one (column_of w) ws cause e)
 refused_there slots places.Time rest cause ws few bound fit e = let n = not_some (time_of ws) BadTime [] cause e in (time_not ws n.0, n.1)
+refused_there slots places.MaybeTime rest cause ws few bound fit e = let n = not_some (maybe_time ws) BadTime [] cause e in (maybe_not ws n.0, n.1)
 refused_there slots places.Cells rest cause ws few bound fit e = cells_not ws [] cause (not_one (cells_from [] ws) [] cause e)
 refused_there slots places.Columns rest cause ws few bound fit e = columns_not ws [] cause (not_one (columns_from [] ws) [] cause e)
 refused_there slots places.Items rest cause ws few bound fit e =
@@ -323,10 +353,12 @@ refused_there slots places.Items rest cause ws few bound fit e =
 
 pub refused_again : (slots : ℕ) (place : Place) (cause : Cause) (ws : List Word) → slots < 2 ^ 64 → is_bounded place ≡ true
     → RefusedAt slots place cause ws → at slots place ws ≡ Err cause
-unfolding name_at key_at number_at column_at
+unfolding name_at database_at key_at number_at column_at
 refused_again slots places.Tablets cause ws few bound r = absurd r
 refused_again slots places.Name cause [] few bound r = absurd r
 refused_again slots places.Name cause (w ∷ ws) few bound r = rw r.0 (ap failed (sym r.1))
+refused_again slots places.Database cause [] few bound r = absurd r
+refused_again slots places.Database cause (w ∷ ws) few bound r = rw (no_database w r.0) (ap failed (sym r.1))
 refused_again slots places.Key cause [] few bound r = absurd r
 refused_again slots places.Key cause (w ∷ ws) few bound r = rw r.0 (ap failed (sym r.1))
 refused_again slots (places.Number least most) cause [] few bound r = absurd r
@@ -340,6 +372,7 @@ refused_again slots (places.Identifier kind) cause (w ∷ ws) few bound r = rw (
 refused_again slots places.Column cause [] few bound r = absurd r
 refused_again slots places.Column cause (w ∷ ws) few bound r = rw (column_refused w cause r.0 r.1) refl
 refused_again slots places.Time cause ws few bound r = rw (no_time ws r.0) (ap failed (sym r.1))
+refused_again slots places.MaybeTime cause ws few bound r = rw (no_maybe ws r.0) (ap failed (sym r.1))
 refused_again slots places.Cells cause ws few bound r = rw (cells_refused ws [] cause r) refl
 refused_again slots places.Columns cause ws few bound r = rw (columns_refused ws [] cause r) refl
 refused_again slots places.Items cause ws few bound r = rw (items_refused (groups ws) [] cause r) refl

@@ -1,5 +1,5 @@
 -- What a time's words are read as.
-use Rattle.std.proofs.Common.{◌≡◌, ℕ, ◌-◌, ◌^◌, ◌<◌, ◌≤◌, Bool, true, false, cond, List, [], ◌∷◌, ◌++◌, length, get_or, take, Option, Some, None, refl, sym, ap, subst, ◌∙◌, codes, arith}
+use Rattle.std.proofs.Common.{◌≡◌, ℕ, ◌-◌, ◌^◌, ◌<◌, ◌≤◌, Bool, true, false, cond, List, [], ◌∷◌, ◌++◌, length, get_or, take, Option, Some, None, inl, inr, refl, sym, ap, subst, ◌∙◌, codes, arith}
 use Rattle.std.specs.Prelude.{◌==◌, bytes_eq, decimal, option_map}
 use Rattle.std.proofs.lemmas.Bool.{eqb-true}
 use Rattle.std.proofs.lemmas.Bool.Decides.{nat_tests}
@@ -7,9 +7,9 @@ use Rattle.std.proofs.lemmas.List.{length-append, take_at}
 use Rattle.model.specs.Scripts.{Time, Micros, MinusMinutes, MinusSeconds, Exact}
 use Rattle.script_places.specs.Words.{Word}
 use Rattle.script_places.specs.Numbers.{number_of}
-use Rattle.script_places.specs.Times.{last_byte, front, most_back, time_back, time_of}
-use Rattle.script_places.specs.Spelling.{time_words, FitsTime}
-use Rattle.script_places.specs.Grammar.{IsTime}
+use Rattle.script_places.specs.Times.{last_byte, front, most_back, time_back, time_of, maybe_time}
+use Rattle.script_places.specs.Spelling.{time_words, FitsTime, maybe_words, FitsMaybe}
+use Rattle.script_places.specs.Grammar.{IsTime, IsMaybeTime}
 use Rattle.script_places.proofs.Decimals.{is_decimal, decimal_is}
 use Rattle.script_places.proofs.Cuts.{same_test, same_words, mapped, last_split}
 
@@ -121,3 +121,33 @@ none_by ws (Some time) is none = absurd (let i = time_is ws time is in none (tim
 
 pub no_time : (ws : List Word) → ¬ (IsTime ws) → time_of ws ≡ None
 no_time ws none = none_by ws (time_of ws) refl none
+
+-- a time that may be missing
+
+pub maybe_is : (ws : List Word) (x : Option Time) → maybe_time ws ≡ Some x → (ws ≡ maybe_words x) × FitsMaybe x
+maybe_is [] None e = (refl, tt)
+maybe_is [] (Some time) e = absurd cc
+maybe_is (w ∷ ws) None e = absurd (let m = mapped Some (time_of (w ∷ ws)) None e in let q : Some m.0 ≡ None = m.2 in cc)
+maybe_is (w ∷ ws) (Some time) e =
+    let m = mapped Some (time_of (w ∷ ws)) (Some time) e in
+    time_is (w ∷ ws) time (m.1 ∙ m.2)
+
+pub maybe_again : (x : Option Time) → FitsMaybe x → maybe_time (maybe_words x) ≡ Some x
+maybe_again None fits = refl
+maybe_again (Some (Micros n)) fits = ap (option_map Some) (time_again (Micros n) fits)
+maybe_again (Some (MinusMinutes n)) fits = ap (option_map Some) (time_again (MinusMinutes n) fits)
+maybe_again (Some (MinusSeconds n)) fits = ap (option_map Some) (time_again (MinusSeconds n) fits)
+maybe_again (Some (Exact n)) fits = ap (option_map Some) (time_again (Exact n) fits)
+
+unmapped : (o : Option Time) → option_map Some o ≡ None → o ≡ None
+unmapped None e = refl
+unmapped (Some time) e = absurd cc
+
+pub maybe_not : (ws : List Word) → maybe_time ws ≡ None → ¬ (IsMaybeTime ws)
+maybe_not [] none is = absurd cc
+maybe_not (w ∷ ws) none (inl is) = absurd cc
+maybe_not (w ∷ ws) none (inr is) = time_not (w ∷ ws) (unmapped (time_of (w ∷ ws)) none) is
+
+pub no_maybe : (ws : List Word) → ¬ (IsMaybeTime ws) → maybe_time ws ≡ None
+no_maybe [] none = absurd (none (inl refl))
+no_maybe (w ∷ ws) none = ap (option_map Some) (no_time (w ∷ ws) (λ is. none (inr is)))

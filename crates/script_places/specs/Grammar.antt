@@ -16,7 +16,7 @@ use Rattle.script_places.specs.Columns.{has_name}
 use Rattle.script_places.specs.Groups.{groups}
 use Rattle.script_places.specs.Counts.{takes_rest, fits}
 use Rattle.script_places.specs.Places.{Meaning, Makes, Form}
-use Rattle.script_places.specs.Spelling.{value_word, FitsValue, cell_word, FitsCell, column_word, FitsColumn, time_words, FitsTime, WritesIdent, item_words, FitsItem, Writes}
+use Rattle.script_places.specs.Spelling.{value_word, FitsValue, cell_word, FitsCell, column_word, FitsColumn, time_words, FitsTime, WritesDatabase, WritesIdent, item_words, FitsItem, Writes}
 
 -- The words are those of the places, one after the other, and the command is made of their meanings.
 abbrev pub Spells : {C : Type 0} → ℕ → (places : List Place) → Makes C places → C → List Word → Type 0
@@ -34,6 +34,10 @@ First (w ∷ ws) P = P w
 abbrev pub IsNumber : ℕ → ℕ → Word → Type 0
 IsNumber least most w = (n : ℕ) × (w ≡ decimal n) × (least ≤ n) × (n ≤ most)
 
+-- the name of a database
+abbrev pub IsDatabase : Word → Type 0
+IsDatabase w = (name : Word) × WritesDatabase name w
+
 -- an identifier of this kind
 abbrev pub IsIdentifier : Kind → Word → Type 0
 IsIdentifier kind w = (i : Id) × WritesIdent kind i w
@@ -49,6 +53,10 @@ IsColumn w = (column : NewColumn) × (w ≡ column_word column) × FitsColumn co
 
 abbrev pub IsTime : List Word → Type 0
 IsTime ws = (time : Time) × (ws ≡ time_words time) × FitsTime time
+
+-- a time, or no word
+abbrev pub IsMaybeTime : List Word → Type 0
+IsMaybeTime ws = (ws ≡ []) ⊎ IsTime ws
 
 abbrev pub IsItem : List Word → Type 0
 IsItem ws = (item : NamedItem) × (ws ≡ item_words item) × FitsItem item
@@ -88,6 +96,7 @@ ItemsRefused cause (group ∷ groups) = ItemRefused cause group ⊎ (IsItem grou
 abbrev pub RefusedAt : ℕ → Place → Cause → List Word → Type 0
 RefusedAt slots places.Tablets cause ws = ⊥
 RefusedAt slots places.Name cause ws = First ws (λ w. (is_name w ≡ false) × (cause ≡ BadName))
+RefusedAt slots places.Database cause ws = First ws (λ w. ¬ (IsDatabase w) × (cause ≡ BadName))
 RefusedAt slots places.Key cause ws = First ws (λ w. (is_key w ≡ false) × (cause ≡ BadKey))
 RefusedAt slots (places.Number least most) cause ws = First ws (λ w. ¬ (IsNumber least most w) × (cause ≡ BadNumber))
 RefusedAt slots places.Slot cause ws = First ws (λ w. ¬ (IsNumber 1 slots w) × (cause ≡ NoSuchSlot))
@@ -95,6 +104,7 @@ RefusedAt slots (places.Identifier kind) cause ws =
     First ws (λ w. ¬ (IsIdentifier (kind_of kind) w) × (cause ≡ BadIdentifier))
 RefusedAt slots places.Column cause ws = First ws (λ w. ¬ (IsColumn w) × (cause ≡ BadName))
 RefusedAt slots places.Time cause ws = ¬ (IsTime ws) × (cause ≡ BadTime)
+RefusedAt slots places.MaybeTime cause ws = ¬ (IsMaybeTime ws) × (cause ≡ BadTime)
 RefusedAt slots places.Cells cause ws = CellsRefused cause ws
 RefusedAt slots places.Columns cause ws = ColumnsRefused [] cause ws
 RefusedAt slots places.Items cause ws = ItemsRefused cause (groups ws)

@@ -1,5 +1,5 @@
 -- Names and keys.
-use Rattle.std.specs.Prelude.{ℕ, Bool, false, ◌==◌, ◌&&◌, ◌||◌, if◌then◌else◌, nat_le, List, [], ◌∷◌, length, Result, Ok, Err}
+use Rattle.std.specs.Prelude.{ℕ, Bool, false, ◌==◌, ◌&&◌, ◌||◌, if◌then◌else◌, nat_le, List, [], ◌∷◌, length, take, drop, codes, bytes_eq, Result, Ok, Err}
 use Rattle.std.specs.List.{list_all}
 use Rattle.script_words.specs.declared.cause.Cause.{Cause}
 use Rattle.script_words.specs.declared.cause.Cause.TheVariants.{BadName, BadKey}
@@ -36,6 +36,18 @@ is_key w = nat_le 1 (length w) && nat_le (length w) 64 && list_all is_key_byte w
 
 unfoldable pub name_at : List Word → Result (Word × List Word) Cause
 name_at ws = next_of ws >>= λ x. if is_name x.0 then Ok x else Err BadName
+
+-- what stands before the name of a database, where it is written as one of YSQL
+abbrev pub prefix : List ℕ
+prefix = codes "ysql."
+
+-- the word without that, if it stands there
+unfoldable pub unprefixed : List ℕ → List ℕ
+unprefixed w = if nat_le 5 (length w) && bytes_eq (take 5 w) prefix then drop 5 w else w
+
+unfoldable pub database_at : List Word → Result (Word × List Word) Cause
+database_at ws =
+    next_of ws >>= λ x. let name = unprefixed x.0 in if is_name name then Ok (name, x.1) else Err BadName
 
 unfoldable pub key_at : List Word → Result (Word × List Word) Cause
 key_at ws = next_of ws >>= λ x. if is_key x.0 then Ok x else Err BadKey

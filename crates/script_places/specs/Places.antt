@@ -1,5 +1,5 @@
 -- What the places of a command make of its words, from left to right.
-use Rattle.std.specs.Prelude.{ℕ, if◌then◌else◌, List, [], ◌∷◌, Result, Ok, Err, bytes_eq}
+use Rattle.std.specs.Prelude.{ℕ, Option, if◌then◌else◌, List, [], ◌∷◌, Result, Ok, Err, bytes_eq}
 use Rattle.row_values.specs.Schema.{NewColumn}
 use Rattle.row_values.specs.Ids.{Id}
 use Rattle.yb_ident.specs.Seen.{kind_of}
@@ -11,12 +11,12 @@ use Rattle.model.specs.Scripts.{Time}
 use Rattle.script_places.specs.declared.place.Place.{Place}
 use Rattle.script_places.specs.declared.place.Place.TheVariants as places
 use Rattle.script_places.specs.Words.{Word, next_of, wanted}
-use Rattle.script_places.specs.Names.{name_at, key_at}
+use Rattle.script_places.specs.Names.{name_at, database_at, key_at}
 use Rattle.script_places.specs.Numbers.{number_at}
 use Rattle.script_places.specs.Identifiers.{identifier_at}
 use Rattle.script_places.specs.Values.{cells_from}
 use Rattle.script_places.specs.Columns.{column_at, columns_from}
-use Rattle.script_places.specs.Times.{time_of}
+use Rattle.script_places.specs.Times.{time_of, maybe_time}
 use Rattle.script_places.specs.Groups.{groups}
 use Rattle.script_places.specs.Items.{items_from}
 use Rattle.script_places.specs.Counts.{fits}
@@ -25,12 +25,14 @@ use Rattle.script_places.specs.Counts.{fits}
 abbrev pub Meaning : Place → Type 0
 Meaning places.Tablets = Unit {0}
 Meaning places.Name = Word
+Meaning places.Database = Word
 Meaning places.Key = Word
 Meaning (places.Number least most) = ℕ
 Meaning places.Slot = ℕ
 Meaning (places.Identifier kind) = Id
 Meaning places.Column = NewColumn
 Meaning places.Time = Time
+Meaning places.MaybeTime = Option Time
 Meaning places.Cells = List NamedCell
 Meaning places.Columns = List NewColumn
 Meaning places.Items = List NamedItem
@@ -39,12 +41,14 @@ Meaning places.Items = List NamedItem
 abbrev pub at : ℕ → (place : Place) → List Word → Result (Meaning place × List Word) Cause
 at slots places.Tablets ws = next_of ws >>= λ x. Ok (tt, x.1)
 at slots places.Name ws = name_at ws
+at slots places.Database ws = database_at ws
 at slots places.Key ws = key_at ws
 at slots (places.Number least most) ws = number_at BadNumber least most ws
 at slots places.Slot ws = number_at NoSuchSlot 1 slots ws
 at slots (places.Identifier kind) ws = identifier_at (kind_of kind) ws
 at slots places.Column ws = column_at ws
 at slots places.Time ws = wanted BadTime (time_of ws) >>= λ time. Ok (time, [])
+at slots places.MaybeTime ws = wanted BadTime (maybe_time ws) >>= λ time. Ok (time, [])
 at slots places.Cells ws = cells_from [] ws >>= λ cells. Ok (cells, [])
 at slots places.Columns ws = columns_from [] ws >>= λ columns. Ok (columns, [])
 at slots places.Items ws = items_from [] (groups ws) >>= λ items. Ok (items, [])

@@ -1,5 +1,5 @@
 -- The words in which a meaning is written.
-use Rattle.std.specs.Prelude.{◌≡◌, ℕ, ◌≤◌, ◌<◌, ◌^◌, ◌+◌, true, false, List, [], ◌∷◌, ◌++◌, length, map, codes, decimal, pos, negsuc}
+use Rattle.std.specs.Prelude.{◌≡◌, ℕ, ◌≤◌, ◌<◌, ◌^◌, ◌+◌, true, false, List, [], ◌∷◌, ◌++◌, length, map, Option, Some, None, ◌⊎◌, codes, decimal, pos, negsuc}
 use Rattle.std.specs.List.{AllByRecursion}
 use Rattle.row_values.specs.declared.value.Value.{Value}
 use Rattle.row_values.specs.declared.value.Value.TheVariants as values
@@ -12,11 +12,15 @@ use Rattle.model.specs.Scripts.{Time, Micros, MinusMinutes, MinusSeconds, Exact}
 use Rattle.script_places.specs.declared.place.Place.{Place}
 use Rattle.script_places.specs.declared.place.Place.TheVariants as places
 use Rattle.script_places.specs.Words.{Word}
-use Rattle.script_places.specs.Names.{is_name, is_key}
+use Rattle.script_places.specs.Names.{prefix, is_name, is_key}
 use Rattle.script_places.specs.Values.{has_no_quote}
 use Rattle.script_places.specs.Columns.{has_name}
 use Rattle.script_places.specs.Groups.{slash}
 use Rattle.script_places.specs.Places.{Meaning}
+
+-- The word is a name, before which `ysql.` may stand.
+abbrev pub WritesDatabase : Word → Word → Type 0
+WritesDatabase name w = (is_name name ≡ true) × ((w ≡ name) ⊎ (w ≡ prefix ++ name))
 
 abbrev pub value_word : Value → Word
 value_word (values.Int (pos n)) = decimal n
@@ -64,6 +68,14 @@ FitsTime (MinusMinutes n) = n ≤ 10000000
 FitsTime (MinusSeconds n) = n ≤ 10000000
 FitsTime (Exact n) = n < 2 ^ 62
 
+abbrev pub maybe_words : Option Time → List Word
+maybe_words None = []
+maybe_words (Some time) = time_words time
+
+abbrev pub FitsMaybe : Option Time → Type 0
+FitsMaybe None = Unit {0}
+FitsMaybe (Some time) = FitsTime time
+
 -- The word is one of the four forms in which the identifier, of this kind, is written as a UUID.
 abbrev pub WritesIdent : ids.Kind → ids.Id → Word → Type 0
 WritesIdent kind i w = (i.kind ≡ kind) × Reads w i
@@ -93,12 +105,14 @@ joined (group ∷ other ∷ groups) = group ++ (slash ∷ joined (other ∷ grou
 abbrev pub Writes : ℕ → (place : Place) → Meaning place → List Word → Type 0
 Writes slots places.Tablets _ ws = ws ≡ codes "tablets" ∷ []
 Writes slots places.Name name ws = (ws ≡ name ∷ []) × (is_name name ≡ true)
+Writes slots places.Database name ws = (w : Word) × (ws ≡ w ∷ []) × WritesDatabase name w
 Writes slots places.Key key ws = (ws ≡ key ∷ []) × (is_key key ≡ true)
 Writes slots (places.Number least most) n ws = (ws ≡ decimal n ∷ []) × (least ≤ n) × (n ≤ most)
 Writes slots places.Slot n ws = (ws ≡ decimal n ∷ []) × (1 ≤ n) × (n ≤ slots)
 Writes slots (places.Identifier kind) i ws = (w : Word) × (ws ≡ w ∷ []) × WritesIdent (kind_of kind) i w
 Writes slots places.Column column ws = (ws ≡ column_word column ∷ []) × FitsColumn column
 Writes slots places.Time time ws = (ws ≡ time_words time) × FitsTime time
+Writes slots places.MaybeTime time ws = (ws ≡ maybe_words time) × FitsMaybe time
 Writes slots places.Cells cells ws =
     (ws ≡ map cell_word cells) × AllByRecursion FitsCell cells × (1 ≤ length cells) × (length cells ≤ 16)
 Writes slots places.Columns columns ws =

@@ -1,5 +1,5 @@
 -- The four forms of a time.
-use Rattle.std.specs.Prelude.{ℕ, ◌-◌, ◌^◌, ◌==◌, if◌then◌else◌, List, [], ◌∷◌, length, take, get_or, Option, None, codes, bytes_eq, option_map}
+use Rattle.std.specs.Prelude.{ℕ, ◌-◌, ◌^◌, ◌==◌, if◌then◌else◌, List, [], ◌∷◌, length, take, get_or, Option, Some, None, codes, bytes_eq, option_map}
 use Rattle.model.specs.Scripts.{Time, Micros, MinusMinutes, MinusSeconds, Exact}
 use Rattle.script_places.specs.Words.{Word}
 use Rattle.script_places.specs.Numbers.{number_of}
@@ -32,3 +32,8 @@ time_of (form ∷ w ∷ []) =
     else if bytes_eq form (codes "minus") then time_back w
     else None
 time_of (form ∷ w ∷ v ∷ ws) = None
+
+-- no word is no time
+abbrev pub maybe_time : List Word → Option (Option Time)
+maybe_time [] = Some None
+maybe_time (w ∷ ws) = option_map Some (time_of (w ∷ ws))

@@ -21,10 +21,10 @@ pub use column::{column_at, columns};
 pub use identifiers::identifier;
 pub use item::items;
 pub use laws::{numbers_are_decimal, what_spells_a_form_is_read_as_it};
-pub use names::{key_at, name_at};
+pub use names::{database_at, key_at, name_at};
 pub use numbers::{number_at, slot_at};
 pub use place::{Place, counted};
-pub use times::time;
+pub use times::{maybe_time, time};
 pub use values::cells;
 pub use words::next_of;
 

@@ -3,7 +3,7 @@
 ghost use Rattle.std.specs.Prelude.{◌≡◌};
 ghost use Rattle.std.specs.List.{list_all};
 ghost use Rattle.script_words.specs.Reading.{Gives};
-ghost use Rattle.script_places.specs.Names.{begins_name, is_name_byte, is_key_byte, is_name, is_key, name_at, key_at};
+ghost use Rattle.script_places.specs.Names.{begins_name, is_name_byte, is_key_byte, is_name, is_key, name_at, unprefixed, database_at, key_at};
 
 use crate::words::{copied, next_of};
 use row_values::{Bytes, Key, Name};
@@ -79,6 +79,31 @@ pub fn name_at(alloc: Global, words: &[Bytes]) -> Result<(Name, &[Bytes]), LineE
         return Err(LineError::Refused(Cause::BadName));
     }
     let bytes = copied(alloc, word.as_slice())?;
+    Ok((Name::from_bytes(bytes), rest))
+}
+
+// The word behind `ysql.`, or the whole word where that doesn't stand before it.
+#[tactic(auto, unfolding(crate::specs::Names::unprefixed))]
+fn unprefixed(word: &[u8]) -> &[u8]
+    ensures exact { result.now ≡ unprefixed word.now }
+{
+    if 5 <= word.len() && &word[..5] == b"ysql.".as_slice() {
+        return &word[5..];
+    }
+    word
+}
+
+/// The next word as the name of a database, and the words behind it.
+#[tactic(auto, unfolding(crate::specs::Names::database_at))]
+pub fn database_at(alloc: Global, words: &[Bytes]) -> Result<(Name, &[Bytes]), LineError>
+    ensures exact { Gives (λ x. (x.0, x.1.now)) result (database_at words.now) }
+{
+    let (word, rest) = next_of(words)?;
+    let name = unprefixed(word.as_slice());
+    if !is_name(name) {
+        return Err(LineError::Refused(Cause::BadName));
+    }
+    let bytes = copied(alloc, name)?;
     Ok((Name::from_bytes(bytes), rest))
 }
 

@@ -15,6 +15,8 @@ pub enum Place {
     Tablets,
     /// A lower-case letter or `_`, and then such letters, digits and `_`, 1 to 32 bytes.
     Name,
+    /// A name, before which `ysql.` may stand.
+    Database,
     /// Letters, digits, `_`, `-` and `.`, 1 to 64 bytes.
     Key,
     /// A decimal number within bounds, both included.
@@ -27,6 +29,8 @@ pub enum Place {
     Column,
     /// A time, one word or two, which are the last.
     Time,
+    /// A time or nothing, at most two words, which are the last.
+    MaybeTime,
     /// 1 to 16 cells, `name=value`, which are the last.
     Cells,
     /// 1 to 16 columns, whose names differ, which are the last.
@@ -41,7 +45,7 @@ fn takes_rest(place: Place) -> bool
 {
     matches!(
         place,
-        Place::Time | Place::Cells | Place::Columns | Place::Items
+        Place::Time | Place::MaybeTime | Place::Cells | Place::Columns | Place::Items
     )
 }
 
@@ -51,6 +55,7 @@ fn rest_fits(place: Place, words: &[Bytes]) -> bool
     let count = words.len();
     match place {
         Place::Time => 1 <= count && count <= 2,
+        Place::MaybeTime => count <= 2,
         Place::Items => items_fit(words),
         _ => 1 <= count && count <= 16,
     }

@@ -7,7 +7,7 @@ ghost use Rattle.model.specs.Scripts.{Exact};
 ghost use Rattle.commands.specs.Times.{script_time_of};
 ghost use Rattle.script_places.specs.Words.{wanted};
 ghost use Rattle.script_places.specs.Numbers.{number_of};
-ghost use Rattle.script_places.specs.Times.{time_back, time_of};
+ghost use Rattle.script_places.specs.Times.{time_back, time_of, maybe_time};
 
 use crate::numbers::number;
 use commands::Time;
@@ -78,5 +78,18 @@ pub fn time(words: &[Bytes]) -> Result<Time, LineError>
     match time_of(words) {
         Some(time) => Ok(time),
         None => Err(LineError::Refused(Cause::BadTime)),
+    }
+}
+
+/// The words as a time, None where there are none.
+pub fn maybe_time(words: &[Bytes]) -> Result<Option<Time>, LineError>
+    ensures exact { Gives (option_map script_time_of) result (wanted BadTime (maybe_time words.now)) }
+{
+    match words {
+        [] => Ok(None),
+        [_, ..] => {
+            let at = time(words)?;
+            Ok(Some(at))
+        }
     }
 }

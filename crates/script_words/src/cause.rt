@@ -18,8 +18,6 @@ pub enum Cause {
     OpenQuote,
     /// The first word is no command's.
     UnknownCommand,
-    /// A line that stands outside its place in a section.
-    Section,
     /// A wrong count of words, of items or of cells, or another word in a fixed word's place.
     WrongWords,
     BadName,

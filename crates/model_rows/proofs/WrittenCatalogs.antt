@@ -76,6 +76,20 @@ batch_over_two_tablets_no_schedule : written_by (Tick 1000000
 unfolding the_book
 batch_over_two_tablets_no_schedule = refl
 
+batch_over_two_tablets : written_by (Tick 1000000
+    ∷ CreateNamespace a
+    ∷ CreateTable a t 2 (new_int v ∷ [])
+    ∷ CreateSchedule 1 10 a
+    ∷ WriteRows a t (record { key = x; op = NamedUpsert (v_is 1) } ∷ record { key = zzz; op = NamedUpsert (v_is 2) } ∷ [])
+    ∷ ReadTable a t None
+    ∷ [])
+    ≡ lines (prelude_written
+    ++ codes "5: refused cross_tablet 120 55610"
+    ∷ codes "6: 0 rows"
+    ∷ [])
+unfolding the_book
+batch_over_two_tablets = refl
+
 -- a read of a time before a split
 read_before_a_split : written_by (prelude
     ++ put x (v_is 1)

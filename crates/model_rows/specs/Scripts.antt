@@ -164,11 +164,6 @@ get_at namespace table seen key time =
 abbrev pub get : List ℕ → List ℕ → Seen → List ℕ → List Line
 get namespace table seen key = get_at namespace table seen key None
 
--- a scan goes over all places
-abbrev pub scan : List ℕ → List ℕ → Seen → List Line
-scan namespace table seen =
-    Do (Look (AskTable namespace table None)) ∷ Do (Read (map at_place seen.places) seen.version None None (column_ids seen.columns)) ∷ []
-
 abbrev pub gave : ℕ → Reply → List Shown
 gave stamp reply = Gave stamp reply ∷ []
 
@@ -251,9 +246,6 @@ prelude =
     ++ create_namespace a
     ++ planned_change (CreateTable a t 1 (new_int v ∷ [])) (1 ∷ [])
     ++ create_schedule 1 10 a
-
-abbrev pub prelude_shown : List Shown
-prelude_shown = ok (early 0) (N 1 ∷ []) ++ planned (early 1) (1 ∷ []) ++ ok (early 2) (T 1 ∷ []) ++ ok (early 3) (S 1 ∷ [])
 
 -- the run after the prelude
 abbrev pub ready : Run

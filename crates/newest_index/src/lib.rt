@@ -6,7 +6,7 @@
 //! the lemmas in `proofs/` say what each table needs of it, over any type of records.
 #![tactic(auto)]
 
-ghost use Rattle.std.specs.Prelude.{ℕ, ◌≡◌, ◌≤◌, ◌-◌, List, [], ◌∷◌, ◌++◌, Some, slice_get, take, OnOk, vec_len, vec_capacity};
+ghost use Rattle.std.specs.Prelude.{ℕ, ◌≡◌, ◌≤◌, ◌-◌, ◌+◌, List, [], ◌∷◌, ◌++◌, Some, slice_get, take, OnOk, vec_len, vec_capacity};
 ghost use Rattle.indexmap.specs.IndexMap.{spare};
 ghost use Rattle.newest_index.specs.Newest.{Indexes, last_place};
 
@@ -62,11 +62,26 @@ impl<K: Eq + Hash + Drop> NewestIndex<K> {
         Ok(())
     }
 
+    /// Makes room for so many more keys.
+    pub fn prepare_for(&mut self, count: usize) -> Result<(), NoMemory>
+        ensures places { OnOk result (count ≤ spare self.new.places) }
+        ensures earlier { OnOk result (count ≤ vec_capacity self.new.earlier - vec_len self.new.earlier) }
+        ensures kept { (keys : List K) → Indexes K.eq self.old.places self.old.earlier.items keys → Indexes K.eq self.new.places self.new.earlier.items keys }
+        ensures places_kept { spare self.old.places ≤ spare self.new.places }
+        ensures earlier_kept { vec_capacity self.old.earlier - vec_len self.old.earlier ≤ vec_capacity self.new.earlier - vec_len self.new.earlier }
+    {
+        self.places.reserve(count)?;
+        self.earlier.reserve(count)?;
+        Ok(())
+    }
+
     /// Takes in the key that stands next, in the room that was made.
     pub fn note(&mut self, key: K)
         requires places { 1 ≤ spare self.old.places }
         requires earlier { 1 ≤ vec_capacity self.old.earlier - vec_len self.old.earlier }
-        ensures { (keys : List K) → Indexes K.eq self.old.places self.old.earlier.items keys → Indexes K.eq self.new.places self.new.earlier.items (keys ++ key ∷ []) }
+        ensures noted { (keys : List K) → Indexes K.eq self.old.places self.old.earlier.items keys → Indexes K.eq self.new.places self.new.earlier.items (keys ++ key ∷ []) }
+        ensures places_left { spare self.old.places ≤ spare self.new.places + 1 }
+        ensures earlier_left { vec_capacity self.old.earlier - vec_len self.old.earlier ≤ vec_capacity self.new.earlier - vec_len self.new.earlier + 1 }
     {
         let at = self.earlier.len();
         let before = self.places.insert(key, at).unwrap();

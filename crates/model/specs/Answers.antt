@@ -1,7 +1,8 @@
 -- How looks at a table and reads are answered: each reply with its cause, by the views at the stamp and at the asked
 -- time. What a journal doesn't have is the master's: how far the catalog of a namespace is kept, and which tablets are
 -- active.
-use Rattle.std.specs.Prelude.{◌≡◌, ℕ, ◌<◌, true, false, List, [], ◌∷◌, Option, Some, None, nat_le, if◌then◌else◌}
+use Rattle.std.specs.Prelude.{◌≡◌, ℕ, ◌<◌, true, false, List, [], ◌∷◌, Option, Some, None, nat_le, if◌then◌else◌, ◌⊎◌, ◌≢◌}
+use Rattle.row_values.specs.Codes.{code_of}
 use Rattle.row_values.specs.declared.rows.KeyedRow.{KeyedRow}
 use Rattle.row_values.specs.Ids.{Id}
 use Rattle.row_values.specs.Elements.{In, AllOf}
@@ -10,7 +11,7 @@ use Rattle.row_values.specs.Schema.{Column}
 use Rattle.model.specs.Times.{time_of, is_future, is_below}
 use Rattle.model.specs.Catalog.{KeptFrom, kept_from}
 use Rattle.model.specs.Activity.{Interval, active_at}
-use Rattle.model.specs.Tablets.{Tablet, Standing, serves}
+use Rattle.model.specs.Tablets.{Tablet, Standing, serves, standing}
 use Rattle.model.specs.Acts.{NamedItem, Place, At, Refusal, UnknownNamespace, UnknownTable, Future, TooOld, CrossTablet, Fenced, Moved, StaleSchema, Reply, Placed, Rows, Refused}
 use Rattle.model.specs.Journal.{Change, table_at}
 use Rattle.model.specs.Drawn.{version_after}
@@ -110,15 +111,75 @@ pub data KeysAnswer (q : TableLook) (batch : List NamedItem) : Reply → Type 0 
       (home : HomeOf q.activity q.now table.found.id (first_code batch)) (inside : code_outside home.interval batch ≡ None)
       (placed : places ≡ place_of home.interval ∷ []) → KeysAnswer q batch (Placed places version columns)
 
--- how a read is answered: with the rows of the tablets that it names, each of which serves in its slot
-pub data ReadAnswer (changes : List Change) (places : List At) (key : Option (List ℕ)) (at : Option ℕ)
-    (columns : List ℕ) (now : ℕ) (tablets : ℕ → Tablet) : Reply → Type 0 where
-  GivesRows : (rows : List KeyedRow) (served : AllOf (λ place. serves (tablets place.slot) place.tablet ≡ true) places)
-      (over : is_future at now ≡ false) (right : RowsRight changes (time_of at now) key columns tablets places rows)
-      → ReadAnswer changes places key at columns now tablets (Rows rows)
-  ReadMoved : (slot : ℕ) (standing : Standing)
-      → ReadAnswer changes places key at columns now tablets (Refused (Moved slot standing))
-  ReadFenced : (operation : Id) → ReadAnswer changes places key at columns now tablets (Refused (Fenced operation))
-  ReadStale : (kept : ℕ) → ReadAnswer changes places key at columns now tablets (Refused (StaleSchema kept))
-  ReadNotYet : (end : ℕ) → ReadAnswer changes places key at columns now tablets (Refused (Future end))
-  ReadTooOld : (asked cutoff : ℕ) → ReadAnswer changes places key at columns now tablets (Refused (TooOld asked cutoff))
+-- Reads
+
+-- a read at a stamp of all rows or of a key's, now or at an asked time, and the parts that it goes to
+pub record RowsRead : Type 0 where
+  pub places : List At
+  pub version : ℕ
+  pub key : Option (List ℕ)
+  pub at : Option ℕ
+  pub columns : List ℕ
+  pub now : ℕ
+  pub tablets : ℕ → Tablet
+
+-- a part's range has the key; or a scan goes on there at the code that the places before it reach, up to the last code
+-- where no place comes later
+abbrev pub HasAsked : Option (List ℕ) → Tablet → ℕ → List At → Type 0
+HasAsked (Some key) t from later = in_range t.low t.high (code_of key) ≡ true
+HasAsked None t from later = (t.low ≡ from) × (later ≡ [] → t.high ≡ 65536)
+
+-- the part in a place's slot serves the tablet of the place, and has what is asked
+abbrev pub IsServed : RowsRead → ℕ → At → List At → Type 0
+IsServed q from place later =
+    let t = q.tablets place.slot in (serves t place.tablet ≡ true) × HasAsked q.key t from later
+
+abbrev pub AllServed : RowsRead → ℕ → List At → Type 0
+AllServed q from [] = Unit {0}
+AllServed q from (p ∷ later) = IsServed q from p later × AllServed q (q.tablets p.slot).high later
+
+-- the first place that isn't served
+abbrev pub FirstMoved : RowsRead → ℕ → List At → At → Type 0
+FirstMoved q from [] place = ⊥
+FirstMoved q from (p ∷ later) place =
+    ((p ≡ place) × (IsServed q from p later → ⊥))
+    ⊎ (IsServed q from p later × FirstMoved q (q.tablets p.slot).high later place)
+
+-- the first place of which something holds
+abbrev pub FirstWith : (At → Type 0) → List At → At → Type 0
+FirstWith Holds [] place = ⊥
+FirstWith Holds (p ∷ later) place = ((p ≡ place) × Holds p) ⊎ ((Holds p → ⊥) × FirstWith Holds later place)
+
+-- all places are served, and none is fenced
+pub record MayRead (q : RowsRead) : Type 0 where
+  pub served : AllServed q 0 q.places
+  pub unfenced : AllOf (λ p. (q.tablets p.slot).fence ≡ None) q.places
+
+-- besides, the schema's version is theirs, which counts where no time is asked, and an asked time is over
+pub record MayReadThen (q : RowsRead) : Type 0 where
+  pub may : MayRead q
+  pub fresh : q.at ≡ None → AllOf (λ p. (q.tablets p.slot).version ≡ q.version) q.places
+  pub over : is_future q.at q.now ≡ false
+
+-- how a read is answered: each refusal for the first place that has its cause, where no earlier one comes, and else the
+-- rows of the view
+pub data ReadAnswer (q : RowsRead) (changes : List Change) : Reply → Type 0 where
+  ReadMoved : (slot : ℕ) (stands : Standing) (place : At) (first : FirstMoved q 0 q.places place)
+      (slot_is : slot ≡ place.slot) (stands_is : stands ≡ standing (q.tablets place.slot))
+      → ReadAnswer q changes (Refused (Moved slot stands))
+  ReadFenced : (operation : Id) (place : At) (served : AllServed q 0 q.places)
+      (first : FirstWith (λ p. (q.tablets p.slot).fence ≢ None) q.places place)
+      (fenced : (q.tablets place.slot).fence ≡ Some operation) → ReadAnswer q changes (Refused (Fenced operation))
+  ReadStale : (kept : ℕ) (place : At) (may : MayRead q) (at_now : q.at ≡ None)
+      (first : FirstWith (λ p. (q.tablets p.slot).version ≢ q.version) q.places place)
+      (kept_is : kept ≡ (q.tablets place.slot).version) → ReadAnswer q changes (Refused (StaleSchema kept))
+  ReadNotYet : (end : ℕ) (may : MayRead q) (later : is_future q.at q.now ≡ true) (end_is : end ≡ q.now)
+      → ReadAnswer q changes (Refused (Future end))
+  ReadTooOld : (asked cutoff : ℕ) (place : At) (may : MayReadThen q)
+      (first : FirstWith (λ p. is_below q.at (q.tablets p.slot).cutoff ≡ true) q.places place)
+      (asked_is : asked ≡ time_of q.at q.now) (cutoff_is : cutoff ≡ (q.tablets place.slot).cutoff)
+      → ReadAnswer q changes (Refused (TooOld asked cutoff))
+  GivesRows : (rows : List KeyedRow) (may : MayReadThen q)
+      (reached : AllOf (λ p. is_below q.at (q.tablets p.slot).cutoff ≡ false) q.places)
+      (right : RowsRight changes (time_of q.at q.now) q.key q.columns q.tablets q.places rows)
+      → ReadAnswer q changes (Rows rows)

@@ -166,8 +166,15 @@ AnswerRight (Write place version batch) reply n ps changes =
     (λ why. IsMoved place.slot why ⊎ ((operation : Id) × (why ≡ Fenced operation))
     ⊎ ((kept : ℕ) × ((why ≡ StaleSchema kept) × (kept ≢ version))))
     reply
-AnswerRight (Read places version key at columns) reply n ps changes =
-    ReadAnswer changes places key at columns n ps.tablet reply
+AnswerRight (Read places version key at columns) reply n ps changes = ReadAnswer (record {
+  places = places;
+  version = version;
+  key = key;
+  at = at;
+  columns = columns;
+  now = n;
+  tablets = ps.tablet;
+}) changes reply
 AnswerRight (Cutoff slot) reply n ps changes =
     ((cutoff : ℕ) × (reply ≡ CutoffAt cutoff)) ⊎ RefusedAs (IsMoved slot) reply
 AnswerRight (Compact slot) reply n ps changes =

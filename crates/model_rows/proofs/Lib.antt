@@ -31,6 +31,7 @@ mod Taken
 mod WrongJournals
 mod WrongWindows
 mod WrongLooks
+mod WrongReads
 pub mod StrictEntries
 pub mod StrictReads
 mod StrictRestores

@@ -78,19 +78,23 @@ strict_look slots run namespace owner table key cells home version columns right
 pub strict_read : (slots : ℕ) (run : Run) (p : At) (version : ℕ) (key columns : List ℕ) (cells : List Cell)
     → StrictlyRight slots run.entries → (newest (reading p version key columns) run).reply ≡ Rows (row key cells ∷ [])
     → serves ((replay slots run.entries).tablet p.slot) p.tablet ≡ true
+    → in_range ((replay slots run.entries).tablet p.slot).low ((replay slots run.entries).tablet p.slot).high (code_of key) ≡ true
+    → ((replay slots run.entries).tablet p.slot).fence ≡ None → ((replay slots run.entries).tablet p.slot).version ≡ version
     → of_key key (row key cells ∷ [])
     ≡ rows_wanted (journal_of slots run.entries) (newest (reading p version key columns) run).stamp (Some key) columns (replay slots run.entries).tablet (p ∷ []) key
     → FixedStays (journal_of slots run.entries)
     → StrictlyRight slots (done (reading p version key columns) run).entries
 unfolding journal_of
-strict_read slots run p version key columns cells right reply served own stays =
+strict_read slots run p version key columns cells right reply served inside unfenced fresh own stays =
     let n = (newest (reading p version key columns) run).stamp in
     let ps = replay slots run.entries in
     let changes = journal_of slots run.entries in (
       right,
       (
         subst (λ r. AnswerRight (reading p version key columns) r n ps changes) (sym reply)
-            (GivesRows (row key cells ∷ []) (served, tt) refl
+            (GivesRows (row key cells ∷ [])
+            (record { may = record { served = ((served, inside), tt); unfenced = (unfenced, tt) }; fresh = λ now. (fresh, tt); over = refl })
+            (refl, tt)
             (record { in_order = tt; each = one_row changes n key columns ps.tablet p cells own })),
         stays,
       ),

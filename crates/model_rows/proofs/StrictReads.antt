@@ -36,4 +36,4 @@ unfolding the_book
 been_read_strictly =
     strict_read 64 (done (asking a x []) written) place_one 1 x (1 ∷ []) (kept_v 1)
     (strict_look 64 written a (N 1) (T 1) x [] (since 2) 1 v_alone written_strictly refl refl refl refl refl (inl refl) refl refl refl refl written_stays)
-    refl refl refl written_stays
+    refl refl refl refl refl refl written_stays

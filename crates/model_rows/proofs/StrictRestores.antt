@@ -118,7 +118,7 @@ unfolding the_book
 seen_strictly =
     strict_read 64 (done (asking a x []) restored) place_one 2 x (1 ∷ []) (kept_v 1)
     (strict_look 64 restored a (N 1) (T 1) x [] (since 11) 2 v_alone restored_strictly refl refl refl refl refl (inr (inl refl)) refl refl refl refl one_stays)
-    refl refl refl one_stays
+    refl refl refl refl refl refl one_stays
 
 undoing_strictly : StrictlyRight 64 undoing.entries
 unfolding the_book
@@ -147,4 +147,4 @@ unfolding the_book
 been_read_strictly =
     strict_read 64 (done (asking a x []) undone) place_one 3 x (1 ∷ []) (kept_v 2)
     (strict_look 64 undone a (N 1) (T 1) x [] (since 32) 3 v_alone undone_strictly refl refl refl (refl {a = 3}) refl (inr (inr (inl (refl {a = since 32})))) refl refl refl refl all_stay)
-    refl refl refl all_stay
+    refl refl refl refl refl refl all_stay

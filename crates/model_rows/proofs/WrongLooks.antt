@@ -246,4 +246,4 @@ weakly_read = (written_right, (record { in_order = tt; each = one_row changes (e
 
 tablet_elsewhere : StrictlyRight 64 reading_another → ⊥
 unfolding the_book
-tablet_elsewhere right = elim (right.1.0) [ GivesRows rows served over right ↦ true≢false (sym served.0) ]
+tablet_elsewhere right = elim (right.1.0) [ GivesRows rows may reached right ↦ true≢false (sym may.may.served.0.0) ]

@@ -1,0 +1,13 @@
+ghost use Rattle.std.specs.Prelude.{ℕ, ◌≡◌, ◌==◌};
+ghost use Rattle.std.specs.Cmp.{IsEquivalence};
+ghost use Rattle.row_values.specs.Ids.{Id, same};
+
+use yb_ident::Ident;
+
+// The comparison of identifiers is the book's, and that of slots that of numbers.
+pub fn keys_agree()
+    ensures same { (a b : Id) → ⟦<Ident as PartialEq>⟧.eq a b ≡ same a b }
+    ensures laws { IsEquivalence ⟦<Ident as PartialEq>⟧.eq }
+    ensures slots { (a b : ℕ) → ⟦<u32 as PartialEq>⟧.eq a b ≡ (a == b) }
+    ensures slot_laws { IsEquivalence ⟦<u32 as PartialEq>⟧.eq }
+{}

@@ -1,0 +1,16 @@
+use Rattle.std.proofs.Common.{◌≡◌, ◌≤◌, ◌-◌, List, map, take, vec_len, vec_capacity}
+use Rattle.newest_index.specs.Newest.{Indexes, last_place}
+use Rattle.kept_records.specs.Gathered.{kept_key, taken_out}
+use Rattle.kept_records.proofs.Gathering.{from_place}
+use Rattle.kept_records.proofs.records.take_out.Given as goal
+
+abbrev pub invariant-records : goal.invariant-records
+invariant-records g l = (l.upto ≤ vec_len l.records)
+    × ((key_of : g.row.R.Denot → g.row.K.Denot)
+    → Indexes g.K.PartialEq.eq l.index.places l.index.earlier.items (map (kept_key key_of) l.fn.records.items)
+    → (l.next ≡ last_place (g.K.PartialEq.eq l.key) (take l.upto (map (kept_key key_of) l.fn.records.items)))
+    × (l.records.items ≡ from_place (kept_key key_of) (g.K.PartialEq.eq l.key) taken_out l.upto l.fn.records.items))
+    × (vec_capacity l.records - vec_len l.records ≡ vec_capacity l.fn.records - vec_len l.fn.records)
+
+abbrev pub decreases-records : goal.decreases-records
+decreases-records g l = l.upto

@@ -1,4 +1,4 @@
-ghost use Rattle.std.specs.Prelude.{ℕ, ◌≡◌, ◌≢◌, [], true, false, None, OnOk, List, slice_get, drop};
+ghost use Rattle.std.specs.Prelude.{ℕ, ◌≡◌, ◌≢◌, [], true, false, None, OnOk, List, length, slice_get, drop};
 ghost use Rattle.std.specs.Option.{option_copied};
 ghost use Rattle.row_values.specs.Ids.{Id, same};
 ghost use Rattle.std.specs.Cmp.{IsEquivalence};
@@ -54,6 +54,13 @@ impl Inbox {
             known: IndexSet::new(alloc),
             ready: false,
         }
+    }
+
+    /// The number of commands that wait.
+    pub fn len(&self) -> u64
+        ensures count { result ≡ length self.now.inbox }
+    {
+        self.commands.len() as u64
     }
 
     /// Whether a command like this was done.

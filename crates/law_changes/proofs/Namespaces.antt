@@ -31,7 +31,7 @@ use Rattle.law_invariants.proofs.Remembering.{no_lows}
 use Rattle.law_invariants.proofs.Finding.{passes_both, same_equal, in_added, in_mapped}
 use Rattle.law_invariants.proofs.Records.{kept_by, kept_beside}
 use Rattle.law_invariants.proofs.Operating.{WasNamed, NewName}
-use Rattle.row_values.specs.Ids.{Id, same, Kind, Namespace, Table, Tablet, Schedule, Snapshot, Restoration, Clone}
+use Rattle.row_values.specs.Ids.{Id, same, Kind, Namespace}
 use Rattle.row_values.specs.Elements.{In}
 use Rattle.model.specs.Drawn.{drawn_of}
 use Rattle.model.specs.Activity.{Interval}

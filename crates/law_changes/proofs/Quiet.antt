@@ -134,13 +134,13 @@ mild_keeps (SetVersion version) m n changes slot t mild le h =
     let g = tablet_ticked m n changes slot t le h in
     let each : (i : Interval) → In i m.activity → i.slot ≡ slot → IsGoodIn m.clock m.slots (directory m) changes (effect (SetVersion version) n t) i = λ i isin is. (let q = g.each i isin is in assumption q) in
     let opens : is_serving t.presence ≡ true → t.fence ≡ None → TakesWritesIn m.activity m.restorations slot (effect (SetVersion version) n t) = λ serving unfenced. (let o = g.opens serving unfenced in record {
-    interval = o.interval;
-    listed = o.listed;
-    slot_is = o.slot_is;
-    opened = o.opened;
-    begun = o.begun;
-    settled = o.settled;
-  }) in
+      interval = o.interval;
+      listed = o.listed;
+      slot_is = o.slot_is;
+      opened = o.opened;
+      begun = o.begun;
+      settled = o.settled;
+    }) in
     assumption (each, opens)
 mild_keeps _ m n changes slot t mild le h = absurd mild
 

@@ -1,19 +1,17 @@
 -- The master discards a complete snapshot that retention doesn't need, and that no unfinished record names: its other records go on to be
 -- good.
-use Rattle.model.specs.Catalog.{kept_from}
-use Rattle.std.proofs.Common.{ℕ, ◌≡◌, ◌≤◌, ◌<◌, List, [], ◌∷◌, Option, Some, None, Bool, true, false, cond, ◌&&◌, ◌⊎◌, inl, inr, refl, sym, ap, subst, ◌∙◌, not, arith, le_trans, lt_of_lt_of_le}
+use Rattle.std.proofs.Common.{ℕ, ◌≡◌, ◌≤◌, ◌<◌, List, [], ◌∷◌, Option, Some, None, Bool, true, false, cond, ◌&&◌, ◌⊎◌, inl, inr, refl, sym, ap, subst, ◌∙◌, not, arith}
 use Rattle.std.specs.Option.{is_some, option_or}
 use Rattle.std.specs.List.{filter}
 use Rattle.std.proofs.lemmas.Bool.{cond_both, true≢false}
 use Rattle.row_values.specs.Ids.{Id, same}
 use Rattle.row_values.specs.Elements.{In}
 use Rattle.model.specs.Journal.{Change}
-use Rattle.model.specs.Records.{Schedule, SnapshotRecord, RestorationRecord, RestorationState, Fencing, Snapshotting, Switching, Restoring, Releasing, Restored, CloneRecord, CloneState, Accepted, CloneSnapshot, Copying, CloneReleasing, CloneComplete, is_restored, is_cloned, named_by_restoration, named_by_clone, snapshot_with, ScheduledNamespace, TabletPair, is_visible, Sent}
-use Rattle.model.specs.Schedules.{after_of}
+use Rattle.model.specs.Records.{SnapshotRecord, RestorationRecord, CloneRecord, is_restored, is_cloned, named_by_restoration, named_by_clone, snapshot_with}
 use Rattle.model.specs.Cleanup.{is_this, naming_restoration, naming_clone, lister_of_snapshot, floor_of}
 use Rattle.model.specs.Parts.{Master}
 use Rattle.law_store.proofs.Keys.{either_way}
-use Rattle.law_invariants.specs.Operations.{SnapshotsRise, ScheduleGood, SnapshotGood, IsServing, IsPoint, IsCalm, RestorationStateGood, CloneStateGood, CloneGood, OperationsGood, ScheduledGood, IsReached, IsReserved, OperationsApart, RestorationGood, IsSent}
+use Rattle.law_invariants.specs.Operations.{SnapshotsRise, OperationsGood}
 use Rattle.law_invariants.proofs.Finding.{in_filter, filter_in, passes_both, same_equal, same_self, not_same}
 use Rattle.law_invariants.proofs.Ticking.{not_true}
 use Rattle.law_cleanup.proofs.Leaving.{operations_left}

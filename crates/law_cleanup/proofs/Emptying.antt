@@ -2,16 +2,15 @@
 use Rattle.std.specs.Prelude.{true, Some}
 use Rattle.std.proofs.Common.{ℕ, ◌≡◌, ◌≢◌, ◌≤◌, ◌<◌, List, None, false, ◌⊎◌, inl, inr, refl, sym, ◌∙◌, arith, le_of_lt}
 use Rattle.std.proofs.lemmas.Bool.{true≢false}
-use Rattle.row_values.specs.Ids.{Kind, Namespace, Table, Tablet as TabletKind, Schedule, Snapshot, Restoration, Clone, Id}
+use Rattle.row_values.specs.Ids.{Id}
 use Rattle.row_values.specs.Elements.{In}
 use Rattle.model.specs.Activity.{Interval, forget}
 use Rattle.model.specs.Journal.{Change}
-use Rattle.model.specs.Tablets.{Tablet, Mark, BodyKind, emptied, is_empty, is_serving}
-use Rattle.model.specs.Records.{Listed, RestorationRecord, RestorationState, Fencing, Snapshotting, Switching, Restoring, Releasing, Restored, TabletPair, CloneRecord, CloneState, Accepted, CloneSnapshot, Copying, CloneReleasing, CloneComplete, is_restored, is_cloned, is_visible}
-use Rattle.model.specs.Coordination.{pending_of}
+use Rattle.model.specs.Tablets.{Tablet, Mark, emptied, is_empty, is_serving}
+use Rattle.model.specs.Records.{Listed, RestorationRecord, RestorationState, Fencing, Snapshotting, Switching, Restoring, Releasing, Restored, TabletPair, CloneRecord, CloneState, Copying, CloneReleasing, CloneComplete, is_restored, is_cloned, is_visible}
 use Rattle.model.specs.Parts.{Master}
 use Rattle.law_invariants.specs.Operations.{IsOpenOf, IsKnown, CloneStateGood, OperationsGood, IsReserved}
-use Rattle.law_invariants.specs.Orders.{FencePlace, IsFence, IsAfter, RestorationSlot, CloneSlot, IsHome, IsTarget, directory, IsFenceIn, IsHomeIn, IsTargetIn, RestorationSlotIn}
+use Rattle.law_invariants.specs.Orders.{FencePlace, IsFence, RestorationSlot, CloneSlot, IsHome, IsTarget, directory, IsFenceIn, IsHomeIn, IsTargetIn, RestorationSlotIn}
 use Rattle.law_invariants.specs.Invariant.{IsGood, SlotGood, SlotWorks, IsPast, IsGoodIn, TakesWritesIn}
 use Rattle.law_invariants.proofs.Ticking.{past_later}
 use Rattle.law_cleanup.proofs.Forgetting.{Unlisted, forgetting, kept_in, was_in, open_was}
@@ -109,13 +108,13 @@ slot_beside m n tablet changes slot other t g apart h =
     let home : is_empty t.presence ≡ false → (i : Interval) → In i ((forget tablet m.activity)) → i.tablet ≡ t.tablet → i.slot ≡ other = λ present i isin. h.home present i (was_in tablet m.activity i isin).0 in
     let each : (i : Interval) → In i ((forget tablet m.activity)) → i.slot ≡ other → IsGoodIn n m.slots (directory (forgetting m n tablet)) changes t i = λ i isin at. good_still m n tablet changes t i (le_of_lt g.before) (h.each i (was_in tablet m.activity i isin).0 at) in
     let opens : is_serving t.presence ≡ true → t.fence ≡ None → TakesWritesIn ((forget tablet m.activity)) m.restorations other t = λ serving unfenced. (let o = h.opens serving unfenced in record {
-    interval = o.interval;
-    listed = beside m n tablet slot other o.interval g apart o.listed o.slot_is;
-    slot_is = o.slot_is;
-    opened = o.opened;
-    begun = o.begun;
-    settled = o.settled;
-  }) in
+      interval = o.interval;
+      listed = beside m n tablet slot other o.interval g apart o.listed o.slot_is;
+      slot_is = o.slot_is;
+      opened = o.opened;
+      begun = o.begun;
+      settled = o.settled;
+    }) in
     assumption (home, each, opens)
 
 open_beside : (m : Master) (n : ℕ) (tablet ns : Id) (slot other : ℕ) (i : Interval) → IsGone m n tablet slot → other ≢ slot → IsOpenOf m ns i → i.slot ≡ other → IsOpenOf (forgetting m n tablet) ns i

@@ -1,21 +1,17 @@
 -- The master forgets a tablet that no unfinished record lists: its records go on to be good.
-use Rattle.model.specs.Times.{ended_by}
-use Rattle.model.specs.Stands.{is_restore}
-use Rattle.model.specs.Catalog.{owner_of}
-use Rattle.model.specs.Schedules.{after_of}
-use Rattle.std.proofs.Common.{ℕ, ◌≡◌, ◌≤◌, List, [], ◌∷◌, Option, Some, None, Bool, true, false, cond, ◌&&◌, ◌||◌, inl, inr, refl, sym, ap, ◌∙◌, not, arith, le_trans, lt_of_lt_of_le, ◌<◌, ◌⊎◌}
+use Rattle.std.proofs.Common.{ℕ, ◌≡◌, ◌≤◌, List, [], ◌∷◌, Option, Some, None, Bool, true, false, cond, ◌&&◌, ◌||◌, inl, inr, refl, sym, ap, ◌∙◌, not}
 use Rattle.std.specs.Option.{is_some, option_or}
 use Rattle.std.specs.List.{list_any}
 use Rattle.std.proofs.lemmas.Bool.{true≢false}
 use Rattle.row_values.specs.Ids.{Id, same}
 use Rattle.row_values.specs.Elements.{In}
-use Rattle.model.specs.Activity.{Interval, forget, active_within}
+use Rattle.model.specs.Activity.{Interval, forget}
 use Rattle.model.specs.Journal.{Change}
-use Rattle.model.specs.Records.{Listed, Schedule, SnapshotRecord, RestorationRecord, RestorationState, Fencing, Snapshotting, Switching, Restoring, Releasing, Restored, TabletPair, CloneRecord, CloneState, Accepted, CloneSnapshot, Copying, CloneReleasing, CloneComplete, is_restored, is_cloned, lists_tablet, ScheduledNamespace, is_visible}
-use Rattle.model.specs.Cleanup.{listing_snapshot, listing_restoration, listing_clone, takes_from, lister_of_tablet, floor_of}
+use Rattle.model.specs.Records.{Listed, SnapshotRecord, RestorationRecord, TabletPair, CloneRecord, is_restored, is_cloned, lists_tablet}
+use Rattle.model.specs.Cleanup.{listing_snapshot, listing_restoration, listing_clone, takes_from, lister_of_tablet}
 use Rattle.model.specs.Parts.{Master}
 use Rattle.law_store.proofs.Keys.{either_way}
-use Rattle.law_invariants.specs.Operations.{IsKnown, IsOpenOf, ScheduleGood, SnapshotGood, BeforePoint, IsBack, IsActive, RestorationStateGood, RestorationGood, CloneStateGood, CloneGood, OperationsGood, ScheduledGood, IsReached, IsListed, IsComing, IsSource, IsReserved}
+use Rattle.law_invariants.specs.Operations.{IsOpenOf, OperationsGood}
 use Rattle.law_invariants.proofs.Finding.{in_filter, filter_in, passes_both, either_passes, same_self, not_same}
 use Rattle.law_invariants.proofs.Ticking.{not_true}
 use Rattle.law_cleanup.proofs.Leaving.{operations_left}

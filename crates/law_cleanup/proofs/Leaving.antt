@@ -1,14 +1,14 @@
 -- What a removal leaves: the master keeps fewer intervals and fewer snapshots, and all that its other records need.
-use Rattle.std.proofs.Common.{ℕ, ◌≡◌, ◌≤◌, ◌<◌, List, [], Some, true, false, ◌⊎◌, inl, inr, refl, sym, ap, subst, arith, le_trans, lt_of_lt_of_le}
+use Rattle.std.proofs.Common.{ℕ, ◌≡◌, ◌≤◌, ◌<◌, List, Some, false, ◌⊎◌, inl, inr, refl, sym, ap, subst, arith, le_trans, lt_of_lt_of_le}
 use Rattle.row_values.specs.Ids.{Id}
 use Rattle.row_values.specs.Elements.{In}
-use Rattle.model.specs.Activity.{Interval, active_within}
+use Rattle.model.specs.Activity.{Interval}
 use Rattle.model.specs.Catalog.{owner_of}
 use Rattle.model.specs.Journal.{Change}
 use Rattle.model.specs.Records.{Listed, SnapshotRecord, RestorationRecord, RestorationState, Fencing, Snapshotting, Switching, Restoring, Releasing, Restored, TabletPair, CloneRecord, CloneState, Accepted, CloneSnapshot, Copying, CloneReleasing, CloneComplete, ScheduledNamespace, is_restored, is_cloned, is_visible, named_by_restoration, named_by_clone}
 use Rattle.model.specs.Cleanup.{floor_of}
 use Rattle.model.specs.Parts.{Master}
-use Rattle.law_invariants.specs.Operations.{SnapshotsRise, IsKnown, IsListed, IsOpenOf, IsReached, SnapshotGood, ScheduledGood, IsServing, IsPoint, BeforePoint, IsBack, IsActive, RestorationStateGood, RestorationGood, IsSource, IsReserved, CloneStateGood, CloneGood, OperationsGood}
+use Rattle.law_invariants.specs.Operations.{SnapshotsRise, IsKnown, IsOpenOf, SnapshotGood, ScheduledGood, IsServing, IsPoint, BeforePoint, IsBack, IsActive, RestorationStateGood, RestorationGood, IsSource, IsReserved, CloneStateGood, CloneGood, OperationsGood}
 use Rattle.law_invariants.proofs.Remembering.{floor_rises}
 
 -- the master with the intervals and the snapshots that are kept
@@ -240,7 +240,7 @@ module _ (m : Master) (n : ℕ) (a : List Interval) (s : List SnapshotRecord) (x
       }) in
       let no_tablet : is_visible c.state ≡ false → (i : Interval) → In i a → owner_of m.catalog.owners i.table ≡ Some c.target_id → ⊥ = λ unseen i there. h.no_tablet unseen i (x.was i there) in
       let in_state : CloneStateGood c.state (leaving m n a s) c =
-          clone_state_left c.state c (λ unfinished l i lists there is. x.clone c l i isin unfinished lists there is) (λ unfinished q there named. x.named_by c q isin unfinished there named) h.in_state in
+      clone_state_left c.state c (λ unfinished l i lists there is. x.clone c l i isin unfinished lists there is) (λ unfinished q there named. x.named_by c q isin unfinished there named) h.in_state in
       assumption (past, sources, reserved, no_tablet, in_state)
 
   pub operations_left : (changes : List Change) → OperationsGood m changes → OperationsGood (leaving m n a s) changes

@@ -1,23 +1,23 @@
 -- The slots after a snapshot is discarded: no tablet holds its frozen set, and all else is as it was.
 use Rattle.model.specs.Catalog.{owner_of}
-use Rattle.model.specs.Stands.{is_restore, HoldsFrozen}
-use Rattle.std.proofs.Common.{ℕ, ◌≡◌, ◌≤◌, ◌+◌, List, [], ◌∷◌, Option, Some, None, true, false, cond, ◌&&◌, ◌⊎◌, inl, inr, refl, sym, ap, subst, ◌∙◌, arith, not, map, le_trans, lt_of_lt_of_le, ◌||◌}
+use Rattle.model.specs.Stands.{is_restore}
+use Rattle.std.proofs.Common.{ℕ, ◌≡◌, ◌≤◌, ◌+◌, List, [], ◌∷◌, Option, Some, None, true, false, cond, ◌&&◌, inl, inr, refl, sym, ap, subst, ◌∙◌, arith, not, map, le_trans, lt_of_lt_of_le}
 use Rattle.std.specs.Option.{is_some, option_and_then}
 use Rattle.std.specs.List.{filter}
 use Rattle.std.proofs.lemmas.Bool.{cond_both, true≢false}
-use Rattle.row_values.specs.Ids.{Kind, Namespace, Table, Tablet as TabletKind, Schedule, Snapshot, Restoration, Clone, Id, same}
+use Rattle.row_values.specs.Ids.{Kind, Snapshot, Id, same}
 use Rattle.row_values.specs.Elements.{In}
 use Rattle.row_values.specs.Slots.{has, rising}
 use Rattle.model.specs.Activity.{Interval, last_from}
 use Rattle.model.specs.Journal.{Change}
-use Rattle.model.specs.Tablets.{Tablet, Mark, BodyKind, FrozenSet, set_of, is_empty, RestoreFromKind, is_done, CopyKind, is_serving, Command, FreezeKind}
-use Rattle.model.specs.Records.{SnapshotRecord, RestorationRecord, RestorationState, Fencing, Snapshotting, Switching, Restoring, Releasing, Restored, CloneRecord, CloneState, Accepted, CloneSnapshot, Copying, CloneReleasing, CloneComplete, is_visible, unacked_at, TabletPair, Listed}
+use Rattle.model.specs.Tablets.{Tablet, BodyKind, FrozenSet, set_of, is_empty, RestoreFromKind, is_done, CopyKind, is_serving, FreezeKind}
+use Rattle.model.specs.Records.{SnapshotRecord, RestorationRecord, RestorationState, Fencing, Snapshotting, Switching, Restoring, Releasing, Restored, CloneRecord, CloneState, Accepted, CloneSnapshot, Copying, CloneReleasing, CloneComplete, is_visible, unacked_at, TabletPair}
 use Rattle.model.specs.Coordination.{unfinished_snapshot, pending_of}
 use Rattle.model.specs.Cleanup.{is_present, snapshot_plan}
 use Rattle.model.specs.Parts.{Master}
 use Rattle.law_store.proofs.Keys.{either_way}
 use Rattle.law_invariants.specs.Operations.{OperationsGood}
-use Rattle.law_invariants.specs.Orders.{FencePlace, IsFence, IsAfter, RestorationSlot, CloneSlot, IsHome, IsTarget, IsRestored, IsCopy, IsOrderIn, operations, IsAfterIn, IsMarkIn, IsSetOf, IsBare, RestorationSlotIn, CloneSlotIn}
+use Rattle.law_invariants.specs.Orders.{IsAfter, RestorationSlot, CloneSlot, IsRestored, IsCopy, operations, IsAfterIn}
 use Rattle.law_invariants.specs.Invariant.{SlotGood, SlotWorks}
 use Rattle.law_invariants.proofs.Finding.{in_filter, filter_in, map_in, second_fails, not_passing, same_equal, same_self, not_same}
 use Rattle.law_invariants.proofs.Ticking.{not_true, over_later, below_later}
@@ -157,41 +157,41 @@ pub works_thinned : (m : Master) (n : ℕ) (target : Id) (changes : List Change)
 works_thinned m n target changes r slot t clock fs d le others h =
     let o = h.orders in
     let b = h.obeyed in record {
-  orders = record {
-    fences = o.fences;
-    orders = λ c lists. (let k = o.orders c lists in record {
-      is_pending = pending_thin c.operation.kind m n target c.operation slot (λ q isin e. ap (λ x. x.complete) (d.alone q isin e) ∙ d.complete) ∙ k.is_pending;
-      after = after_thin m n target t.clock clock c.operation _ le k.after;
-    });
-    once = o.once;
-    fresh = o.fresh;
-    marks = λ mark lists. (let k = o.marks mark lists in
-    let after : IsAfterIn (operations (discarding m n target)) clock mark.operation mark.kind = after_thin m n target t.clock clock mark.operation mark.kind le k.after in
-    let by_snapshot : (r : SnapshotRecord) → In r ((without target m.snapshots)) → r.id ≡ mark.operation → mark.kind ≡ FreezeKind = λ q isin. k.by_snapshot q (was_record target m.snapshots q isin).0 in
-    assumption (after, by_snapshot));
-    holds = λ q isin did. (let w = was_record target m.snapshots q isin in
-        let f = o.holds q w.0 did in record { set = f.set; held = others.found q.id w.1 ∙ f.held; time = f.time; inside = f.inside });
-    frozen = λ f held. o.frozen f (others.each f held).0;
-    sets = λ f held. (let w = others.each f held in
-        let k = o.sets f w.0 in record {
-          snapshot = k.snapshot;
-          kept = kept_record target m.snapshots k.snapshot k.kept (λ e. w.1 (sym k.id_is ∙ e));
-          id_is = k.id_is;
-          at_is = k.at_is;
-          line = k.line;
-          listed = k.listed;
-          tablet_is = k.tablet_is;
+      orders = record {
+        fences = o.fences;
+        orders = λ c lists. (let k = o.orders c lists in record {
+          is_pending = pending_thin c.operation.kind m n target c.operation slot (λ q isin e. ap (λ x. x.complete) (d.alone q isin e) ∙ d.complete) ∙ k.is_pending;
+          after = after_thin m n target t.clock clock c.operation _ le k.after;
         });
-    bare = λ vacant. (let k = o.bare vacant in record { frozen = others.none k.frozen; fence = k.fence; done = k.done });
-  };
-  obeyed = record {
-    drawn_table = b.drawn_table;
-    home = b.home;
-    snapshots = λ q l isin. b.snapshots q l (was_record target m.snapshots q isin).0;
-    restorations = λ q known. restorations_thin q.state m n target changes q slot t clock fs le (b.restorations q known);
-    clones = λ c known. clones_thin c.state m n target changes c slot t clock fs le (b.clones c known);
-  };
-}
+        once = o.once;
+        fresh = o.fresh;
+        marks = λ mark lists. (let k = o.marks mark lists in
+            let after : IsAfterIn (operations (discarding m n target)) clock mark.operation mark.kind = after_thin m n target t.clock clock mark.operation mark.kind le k.after in
+            let by_snapshot : (r : SnapshotRecord) → In r ((without target m.snapshots)) → r.id ≡ mark.operation → mark.kind ≡ FreezeKind = λ q isin. k.by_snapshot q (was_record target m.snapshots q isin).0 in
+            assumption (after, by_snapshot));
+        holds = λ q isin did. (let w = was_record target m.snapshots q isin in
+            let f = o.holds q w.0 did in record { set = f.set; held = others.found q.id w.1 ∙ f.held; time = f.time; inside = f.inside });
+        frozen = λ f held. o.frozen f (others.each f held).0;
+        sets = λ f held. (let w = others.each f held in
+            let k = o.sets f w.0 in record {
+              snapshot = k.snapshot;
+              kept = kept_record target m.snapshots k.snapshot k.kept (λ e. w.1 (sym k.id_is ∙ e));
+              id_is = k.id_is;
+              at_is = k.at_is;
+              line = k.line;
+              listed = k.listed;
+              tablet_is = k.tablet_is;
+            });
+        bare = λ vacant. (let k = o.bare vacant in record { frozen = others.none k.frozen; fence = k.fence; done = k.done });
+      };
+      obeyed = record {
+        drawn_table = b.drawn_table;
+        home = b.home;
+        snapshots = λ q l isin. b.snapshots q l (was_record target m.snapshots q isin).0;
+        restorations = λ q known. restorations_thin q.state m n target changes q slot t clock fs le (b.restorations q known);
+        clones = λ c known. clones_thin c.state m n target changes c slot t clock fs le (b.clones c known);
+      };
+    }
 
 -- Whose frozen sets they are
 

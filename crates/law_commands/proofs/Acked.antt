@@ -16,7 +16,7 @@ use Rattle.model.specs.Schedules.{floor, least_low}
 use Rattle.model.specs.Cleanup.{floor_of}
 use Rattle.model.specs.Parts.{Master}
 use Rattle.law_store.proofs.Keys.{either_way}
-use Rattle.law_invariants.specs.Operations.{SnapshotsRise, OperationsApart, Uses, IsKnown, IsListed, IsOpenOf, IsReached, ScheduleGood, SnapshotGood, IsServing, IsPoint, BeforePoint, IsAfterSwitch, IsActive, RestorationStateGood, RestorationGood, CloneStateGood, CloneGood, IsSent, OperationsGood, ScheduledGood, PairIn, IsSource, IsReserved}
+use Rattle.law_invariants.specs.Operations.{SnapshotsRise, OperationsApart, Uses, IsKnown, IsListed, IsReached, ScheduleGood, SnapshotGood, IsServing, IsPoint, IsAfterSwitch, IsActive, RestorationStateGood, RestorationGood, CloneStateGood, CloneGood, IsSent, OperationsGood, ScheduledGood, PairIn, IsSource, IsReserved}
 use Rattle.law_invariants.proofs.Finding.{in_mapped, map_in, either_is}
 
 -- Lists
@@ -184,9 +184,9 @@ snapshot_acked m id slot r h =
     let known : r.complete ≡ false → (l : Listed) → In l (if_same r.id id slot r.listed) → IsKnown (acked_all id slot m) l = λ unfinished l isin. (let w = was b r.listed slot l isin in known_acked m id slot l w.line w.tablet_is w.slot_is (h.known unfinished w.line w.listed)) in
     let lists : (i : Interval) → In i m.activity → owner_of m.catalog.owners i.table ≡ Some r.namespace → active_within r.after r.at i ≡ true → IsListed (if_same r.id id slot r.listed) i = λ i there owned active. listed_acked b r.listed slot i (h.lists i there owned active) in
     let reached : (r.after < floor_of (acked_all id slot m) r.namespace m.clock) ⊎ ((q : SnapshotRecord) × (In q (acked_snapshot id slot m.snapshots) × ((q.namespace ≡ r.namespace) × ((q.at ≡ r.after) × (q.complete ≡ true))))) = elim h.reached [
-    | inl low ↦ inl (subst (λ y. r.after < y) (sym (floor_acked m id slot r.namespace m.clock)) low)
-    | inr q ↦ inr (ack_snapshot id slot q.0, (snapshot_stays m id slot q.0 q.1.0, q.1.1))
-  ] in
+      | inl low ↦ inl (subst (λ y. r.after < y) (sym (floor_acked m id slot r.namespace m.clock)) low)
+      | inr q ↦ inr (ack_snapshot id slot q.0, (snapshot_stays m id slot q.0 q.1.0, q.1.1))
+    ] in
     assumption (bodies, drawn_listed, listed_of, known, lists, reached)
 
 serving_acked : (m : Master) (id : Id) (slot : ℕ) (snapshot ns : Id) (to : ℕ) → IsServing m snapshot ns to → IsServing (acked_all id slot m) snapshot ns to
@@ -322,25 +322,25 @@ clone_acked m id slot changes c h =
     let pairs_now : (p : TabletPair) → In p c.tablets → PairIn m.slots m.drawn m.catalog.owners (ack_clone id slot c) p = λ p paired. (let g = h.pairs p paired in record { slot_from = g.slot_from; slot_to = g.slot_to; drawn = g.drawn; drawn_table = g.drawn_table; owned = g.owned }) in
     let drawn_listed : (l : Listed) → In l (if_same c.id id slot c.listed) → l.tablet.number ≤ m.drawn.tablets = λ l isin. (let w = was (same c.id id) c.listed slot l isin in subst (λ t. t.number ≤ m.drawn.tablets) (sym w.tablet_is) (h.drawn_listed w.line w.listed)) in
     let sources : is_cloned c.state ≡ false → (p : TabletPair) → In p c.tablets → IsSource (acked_all id slot m) (ack_clone id slot c) p = λ unfinished p paired. (let k = h.sources unfinished p paired in record {
-    interval = k.interval;
-    kept = k.kept;
-    tablet_is = k.tablet_is;
-    slot_is = k.slot_is;
-    low_is = k.low_is;
-    high_is = k.high_is;
-    active = k.active;
-    owned = k.owned;
-    pair = k.pair;
-    paired = k.paired;
-    source_is = k.source_is;
-    target_is = k.target_is;
-  }) in
+      interval = k.interval;
+      kept = k.kept;
+      tablet_is = k.tablet_is;
+      slot_is = k.slot_is;
+      low_is = k.low_is;
+      high_is = k.high_is;
+      active = k.active;
+      owned = k.owned;
+      pair = k.pair;
+      paired = k.paired;
+      source_is = k.source_is;
+      target_is = k.target_is;
+    }) in
     let reserved : is_visible c.state ≡ false → (p : TabletPair) → In p c.tablets → IsReserved (acked_all id slot m) p = λ unseen p paired. (let k = h.reserved unseen p paired in record {
-    free = k.free;
-    unknown = k.unknown;
-    no_snapshot = λ r l isin. each_snapshot m id slot (λ q. In l q.listed → l.tablet ≡ p.target → ⊥) (λ q inq lists is. let w = was (same q.id id) q.listed slot l lists in k.no_snapshot q w.line inq w.listed (sym w.tablet_is ∙ is)) r isin;
-    no_restoration = λ r l isin. all_restorations m id slot (λ q. In l q.listed → l.tablet ≡ p.target → ⊥) (λ q inq lists is. let w = was (same q.id id) q.listed slot l lists in k.no_restoration q w.line inq w.listed (sym w.tablet_is ∙ is)) r isin;
-  }) in
+      free = k.free;
+      unknown = k.unknown;
+      no_snapshot = λ r l isin. each_snapshot m id slot (λ q. In l q.listed → l.tablet ≡ p.target → ⊥) (λ q inq lists is. let w = was (same q.id id) q.listed slot l lists in k.no_snapshot q w.line inq w.listed (sym w.tablet_is ∙ is)) r isin;
+      no_restoration = λ r l isin. all_restorations m id slot (λ q. In l q.listed → l.tablet ≡ p.target → ⊥) (λ q inq lists is. let w = was (same q.id id) q.listed slot l lists in k.no_restoration q w.line inq w.listed (sym w.tablet_is ∙ is)) r isin;
+    }) in
     let in_state : CloneStateGood c.state (acked_all id slot m) (ack_clone id slot c) = clone_state_acked c.state m id slot c h.in_state in
     assumption (pairs_now, drawn_listed, sources, reserved, in_state)
 

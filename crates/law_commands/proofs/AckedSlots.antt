@@ -4,7 +4,7 @@ use Rattle.std.specs.List.{list_any}
 use Rattle.std.specs.Option.{option_and_then, option_map_or}
 use Rattle.std.proofs.lemmas.Bool.{true≢false}
 use Rattle.std.proofs.lemmas.Bool.Decides.{nat_tests}
-use Rattle.row_values.specs.Ids.{Kind, Namespace, Table, Tablet as TabletKind, Schedule, Snapshot, Restoration, Clone, Id, same}
+use Rattle.row_values.specs.Ids.{Kind, Snapshot, Restoration, Clone, Id, same}
 use Rattle.row_values.specs.Elements.{In}
 use Rattle.model.specs.Times.{ended_by}
 use Rattle.model.specs.Catalog.{owner_of}
@@ -30,9 +30,9 @@ use Rattle.law_commands.proofs.Acked.{pairs, ack_if, Was, was, now, ack_snapshot
 pub master_acked : (m : Master) (id : Id) (slot : ℕ) (changes : List Change) → MasterGood m changes → MasterGood (acked_all id slot m) changes
 master_acked m id slot changes h =
     let listed : (r : RestorationRecord) (l : Listed) → In r (acked_restoration id slot m.restorations) → In l r.listed → l.tablet.number ≤ m.drawn.tablets = λ r l isin. all_restorations m id slot (λ q. In l q.listed → l.tablet.number ≤ m.drawn.tablets)
-      (λ q inq lists. let w = was (same q.id id) q.listed slot l lists in subst (λ t. t.number ≤ m.drawn.tablets) (sym w.tablet_is) (h.listed q w.line inq w.listed)) r isin in
+    (λ q inq lists. let w = was (same q.id id) q.listed slot l lists in subst (λ t. t.number ≤ m.drawn.tablets) (sym w.tablet_is) (h.listed q w.line inq w.listed)) r isin in
     let listed_of : (r : RestorationRecord) (l : Listed) → In r (acked_restoration id slot m.restorations) → In l r.listed → (i : Interval) → In i m.activity → i.tablet ≡ l.tablet → owner_of m.catalog.owners i.table ≡ Some r.namespace = λ r l isin lists i there is. all_restorations m id slot (λ q. In l q.listed → owner_of m.catalog.owners i.table ≡ Some q.namespace)
-      (λ q inq isl. let w = was (same q.id id) q.listed slot l isl in h.listed_of q w.line inq w.listed i there (is ∙ w.tablet_is)) r isin lists in
+    (λ q inq isl. let w = was (same q.id id) q.listed slot l isl in h.listed_of q w.line inq w.listed i there (is ∙ w.tablet_is)) r isin lists in
     assumption (listed, listed_of)
 
 table_floor : (m : Master) (id : Id) (slot : ℕ) (owner : Option Id) (n : ℕ) → option_map_or (λ ns. floor_of (acked_all id slot m) ns n) owner n ≡ option_map_or (λ ns. floor_of m ns n) owner n
@@ -42,9 +42,9 @@ table_floor m id slot (Some ns) n = floor_acked m id slot ns n
 pub remembered_acked : (m : Master) (id : Id) (slot : ℕ) (activity : List Interval) → Remembered m activity → Remembered (acked_all id slot m) activity
 remembered_acked m id slot activity h =
     let each : (i : Interval) → In i activity → In i m.activity ⊎ IsForgotten (acked_all id slot m) i = λ i isin. elim (h.each i isin) [
-    | inl here ↦ inl here
-    | inr gone ↦ inr (record { below = ap (λ f. ended_by f i.to) (table_floor m id slot (owner_of m.catalog.owners i.table) m.clock) ∙ gone.below; over = gone.over; unknown = gone.unknown })
-  ] in
+      | inl here ↦ inl here
+      | inr gone ↦ inr (record { below = ap (λ f. ended_by f i.to) (table_floor m id slot (owner_of m.catalog.owners i.table) m.clock) ∙ gone.below; over = gone.over; unknown = gone.unknown })
+    ] in
     let reserved : (c : CloneRecord) (p : TabletPair) (i : Interval) → In c (acked_clone id slot m.clones) → is_visible c.state ≡ false → In p c.tablets → In i activity → (i.tablet ≡ p.target → ⊥) × (i.table ≡ p.table → ⊥) = λ c p i known unseen paired isin. all_clones m id slot (λ d. is_visible d.state ≡ false → In p d.tablets → (i.tablet ≡ p.target → ⊥) × (i.table ≡ p.table → ⊥)) (λ d ind a b. h.reserved d p i ind a b isin) c known unseen paired in
     assumption (each, reserved)
 
@@ -110,7 +110,7 @@ slot_acked m id acked slot changes t h =
     let each : (i : Interval) → In i m.activity → i.slot ≡ slot → IsGoodIn m.clock m.slots (directory (acked_all id acked m)) changes t i = λ i isin is. let g = h.each i isin is in
     let waits : (point : ℕ) → awaited_in ((acked_restoration id acked m.restorations)) t.tablet t.done ≡ Some point → TurnsAt point i.from i.to = λ point a. g.waits point (sym e ∙ a) in
     let comes : (r : RestorationRecord) (point : ℕ) → In r ((acked_restoration id acked m.restorations)) → awaited_of r.state r t.tablet t.done ≡ Some point → i.to ≡ None → ComesFrom changes r.namespace i point r.to = λ r point known. all_restorations m id acked (λ q. awaited_of q.state q t.tablet t.done ≡ Some point → i.to ≡ None → ComesFrom changes q.namespace i point q.to)
-            (λ q inq a opened. g.comes q point inq (sym (awaited_of_acked q.state q id acked t.tablet t.done) ∙ a) opened) r known in
+    (λ q inq a opened. g.comes q point inq (sym (awaited_of_acked q.state q id acked t.tablet t.done) ∙ a) opened) r known in
     let serves : i.to ≡ None → awaited_in ((acked_restoration id acked m.restorations)) t.tablet t.done ≡ None → is_serving t.presence ≡ true = λ opened none. g.serves opened (sym e ∙ none) in
     let hidden : (at : ℕ) → t.presence ≡ HiddenPart at → is_awaited (awaited_in ((acked_restoration id acked m.restorations)) t.tablet t.done) i.to ≡ false → ended_by at i.to ≡ true = λ at out counted. g.hidden at out (ap (λ p. is_awaited p i.to) (sym e) ∙ counted) in
     let stands : is_awaited (awaited_in ((acked_restoration id acked m.restorations)) t.tablet t.done) i.to ≡ false → StandsIn t changes i = λ counted. g.stands (ap (λ p. is_awaited p i.to) (sym e) ∙ counted) in
@@ -296,9 +296,9 @@ clone_slot_acked Accepted m id acked slot changes c t did good h = record { empt
 clone_slot_acked (CloneSnapshot own) m id acked slot changes c t did good h = record { empty = h.empty }
 clone_slot_acked (Copying serving at) m id acked slot changes c t did good h =
     let acked_now : (l : Listed) → In l (if_same c.id id acked c.listed) → l.slot ≡ slot → l.acked ≡ true → is_done t.done c.id CopyKind ≡ true = λ l isin there a. (let w = was (same c.id id) c.listed acked l isin in elim (w.acked a) [
-    | inl old ↦ h.acked w.line w.listed (sym w.slot_is ∙ there) old
-    | inr new ↦ ap (λ z. is_done t.done c.id (kind_of z)) (sym (good.bodies w.line w.listed).body_is) ∙ did w.line new.0 w.listed new.1 (sym w.slot_is ∙ there)
-  ]) in
+      | inl old ↦ h.acked w.line w.listed (sym w.slot_is ∙ there) old
+      | inr new ↦ ap (λ z. is_done t.done c.id (kind_of z)) (sym (good.bodies w.line w.listed).body_is) ∙ did w.line new.0 w.listed new.1 (sym w.slot_is ∙ there)
+    ]) in
     let copied : (p : TabletPair) → In p c.tablets → p.slot ≡ slot → is_done t.done c.id CopyKind ≡ true → IsCopy changes (ack_clone id acked c) at p t = λ p paired is done. (let k = h.copied p paired is done in assumption k) in
     assumption (acked_now, copied)
 clone_slot_acked (CloneReleasing serving at) m id acked slot changes c t did good h = λ l isin there. (

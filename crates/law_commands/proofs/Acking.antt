@@ -2,12 +2,12 @@
 use Rattle.std.proofs.Common.{ℕ, ◌≡◌, ◌≤◌, List, [], ◌∷◌, Option, Some, None, Bool, true, false, cond, ◌&&◌, inl, inr, map, refl, sym, ap, subst, ◌∙◌, arith, not, eqb, eqb-true, le_refl, le_trans}
 use Rattle.std.proofs.lemmas.Bool.{true≢false}
 use Rattle.std.proofs.lemmas.Bool.Decides.{nat_tests}
-use Rattle.row_values.specs.Ids.{Kind, Namespace, Table, Tablet as TabletKind, Schedule, Snapshot, Restoration, Clone, Id, same}
+use Rattle.row_values.specs.Ids.{Kind, Snapshot, Restoration, Clone, Id, same}
 use Rattle.row_values.specs.Elements.{In}
 use Rattle.model.specs.Activity.{Interval}
 use Rattle.model.specs.Journal.{Change}
 use Rattle.model.specs.Tablets.{Tablet, Command, Body, Fence, Freeze, RestoreFrom, Hide, Copy, Release, ticked, kind_of, is_done}
-use Rattle.model.specs.Records.{Listed, Sent, SnapshotRecord, RestorationRecord, RestorationState, Fencing, Snapshotting, Switching, Restoring, Releasing, Restored, CloneRecord, CloneState, Accepted, CloneSnapshot, Copying, CloneReleasing, CloneComplete, acked_at, unsent_at}
+use Rattle.model.specs.Records.{Listed, Sent, SnapshotRecord, RestorationRecord, RestorationState, Fencing, Restoring, Releasing, CloneRecord, CloneState, CloneSnapshot, Copying, CloneReleasing, acked_at, unsent_at}
 use Rattle.model.specs.Coordination.{pending, acked_snapshot, acked_restoration, acked_clone, acked_by, acked as acked_master, acknowledging, ack}
 use Rattle.model.specs.Stands.{is_restore}
 use Rattle.model.specs.Acts.{Ack, Acked, NotPending, NotDone, Refused}

@@ -9,7 +9,7 @@ use Rattle.row_values.specs.Ranges.{in_range}
 use Rattle.model.specs.Activity.{Interval}
 use Rattle.model.specs.Journal.{Change, row_at}
 use Rattle.model.specs.Tablets.{Tablet, ServingPart, Command, Mark, Body, Fence, Freeze, Release, Copy, FenceKind, FreezeKind, CopyKind, FrozenSet, set_of, rows_of_set, cutoff_of_set, processed, is_done}
-use Rattle.model.specs.Records.{Listed, RestorationRecord, RestorationState, Fencing, Snapshotting, Switching, Restoring, Releasing, Restored, TabletPair, CloneRecord, CloneState, Accepted, CloneSnapshot, Copying, CloneReleasing, CloneComplete, is_cloned, is_visible}
+use Rattle.model.specs.Records.{Listed, RestorationRecord, RestorationState, Fencing, Restoring, Releasing, TabletPair, CloneRecord, CloneState, Accepted, CloneSnapshot, Copying, CloneReleasing, CloneComplete, is_cloned, is_visible}
 use Rattle.model.specs.Stands.{AreRowsAt, copied_at}
 use Rattle.model.specs.Parts.{Master}
 use Rattle.law_store.proofs.Keys.{either_way}

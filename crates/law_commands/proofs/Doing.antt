@@ -1,7 +1,6 @@
 -- What goes on to hold where a tablet does its first command: of its other commands and its marks, of operations that don't hold its
 -- namespace, and of its store.
 use Rattle.model.specs.Times.{ended_by}
-use Rattle.row_values.specs.Store.{Below}
 use Rattle.std.proofs.Common.{ℕ, ◌≡◌, ◌≢◌, ◌≤◌, ◌<◌, ◌+◌, List, [], ◌∷◌, ◌++◌, Option, Some, None, true, false, cond, ◌&&◌, inl, inr, refl, sym, ap, subst, ◌∙◌, arith, le_trans, lt_of_lt_of_le, not}
 use Rattle.std.specs.List.{list_any}
 use Rattle.std.specs.Option.{is_some}
@@ -20,9 +19,9 @@ use Rattle.model.specs.Records.{Listed, SnapshotRecord, RestorationRecord, Resto
 use Rattle.model.specs.Stands.{NoneTwice, HoldsFrozen, awaited_in, awaited_of, first_of_two, is_restore}
 use Rattle.model.specs.Parts.{Master}
 use Rattle.law_store.specs.Sorted.{Sorted, EachKey}
-use Rattle.law_invariants.specs.Invariant.{MasterGood, IsOpen, SlotGood, SetStands, is_awaited, OverBy, TurnsAt, ComesFrom, StandsIn, IsGoodIn, TakesWritesIn}
+use Rattle.law_invariants.specs.Invariant.{MasterGood, IsOpen, SlotGood, SetStands, is_awaited, OverBy, TurnsAt, ComesFrom, StandsIn}
 use Rattle.law_invariants.specs.Operations.{IsOpenOf, IsAfterSwitch, RestorationStateGood, CloneStateGood, OperationsGood}
-use Rattle.law_invariants.specs.Orders.{IsFence, IsAfter, IsMark, IsSetOf, OrdersGood, restoring_stage, stage_of_restoration, cloning_stage, stage_of_clone, RestorationSlot, CloneSlot, directory}
+use Rattle.law_invariants.specs.Orders.{IsFence, IsAfter, IsMark, IsSetOf, OrdersGood, restoring_stage, stage_of_restoration, cloning_stage, stage_of_clone, RestorationSlot, CloneSlot}
 use Rattle.law_invariants.proofs.Finding.{in_added}
 use Rattle.law_invariants.proofs.Ticking.{below_later, over_later}
 use Rattle.law_invariants.proofs.Ordering.{order_later, mark_later}
@@ -250,7 +249,7 @@ pub slot_changed : (m : Master) (changes : List Change) (slot : ℕ) (t : Tablet
 slot_changed m changes slot t n cutoff sets fence inbox done le marks up within each_set opens shown later h =
     let awaits : awaited_in m.restorations t.tablet done ≡ awaited_in m.restorations t.tablet t.done = awaited_kept m.restorations t.tablet t.done done marks in
     record {
-  good = record {
+      good = record {
         sorted = h.good.sorted;
         below = below_later t.versions (t.clock + 1) (n + 1) (omega arith) h.good.below;
         cutoff = within;
@@ -259,18 +258,18 @@ slot_changed m changes slot t n cutoff sets fence inbox done le marks up within 
         set_sorted = λ f isin. (each_set f isin).sorted;
         set_keys = λ f isin. (each_set f isin).keys;
       };
-  home = h.home;
-  numbered = h.numbered;
-  each = λ i isin is. let g = h.each i isin is in
-    let over : OverBy n i.from i.to = over_later i.to i.from t.clock n le g.over in
-    let waits : (point : ℕ) → awaited_in m.restorations t.tablet done ≡ Some point → TurnsAt point i.from i.to = λ point e. g.waits point (sym awaits ∙ e) in
-    let comes : (r : RestorationRecord) (point : ℕ) → In r m.restorations → awaited_of r.state r t.tablet done ≡ Some point → i.to ≡ None → ComesFrom changes r.namespace i point r.to = λ r point known e opened. g.comes r point known (sym (awaited_of_kept r.state r t.tablet t.done done (marks r known)) ∙ e) opened in
-    let serves : i.to ≡ None → awaited_in m.restorations t.tablet done ≡ None → is_serving t.presence ≡ true = λ opened none. g.serves opened (sym awaits ∙ none) in
-    let hidden : (at : ℕ) → t.presence ≡ HiddenPart at → is_awaited (awaited_in m.restorations t.tablet done) i.to ≡ false → ended_by at i.to ≡ true = λ at out counted. g.hidden at out (ap (λ p. is_awaited p i.to) (sym awaits) ∙ counted) in
-    let stands : is_awaited (awaited_in m.restorations t.tablet done) i.to ≡ false → StandsIn (changed t n cutoff sets fence inbox done) changes i = λ counted key x ranged cut before there. g.stands (ap (λ p. is_awaited p i.to) (sym awaits) ∙ counted) key x ranged (le_trans up cut) before there in
-    let sets_now : (f : FrozenSet) → In f sets → SetStands f changes i = λ f held. (each_set f held).stands i isin is in
-    assumption (over, waits, comes, serves, hidden, stands, sets_now);
-  opens = opens;
-  shown = shown;
-  later = later;
-}
+      home = h.home;
+      numbered = h.numbered;
+      each = λ i isin is. let g = h.each i isin is in
+          let over : OverBy n i.from i.to = over_later i.to i.from t.clock n le g.over in
+          let waits : (point : ℕ) → awaited_in m.restorations t.tablet done ≡ Some point → TurnsAt point i.from i.to = λ point e. g.waits point (sym awaits ∙ e) in
+          let comes : (r : RestorationRecord) (point : ℕ) → In r m.restorations → awaited_of r.state r t.tablet done ≡ Some point → i.to ≡ None → ComesFrom changes r.namespace i point r.to = λ r point known e opened. g.comes r point known (sym (awaited_of_kept r.state r t.tablet t.done done (marks r known)) ∙ e) opened in
+          let serves : i.to ≡ None → awaited_in m.restorations t.tablet done ≡ None → is_serving t.presence ≡ true = λ opened none. g.serves opened (sym awaits ∙ none) in
+          let hidden : (at : ℕ) → t.presence ≡ HiddenPart at → is_awaited (awaited_in m.restorations t.tablet done) i.to ≡ false → ended_by at i.to ≡ true = λ at out counted. g.hidden at out (ap (λ p. is_awaited p i.to) (sym awaits) ∙ counted) in
+          let stands : is_awaited (awaited_in m.restorations t.tablet done) i.to ≡ false → StandsIn (changed t n cutoff sets fence inbox done) changes i = λ counted key x ranged cut before there. g.stands (ap (λ p. is_awaited p i.to) (sym awaits) ∙ counted) key x ranged (le_trans up cut) before there in
+          let sets_now : (f : FrozenSet) → In f sets → SetStands f changes i = λ f held. (each_set f held).stands i isin is in
+          assumption (over, waits, comes, serves, hidden, stands, sets_now);
+      opens = opens;
+      shown = shown;
+      later = later;
+    }

@@ -5,7 +5,7 @@ use Rattle.row_values.specs.Ids.{Id}
 use Rattle.row_values.specs.Elements.{In}
 use Rattle.model.specs.Journal.{Change}
 use Rattle.model.specs.Tablets.{Tablet, Command, Fence, Freeze, Release, Copy, FenceKind, FreezeKind, RestoreFromKind, processed, is_empty}
-use Rattle.model.specs.Records.{Listed, RestorationRecord, RestorationState, Fencing, Snapshotting, Switching, Restoring, Releasing, Restored, CloneRecord, CloneState, Accepted, CloneSnapshot, Copying, CloneReleasing, CloneComplete}
+use Rattle.model.specs.Records.{Listed, RestorationRecord, RestorationState, Fencing, Restoring, Releasing, CloneRecord, CloneState, Accepted, CloneSnapshot, Copying, CloneReleasing, CloneComplete}
 use Rattle.model.specs.Parts.{Master}
 use Rattle.law_invariants.specs.Operations.{IsAfterSwitch, FencingGood, RestorationStateGood, CloneStateGood}
 use Rattle.law_invariants.specs.Orders.{FencingSlot, FencePlace, RestorationSlot}

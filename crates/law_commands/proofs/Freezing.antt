@@ -12,8 +12,8 @@ use Rattle.row_values.specs.Ranges.{in_range}
 use Rattle.model.specs.Catalog.{owner_of}
 use Rattle.model.specs.Activity.{Interval, active_at}
 use Rattle.model.specs.Journal.{Change}
-use Rattle.model.specs.Tablets.{Tablet, Command, Mark, Body, Fence, Freeze, Release, Copy, BodyKind, FenceKind, FreezeKind, RestoreFromKind, HideKind, CopyKind, ReleaseKind, FrozenSet, set_of, processed, kind_of, is_done, is_empty, is_serving}
-use Rattle.model.specs.Records.{Listed, SnapshotRecord, RestorationRecord, RestorationState, Fencing, Snapshotting, Switching, Restoring, Releasing, Restored, CloneRecord, CloneState, Accepted, CloneSnapshot, Copying, CloneReleasing, CloneComplete, TabletPair}
+use Rattle.model.specs.Tablets.{Tablet, Command, Mark, Body, Fence, Freeze, Release, Copy, BodyKind, FenceKind, FreezeKind, RestoreFromKind, HideKind, CopyKind, ReleaseKind, FrozenSet, set_of, processed, kind_of, is_done}
+use Rattle.model.specs.Records.{Listed, SnapshotRecord, RestorationRecord, RestorationState, Fencing, Snapshotting, Switching, Restoring, Releasing, Restored, CloneRecord, CloneState, Accepted, CloneSnapshot, Copying, CloneReleasing, CloneComplete}
 use Rattle.model.specs.Stands.{HoldsFrozen, awaited_in}
 use Rattle.model.specs.Parts.{Master}
 use Rattle.law_store.proofs.Keys.{either_way}
@@ -21,7 +21,7 @@ use Rattle.law_store.proofs.Choosing.{frozen_reads, sorted_frozen}
 use Rattle.law_store.proofs.Members.{keys_frozen}
 use Rattle.law_invariants.specs.Invariant.{TurnsAt, is_awaited}
 use Rattle.law_invariants.specs.Operations.{SnapshotsRise, IsAfterSwitch, RestoringGood, RestorationStateGood, CloneStateGood}
-use Rattle.law_invariants.specs.Orders.{FencePlace, ClonePlace, IsFence, IsSetOf, RestorationSlot, ReleasingSlot, CloneSlot, IsCopy}
+use Rattle.law_invariants.specs.Orders.{FencePlace, ClonePlace, IsFence, IsSetOf, RestorationSlot, ReleasingSlot, CloneSlot}
 use Rattle.law_invariants.proofs.Finding.{both_pass, in_append, filter_in, same_equal, same_self, apart_by_number}
 use Rattle.law_commands.proofs.Marks.{done_still, done_beside, done_now, done_either}
 use Rattle.law_commands.proofs.Pending.{IsPending, BySnapshot, ByRestoration as RestorationPends, ByClone as ClonePends, none_in}
@@ -113,11 +113,11 @@ clone_kept Accepted m changes c slot t n sets inbox done le marks h = record { e
 clone_kept (CloneSnapshot own) m changes c slot t n sets inbox done le marks h = record { empty = h.empty }
 clone_kept (Copying serving at) m changes c slot t n sets inbox done le marks h =
     let e = marks.same_ c.id CopyKind (λ e. let q : CopyKind ≡ FreezeKind = e in grind arith) in record {
-  acked = λ l isin is a. marks.still c.id CopyKind (h.acked l isin is a);
-  empty = λ p paired is undone. h.empty p paired is (sym e ∙ undone);
-  copied = λ p paired is did. (let w = h.copied p paired is (sym e ∙ did) in assumption w);
-  later = λ serving_ free of. le_trans (h.later serving_ free of) le;
-}
+      acked = λ l isin is a. marks.still c.id CopyKind (h.acked l isin is a);
+      empty = λ p paired is undone. h.empty p paired is (sym e ∙ undone);
+      copied = λ p paired is did. (let w = h.copied p paired is (sym e ∙ did) in assumption w);
+      later = λ serving_ free of. le_trans (h.later serving_ free of) le;
+    }
 clone_kept (CloneReleasing serving at) m changes c slot t n sets inbox done le marks h = λ l isin is. releasing_kept c.id l t n sets inbox done marks (h l isin is)
 clone_kept (CloneComplete serving at) m changes c slot t n sets inbox done le marks h = tt
 

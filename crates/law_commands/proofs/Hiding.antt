@@ -1,6 +1,4 @@
 -- A tablet that a restoration hides keeps what holds: it has had its time.
-use Rattle.model.specs.Right.{is_fixed}
-use Rattle.std.specs.Option.{is_some}
 use Rattle.row_values.specs.Store.{Below}
 use Rattle.std.proofs.Common.{ℕ, ◌≡◌, ◌≤◌, ◌+◌, List, [], ◌∷◌, ◌++◌, Option, Some, None, true, false, refl, sym, ap, subst, ◌∙◌, arith, le_trans, le_of_lt, lt_of_lt_of_le, ◌<◌}
 use Rattle.std.proofs.lemmas.Bool.{true≢false}
@@ -10,14 +8,14 @@ use Rattle.row_values.specs.Elements.{In}
 use Rattle.model.specs.Times.{ended_by}
 use Rattle.model.specs.Catalog.{owner_of}
 use Rattle.model.specs.Activity.{Interval}
-use Rattle.model.specs.Journal.{Change, table_at}
+use Rattle.model.specs.Journal.{Change}
 use Rattle.model.specs.Tablets.{Tablet, HiddenPart, Command, Mark, Fence, Freeze, Hide, Release, Copy, FenceKind, FreezeKind, RestoreFromKind, HideKind, processed, kind_of, is_empty, FrozenSet, is_serving}
-use Rattle.model.specs.Records.{Listed, RestorationRecord, RestorationState, Fencing, Snapshotting, Switching, Restoring, Releasing, Restored, CloneRecord, CloneState, Accepted, CloneSnapshot, Copying, CloneReleasing, CloneComplete}
+use Rattle.model.specs.Records.{Listed, RestorationRecord, RestorationState, Fencing, Restoring, Releasing, CloneRecord, CloneState, Accepted, CloneSnapshot, Copying, CloneReleasing, CloneComplete}
 use Rattle.model.specs.Stands.{awaited_in, awaited_of}
 use Rattle.model.specs.Parts.{Master}
-use Rattle.law_invariants.specs.Invariant.{is_awaited, SlotGood, OverBy, TurnsAt, ComesFrom, StandsIn, IsGoodIn, TakesWritesIn}
+use Rattle.law_invariants.specs.Invariant.{is_awaited, SlotGood, OverBy, TurnsAt, ComesFrom, StandsIn}
 use Rattle.law_invariants.specs.Operations.{IsAfterSwitch, RestoringGood, RestorationStateGood, CloneStateGood}
-use Rattle.law_invariants.specs.Orders.{RestoringSlot, RestorationSlot, directory}
+use Rattle.law_invariants.specs.Orders.{RestoringSlot, RestorationSlot}
 use Rattle.law_invariants.proofs.Ticking.{below_later, over_later}
 use Rattle.law_commands.proofs.Marks.{done_still, done_beside}
 use Rattle.law_commands.proofs.Pending.{OfRestoration, IsPending, BySnapshot, ByRestoration as RestorationPends, ByClone as ClonePends, none_in}
@@ -38,24 +36,24 @@ slot_hidden : (m : Master) (changes : List Change) (slot : ℕ) (t : Tablet) (n 
 slot_hidden m changes slot t n at inbox done le present marks over h =
     let awaits : awaited_in m.restorations t.tablet done ≡ awaited_in m.restorations t.tablet t.done = awaited_kept m.restorations t.tablet t.done done marks in
     record {
-  good = let below : Below (n + 1) t.versions = below_later t.versions (t.clock + 1) (n + 1) (omega arith) h.good.below in
-    let cutoff : t.cutoff ≤ n = le_trans h.good.cutoff le in
-    let set_past : (f : FrozenSet) → In f t.frozen → f.at < n = λ f held. lt_of_lt_of_le (h.good.set_past f held) le in
-    assumption (below, cutoff, set_past);
-  home = λ still. h.home present;
-  numbered = h.numbered;
-  each = λ i isin is. let g = h.each i isin is in
-    let over_now : OverBy n i.from i.to = over_later i.to i.from t.clock n le g.over in
-    let waits : (point : ℕ) → awaited_in m.restorations t.tablet done ≡ Some point → TurnsAt point i.from i.to = λ point e. g.waits point (sym awaits ∙ e) in
-    let comes : (r : RestorationRecord) (point : ℕ) → In r m.restorations → awaited_of r.state r t.tablet done ≡ Some point → i.to ≡ None → ComesFrom changes r.namespace i point r.to = λ r point known e opened. g.comes r point known (sym (awaited_of_kept r.state r t.tablet t.done done (marks r known)) ∙ e) opened in
-    let serves : i.to ≡ None → awaited_in m.restorations t.tablet done ≡ None → is_serving (HiddenPart at) ≡ true = λ opened none. absurd (no_end i.to at opened (over i isin is)) in
-    let hidden : (at' : ℕ) → (HiddenPart at) ≡ HiddenPart at' → is_awaited (awaited_in m.restorations t.tablet done) i.to ≡ false → ended_by at' i.to ≡ true = λ x out counted. (let q : HiddenPart at ≡ HiddenPart x = out in let e : at ≡ x = cc in ap (λ y. ended_by y i.to) (sym e) ∙ over i isin is) in
-    let stands : is_awaited (awaited_in m.restorations t.tablet done) i.to ≡ false → StandsIn (hid t n at inbox done) changes i = λ counted key x ranged cut before there. g.stands (ap (λ p. is_awaited p i.to) (sym awaits) ∙ counted) key x ranged cut before there in
-    assumption (over_now, waits, comes, serves, hidden, stands);
-  opens = λ serving. absurd (true≢false (sym serving));
-  shown = λ serving. absurd (true≢false (sym serving));
-  later = λ ns to is serving. absurd (true≢false (sym serving));
-}
+      good = let below : Below (n + 1) t.versions = below_later t.versions (t.clock + 1) (n + 1) (omega arith) h.good.below in
+          let cutoff : t.cutoff ≤ n = le_trans h.good.cutoff le in
+          let set_past : (f : FrozenSet) → In f t.frozen → f.at < n = λ f held. lt_of_lt_of_le (h.good.set_past f held) le in
+          assumption (below, cutoff, set_past);
+      home = λ still. h.home present;
+      numbered = h.numbered;
+      each = λ i isin is. let g = h.each i isin is in
+          let over_now : OverBy n i.from i.to = over_later i.to i.from t.clock n le g.over in
+          let waits : (point : ℕ) → awaited_in m.restorations t.tablet done ≡ Some point → TurnsAt point i.from i.to = λ point e. g.waits point (sym awaits ∙ e) in
+          let comes : (r : RestorationRecord) (point : ℕ) → In r m.restorations → awaited_of r.state r t.tablet done ≡ Some point → i.to ≡ None → ComesFrom changes r.namespace i point r.to = λ r point known e opened. g.comes r point known (sym (awaited_of_kept r.state r t.tablet t.done done (marks r known)) ∙ e) opened in
+          let serves : i.to ≡ None → awaited_in m.restorations t.tablet done ≡ None → is_serving (HiddenPart at) ≡ true = λ opened none. absurd (no_end i.to at opened (over i isin is)) in
+          let hidden : (at' : ℕ) → (HiddenPart at) ≡ HiddenPart at' → is_awaited (awaited_in m.restorations t.tablet done) i.to ≡ false → ended_by at' i.to ≡ true = λ x out counted. (let q : HiddenPart at ≡ HiddenPart x = out in let e : at ≡ x = cc in ap (λ y. ended_by y i.to) (sym e) ∙ over i isin is) in
+          let stands : is_awaited (awaited_in m.restorations t.tablet done) i.to ≡ false → StandsIn (hid t n at inbox done) changes i = λ counted key x ranged cut before there. g.stands (ap (λ p. is_awaited p i.to) (sym awaits) ∙ counted) key x ranged cut before there in
+          assumption (over_now, waits, comes, serves, hidden, stands);
+      opens = λ serving. absurd (true≢false (sym serving));
+      shown = λ serving. absurd (true≢false (sym serving));
+      later = λ ns to is serving. absurd (true≢false (sym serving));
+    }
 
 pub hiding_is : (state : RestorationState) (m : Master) (changes : List Change) (r : RestorationRecord) (l : Listed) (at : ℕ) → RestorationStateGood state m changes r → In l r.listed → l.body ≡ Hide at → (serving : Id) × (state ≡ Restoring at serving)
 hiding_is Fencing m changes r l at h isin e = absurd (let q : Fence ≡ Hide at = sym (h.bodies l isin) ∙ e in grind arith)

@@ -11,7 +11,7 @@ use Rattle.model.specs.Activity.{Interval, active_at}
 use Rattle.model.specs.Journal.{Change, table_at}
 use Rattle.model.specs.Right.{is_fixed}
 use Rattle.model.specs.Tablets.{Tablet, Command, Fence, Freeze, Release, Copy, FenceKind, FreezeKind, RestoreFromKind, ReleaseKind, processed}
-use Rattle.model.specs.Records.{Listed, RestorationRecord, RestorationState, Fencing, Snapshotting, Switching, Restoring, Releasing, Restored, CloneRecord, CloneState, Accepted, CloneSnapshot, Copying, CloneReleasing, CloneComplete, is_restored, point_of}
+use Rattle.model.specs.Records.{Listed, RestorationRecord, RestorationState, Fencing, Restoring, Releasing, CloneRecord, CloneState, Accepted, CloneSnapshot, Copying, CloneReleasing, CloneComplete, is_restored, point_of}
 use Rattle.model.specs.Stands.{awaited_in}
 use Rattle.model.specs.Parts.{Master}
 use Rattle.law_invariants.specs.Invariant.{MasterGood, SlotGood}

@@ -1,6 +1,4 @@
 -- A tablet that takes back its rows keeps what holds: they are those of the view at the time to which its namespace is taken back.
-use Rattle.model.specs.Right.{is_fixed}
-use Rattle.std.specs.Option.{is_some}
 use Rattle.std.proofs.Common.{ℕ, ◌≡◌, ◌≤◌, ◌<◌, ◌+◌, List, [], ◌∷◌, ◌++◌, Option, Some, None, true, false, cond, ◌&&◌, ◌||◌, inl, inr, refl, sym, ap, subst, ◌∙◌, arith, not, leb, leb-true, le-leb, ltb-true, le_trans, le_of_lt, lt_of_lt_of_le}
 use Rattle.std.proofs.lemmas.Bool.{true≢false}
 use Rattle.std.proofs.lemmas.Bool.Decides.{nat_tests}
@@ -13,9 +11,9 @@ use Rattle.row_values.specs.Store.{Version, Below, read_of, rows_at, of_rows}
 use Rattle.row_values.specs.Ranges.{in_range}
 use Rattle.model.specs.Catalog.{owner_of}
 use Rattle.model.specs.Activity.{Interval, active_at, active_within}
-use Rattle.model.specs.Journal.{Change, row_at, table_at}
+use Rattle.model.specs.Journal.{Change, row_at}
 use Rattle.model.specs.Tablets.{Tablet, ServingPart, HiddenPart, Command, Mark, Fence, Freeze, RestoreFrom, Release, Copy, FenceKind, FreezeKind, RestoreFromKind, FrozenSet, set_of, rows_of_set, cutoff_of_set, processed, kind_of, is_done, is_empty, is_serving}
-use Rattle.model.specs.Records.{Listed, RestorationRecord, RestorationState, Fencing, Snapshotting, Switching, Restoring, Releasing, Restored, CloneRecord, CloneState, Accepted, CloneSnapshot, Copying, CloneReleasing, CloneComplete, is_restored, point_of}
+use Rattle.model.specs.Records.{Listed, RestorationRecord, RestorationState, Fencing, Restoring, Releasing, Restored, CloneRecord, CloneState, Accepted, CloneSnapshot, Copying, CloneReleasing, CloneComplete, is_restored, point_of}
 use Rattle.model.specs.Stands.{awaited_in, awaited_of, before_restore, AreRowsAt}
 use Rattle.model.specs.Parts.{Master}
 use Rattle.law_store.proofs.Keys.{either_way}
@@ -23,9 +21,9 @@ use Rattle.law_store.proofs.Listing.{restored_reads, sorted_restored, below_of_r
 use Rattle.law_store.proofs.Members.{keys_of_rows, keys_rows_at}
 use Rattle.law_store.proofs.Restoring.{are_rows_restored}
 use Rattle.law_store.specs.Sorted.{Sorted, EachKey}
-use Rattle.law_invariants.specs.Invariant.{MasterGood, TurnsAt, ComesFrom, SlotGood, SlotWorks, OverBy, is_awaited, StandsIn, IsGoodIn, TakesWritesIn}
+use Rattle.law_invariants.specs.Invariant.{MasterGood, TurnsAt, ComesFrom, SlotGood, SlotWorks, OverBy, is_awaited, StandsIn}
 use Rattle.law_invariants.specs.Operations.{IsAfterSwitch, IsServing, RestoringGood, RestorationStateGood, CloneStateGood, OperationsGood}
-use Rattle.law_invariants.specs.Orders.{FencePlace, RestoringSlot, RestorationSlot, directory}
+use Rattle.law_invariants.specs.Orders.{FencePlace, RestoringSlot, RestorationSlot}
 use Rattle.law_invariants.proofs.Finding.{both_pass, passes_both, none_or_some}
 use Rattle.law_invariants.proofs.Ticking.{over_later}
 use Rattle.law_rows.proofs.Writing.{settled_none}
@@ -105,22 +103,22 @@ slot_restored m changes slot t n version vs point to operation inbox done le beg
   home = λ still. h.home present;
   numbered = h.numbered;
   each = λ i isin is. let g = h.each i isin is in
-    let over_now : OverBy n i.from i.to = over_later i.to i.from t.clock n le g.over in
-    let waits : (point' : ℕ) → awaited_in m.restorations t.tablet done ≡ Some point' → TurnsAt point' i.from i.to = λ p e. absurd (let q : None ≡ Some p = sym none ∙ e in grind arith) in
-    let comes_now : (r : RestorationRecord) (point' : ℕ) → In r m.restorations → awaited_of r.state r t.tablet done ≡ Some point' → i.to ≡ None → ComesFrom changes r.namespace i point' r.to = λ r p known e opened. absurd (let q : None ≡ Some p = sym (settled_none m.restorations t.tablet done none r known) ∙ e in grind arith) in
-    let serves : i.to ≡ None → awaited_in m.restorations t.tablet done ≡ None → is_serving ServingPart ≡ true = λ opened settled. refl in
-    let hidden : (at : ℕ) → ServingPart ≡ HiddenPart at → is_awaited (awaited_in m.restorations t.tablet done) i.to ≡ false → ended_by at i.to ≡ true = λ at out. absurd (let q : ServingPart ≡ HiddenPart at = out in grind arith) in
-    let stands : is_awaited (awaited_in m.restorations t.tablet done) i.to ≡ false → StandsIn (back_with t n version vs point operation inbox done) changes i = λ counted key x ranged cut before there. (
-        let within_ : in_range t.low t.high (code_of key) ≡ true = ap (λ a. in_range a t.high (code_of key)) g.low_is ∙ ap (λ b. in_range i.low b (code_of key)) g.high_is ∙ ranged in
-        reads key x within_ cut ∙ ap (λ id. row_at changes to id key) g.table_is
-        ∙ none_or_some i.to
-        (λ opened. sym ((comes i isin is opened).1.rows key x ranged cut))
-        (λ e ended_. absurd (
-        let over : e ≤ point = subst (TurnsAt point i.from) ended_ (g.waits point awaited) in
-        let soon : before_end x (Some e) ≡ true = ap (before_end x) (sym ended_) ∙ before in
-        let less : x < e = ltb-true x e soon in
-        omega (arith, over, less, cut)))) in
-    assumption (over_now, waits, comes_now, serves, hidden, stands);
+      let over_now : OverBy n i.from i.to = over_later i.to i.from t.clock n le g.over in
+      let waits : (point' : ℕ) → awaited_in m.restorations t.tablet done ≡ Some point' → TurnsAt point' i.from i.to = λ p e. absurd (let q : None ≡ Some p = sym none ∙ e in grind arith) in
+      let comes_now : (r : RestorationRecord) (point' : ℕ) → In r m.restorations → awaited_of r.state r t.tablet done ≡ Some point' → i.to ≡ None → ComesFrom changes r.namespace i point' r.to = λ r p known e opened. absurd (let q : None ≡ Some p = sym (settled_none m.restorations t.tablet done none r known) ∙ e in grind arith) in
+      let serves : i.to ≡ None → awaited_in m.restorations t.tablet done ≡ None → is_serving ServingPart ≡ true = λ opened settled. refl in
+      let hidden : (at : ℕ) → ServingPart ≡ HiddenPart at → is_awaited (awaited_in m.restorations t.tablet done) i.to ≡ false → ended_by at i.to ≡ true = λ at out. absurd (let q : ServingPart ≡ HiddenPart at = out in grind arith) in
+      let stands : is_awaited (awaited_in m.restorations t.tablet done) i.to ≡ false → StandsIn (back_with t n version vs point operation inbox done) changes i = λ counted key x ranged cut before there. (
+      let within_ : in_range t.low t.high (code_of key) ≡ true = ap (λ a. in_range a t.high (code_of key)) g.low_is ∙ ap (λ b. in_range i.low b (code_of key)) g.high_is ∙ ranged in
+      reads key x within_ cut ∙ ap (λ id. row_at changes to id key) g.table_is
+      ∙ none_or_some i.to
+      (λ opened. sym ((comes i isin is opened).1.rows key x ranged cut))
+      (λ e ended_. absurd (
+      let over : e ≤ point = subst (TurnsAt point i.from) ended_ (g.waits point awaited) in
+      let soon : before_end x (Some e) ≡ true = ap (before_end x) (sym ended_) ∙ before in
+      let less : x < e = ltb-true x e soon in
+      omega (arith, over, less, cut)))) in
+      assumption (over_now, waits, comes_now, serves, hidden, stands);
   opens = λ serving free. absurd (let q : Some operation ≡ None = free in grind arith);
   shown = λ serving free. absurd (let q : Some operation ≡ None = free in grind arith);
   later = λ ns past fixed serving free. absurd (let q : Some operation ≡ None = free in grind arith);

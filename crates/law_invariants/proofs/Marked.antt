@@ -20,11 +20,11 @@ inbox_changed m changes slot t n inbox le h =
     let k = tablet_ticked m n changes slot t le h in
     let each : (i : Interval) → In i m.activity → i.slot ≡ slot → IsGoodIn m.clock m.slots (directory m) changes (record t { clock = n; inbox = inbox }) i = λ i isin is. let g = k.each i isin is in assumption g in
     let opens : is_serving t.presence ≡ true → t.fence ≡ None → TakesWritesIn m.activity m.restorations slot (record t { clock = n; inbox = inbox }) = λ serving unfenced. let o = k.opens serving unfenced in record {
-    interval = o.interval;
-    listed = o.listed;
-    slot_is = o.slot_is;
-    opened = o.opened;
-    begun = o.begun;
-    settled = o.settled;
-  } in
+      interval = o.interval;
+      listed = o.listed;
+      slot_is = o.slot_is;
+      opened = o.opened;
+      begun = o.begun;
+      settled = o.settled;
+    } in
     assumption (each, opens)

@@ -18,7 +18,7 @@ use Rattle.model.specs.Drawn.{drawn_of}
 use Rattle.model.specs.Right.{is_fixed}
 use Rattle.model.specs.Parts.{Master, Drawn}
 use Rattle.law_store.proofs.Keys.{either_way}
-use Rattle.law_invariants.specs.Operations.{IsSent, IsKnown, IsListed, IsOpenOf, ScheduleGood, SnapshotGood, IsServing, is_switched, IsPoint, BeforePoint, IsBack, IsActive, RestorationStateGood, RestorationGood, IsSource, IsReserved, CloneStateGood, CloneGood, OperationsGood, ScheduledGood}
+use Rattle.law_invariants.specs.Operations.{IsSent, IsKnown, IsListed, IsOpenOf, ScheduleGood, SnapshotGood, is_switched, IsPoint, BeforePoint, IsBack, IsActive, RestorationStateGood, RestorationGood, IsSource, IsReserved, CloneStateGood, CloneGood, OperationsGood, ScheduledGood}
 use Rattle.law_invariants.proofs.Finding.{both_pass, passes_both, same_self, either_passes}
 use Rattle.law_invariants.proofs.Remembering.{floor_rises}
 

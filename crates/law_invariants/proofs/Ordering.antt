@@ -1,8 +1,8 @@
 -- What operations have a slot's tablet do goes on to hold while the master goes on with its records, and while a tablet changes what no
 -- operation has it do.
-use Rattle.std.proofs.Common.{ℕ, ◌≡◌, ◌≤◌, ◌<◌, List, [], Option, Some, None, true, false, ◌⊎◌, inl, inr, refl, sym, ap, subst, ◌∙◌, arith, le_refl, le_trans, lt_of_lt_of_le, ◌||◌}
+use Rattle.std.proofs.Common.{ℕ, ◌≡◌, ◌≤◌, ◌<◌, List, [], Option, Some, None, true, false, ◌⊎◌, inl, inr, refl, sym, ap, subst, ◌∙◌, arith, le_refl, le_trans, lt_of_lt_of_le}
 use Rattle.std.proofs.lemmas.Bool.{true≢false}
-use Rattle.row_values.specs.Ids.{Kind, Namespace, Table, Tablet as TabletKind, Schedule, Snapshot, Restoration, Clone, Id}
+use Rattle.row_values.specs.Ids.{Table, Id}
 use Rattle.row_values.specs.Elements.{In}
 use Rattle.row_values.specs.Store.{Version, of_rows, rows_at}
 use Rattle.model.specs.Catalog.{Catalog, owner_of}
@@ -16,7 +16,7 @@ use Rattle.model.specs.Drawn.{drawn_of}
 use Rattle.model.specs.Parts.{Master, Drawn}
 use Rattle.law_invariants.specs.Operations.{IsKnown, RestorationStateGood, CloneStateGood, OperationsGood}
 use Rattle.law_invariants.specs.Invariant.{SlotWorks}
-use Rattle.law_invariants.specs.Orders.{FencePlace, ClonePlace, IsFence, IsAfter, IsOrder, IsMark, OrdersGood, FencedSlot, RestoringSlot, ReleasingSlot, RestorationSlot, IsCopy, CloneSlot, IsHome, IsTarget, ObeyedGood, directory, IsFenceIn, operations, IsMarkIn, RestorationSlotIn, CloneSlotIn, IsRestored, IsOrderIn, IsBare, IsTargetIn, IsHomeIn}
+use Rattle.law_invariants.specs.Orders.{FencePlace, ClonePlace, IsFence, IsAfter, IsOrder, IsMark, OrdersGood, FencedSlot, RestoringSlot, ReleasingSlot, RestorationSlot, IsCopy, CloneSlot, IsHome, IsTarget, ObeyedGood, directory, IsFenceIn, operations, IsMarkIn, RestorationSlotIn, CloneSlotIn, IsRestored, IsOrderIn, IsBare}
 use Rattle.law_invariants.proofs.Operating.{NotHeld, Onward, ListedOf, going, target_reserved, alike_on, open_on, open_was}
 
 -- The master goes on
@@ -173,10 +173,10 @@ restoring_mild : (changes : List Change) (r : RestorationRecord) (point : ℕ) (
     → RestoringSlot changes r point l t → RestoringSlot changes r point l (milder t n version vs cutoff inbox)
 restoring_mild changes r point l t n version vs cutoff inbox stays capped h =
     let restored : is_restore l.body ≡ true → is_done t.done r.id RestoreFromKind ≡ true → IsRestored changes r point (milder t n version vs cutoff inbox) = λ is did. (let k = h.restored is did in record {
-    serves = k.serves;
-    cutoff_is = capped k.cutoff_is;
-    rows = (rows_stay t vs cutoff t.low t.high point (before_restore changes r.namespace point changes) r.to t.table r.id stays (h.fenced k.serves) k.rows).1;
-  }) in
+      serves = k.serves;
+      cutoff_is = capped k.cutoff_is;
+      rows = (rows_stay t vs cutoff t.low t.high point (before_restore changes r.namespace point changes) r.to t.table r.id stays (h.fenced k.serves) k.rows).1;
+    }) in
     assumption restored
 
 releasing_mild : (operation : Id) (l : Listed) (t : Tablet) (n version : ℕ) (vs : List Version) (cutoff : ℕ) (inbox : List Command) → ReleasingSlot operation l t → ReleasingSlot operation l (milder t n version vs cutoff inbox)
@@ -334,28 +334,28 @@ pub hidden_works : (m : Master) (changes : List Change) (slot : ℕ) (t : Tablet
 hidden_works m changes slot t n ns j le present ops of free isin is one h =
     let o = h.orders in
     let b = h.obeyed in record {
-  orders = let orders : (c : Command) → In c t.inbox → IsOrderIn (operations m) slot n c = λ c lists. order_later m slot t.clock n c le (o.orders c lists) in
-    let marks : (mark : Mark) → In mark t.done → IsMarkIn m.drawn (operations m) n mark = λ mark lists. mark_later m t.clock n mark le (o.marks mark lists) in
-    let holds : (r : SnapshotRecord) → In r m.snapshots → is_done t.done r.id FreezeKind ≡ true → HoldsFrozen r.id r.at (record t { clock = n; presence = HiddenPart n }) = λ r known did. (let f = o.holds r known did in record { set = f.set; held = f.held; time = f.time; inside = f.inside }) in
-    let bare : is_empty (HiddenPart n) ≡ true → IsBare (record t { clock = n; presence = HiddenPart n }) = λ e. absurd (let q = e in grind arith) in
-    assumption (orders, marks, holds, bare);
-  obeyed = record {
-    drawn_table = b.drawn_table;
-    home = λ hidden. b.home present;
-    snapshots = λ r l known lists at acked same_ hidden. b.snapshots r l known lists at acked same_ present;
-    restorations = λ r known. hidden_restorations r.state m changes r slot t n (HiddenPart n) le
-        (λ l lists at unfinished.
-        let k = (ops.restorations r known).known unfinished l lists in
-        let q : Some r.namespace ≡ Some ns = sym ((of r known).owner l lists k.interval k.kept k.tablet_is) ∙ one k.interval k.kept (k.slot_is ∙ at) in
-        let e : r.namespace ≡ ns = cc in
-        free.restoration r known unfinished e)
-        (b.restorations r known);
-    clones = λ c known. (let g = ops.clones c known in hidden_clones c.state m changes c slot t n (HiddenPart n) refl
-        (λ p paired at unseen. (g.reserved unseen p paired).free j isin (is ∙ sym at))
-        (λ l lists at seen unfinished. free.clone c known unfinished (visible_active c.state m c l slot ns seen unfinished g.in_state lists at one))
-        (b.clones c known));
-  };
-}
+      orders = let orders : (c : Command) → In c t.inbox → IsOrderIn (operations m) slot n c = λ c lists. order_later m slot t.clock n c le (o.orders c lists) in
+          let marks : (mark : Mark) → In mark t.done → IsMarkIn m.drawn (operations m) n mark = λ mark lists. mark_later m t.clock n mark le (o.marks mark lists) in
+          let holds : (r : SnapshotRecord) → In r m.snapshots → is_done t.done r.id FreezeKind ≡ true → HoldsFrozen r.id r.at (record t { clock = n; presence = HiddenPart n }) = λ r known did. (let f = o.holds r known did in record { set = f.set; held = f.held; time = f.time; inside = f.inside }) in
+          let bare : is_empty (HiddenPart n) ≡ true → IsBare (record t { clock = n; presence = HiddenPart n }) = λ e. absurd (let q = e in grind arith) in
+          assumption (orders, marks, holds, bare);
+      obeyed = record {
+        drawn_table = b.drawn_table;
+        home = λ hidden. b.home present;
+        snapshots = λ r l known lists at acked same_ hidden. b.snapshots r l known lists at acked same_ present;
+        restorations = λ r known. hidden_restorations r.state m changes r slot t n (HiddenPart n) le
+            (λ l lists at unfinished.
+            let k = (ops.restorations r known).known unfinished l lists in
+            let q : Some r.namespace ≡ Some ns = sym ((of r known).owner l lists k.interval k.kept k.tablet_is) ∙ one k.interval k.kept (k.slot_is ∙ at) in
+            let e : r.namespace ≡ ns = cc in
+            free.restoration r known unfinished e)
+            (b.restorations r known);
+        clones = λ c known. (let g = ops.clones c known in hidden_clones c.state m changes c slot t n (HiddenPart n) refl
+            (λ p paired at unseen. (g.reserved unseen p paired).free j isin (is ∙ sym at))
+            (λ l lists at seen unfinished. free.clone c known unfinished (visible_active c.state m c l slot ns seen unfinished g.in_state lists at one))
+            (b.clones c known));
+      };
+    }
 
 -- No operation, no fence
 

@@ -1,22 +1,15 @@
 -- A tablet's versions give way to others that read the same from a later cutoff on.
-use Rattle.row_values.specs.Ids.{Id}
-use Rattle.model.specs.Catalog.{owner_of}
-use Rattle.model.specs.Right.{is_fixed}
-use Rattle.std.specs.Option.{is_some}
-use Rattle.law_invariants.specs.Orders.{directory}
-use Rattle.model.specs.Activity.{Interval}
 use Rattle.model.specs.Stands.{awaited_in}
-use Rattle.std.specs.Prelude.{false, None, true, Some}
-use Rattle.row_values.specs.Elements.{In}
-use Rattle.std.proofs.Common.{ℕ, ◌≡◌, ◌≤◌, ◌+◌, List, ◌∙◌, le_trans, lt_of_lt_of_le, ◌<◌}
+use Rattle.std.specs.Prelude.{false}
+use Rattle.std.proofs.Common.{ℕ, ◌≡◌, ◌≤◌, ◌+◌, List, ◌∙◌, le_trans, lt_of_lt_of_le}
 use Rattle.row_values.specs.Store.{Version, Below, read_of}
 use Rattle.row_values.specs.Ranges.{in_range}
-use Rattle.model.specs.Journal.{Change, table_at}
-use Rattle.model.specs.Tablets.{Tablet, FrozenSet, is_serving}
+use Rattle.model.specs.Journal.{Change}
+use Rattle.model.specs.Tablets.{Tablet}
 use Rattle.model.specs.Parts.{Master}
 use Rattle.law_store.specs.Sorted.{Sorted, EachKey}
 use Rattle.row_values.specs.Codes.{code_of}
-use Rattle.law_invariants.specs.Invariant.{SlotGood, OverBy, StandsIn, is_awaited, IsGoodIn, TakesWritesIn}
+use Rattle.law_invariants.specs.Invariant.{SlotGood, OverBy, StandsIn, is_awaited}
 use Rattle.law_invariants.proofs.Ticking.{over_later}
 
 -- the tablet after it, its clock at a stamp
@@ -31,9 +24,9 @@ rewriting_keeps m n changes slot t vs c le up within sorted below keys same h = 
   home = h.home;
   numbered = h.numbered;
   each = λ i isin is. let g = h.each i isin is in
-    let over : OverBy n i.from i.to = over_later i.to i.from t.clock n le g.over in
-    let stands : is_awaited (awaited_in m.restorations t.tablet t.done) i.to ≡ false → StandsIn (rewritten t n vs c) changes i = λ counted key x ranged cut before there. same key x cut ∙ g.stands counted key x ranged (le_trans up cut) before there in
-    assumption (over, stands);
+      let over : OverBy n i.from i.to = over_later i.to i.from t.clock n le g.over in
+      let stands : is_awaited (awaited_in m.restorations t.tablet t.done) i.to ≡ false → StandsIn (rewritten t n vs c) changes i = λ counted key x ranged cut before there. same key x cut ∙ g.stands counted key x ranged (le_trans up cut) before there in
+      assumption (over, stands);
   opens = λ serving unfenced. let o = h.opens serving unfenced in record {
     interval = o.interval;
     listed = o.listed;

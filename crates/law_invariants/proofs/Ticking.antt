@@ -83,13 +83,13 @@ tablet_ticked m n changes slot t le h =
     let over : OverBy n i.from i.to = over_later i.to i.from t.clock n le g.over in
     assumption over in
     let opens : is_serving t.presence ≡ true → t.fence ≡ None → TakesWritesIn m.activity m.restorations slot (record t { clock = n }) = λ serving unfenced. let o = h.opens serving unfenced in record {
-    interval = o.interval;
-    listed = o.listed;
-    slot_is = o.slot_is;
-    opened = o.opened;
-    begun = le_trans o.begun le;
-    settled = o.settled;
-  } in
+      interval = o.interval;
+      listed = o.listed;
+      slot_is = o.slot_is;
+      opened = o.opened;
+      begun = le_trans o.begun le;
+      settled = o.settled;
+    } in
     let later : (ns : Id) (to : ℕ) → is_fixed changes ns to ≡ true → is_serving t.presence ≡ true → t.fence ≡ None → owner_of m.catalog.owners t.table ≡ Some ns → to ≤ n = λ ns to is serving unfenced owned. le_trans (h.later ns to is serving unfenced owned) le in
     assumption (below, cutoff, set_past, each, opens, later)
 

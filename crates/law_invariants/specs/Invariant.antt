@@ -76,7 +76,7 @@ abbrev pub RecordsRise : List TableRecord → Type 0
 RecordsRise [] = Unit {0}
 RecordsRise (r ∷ rs) =
     ((q : TableRecord) → In q rs → q.id ≡ r.id → (r.schema.next ≤ q.schema.next) × (ended_by q.from r.to ≡ true))
-      × RecordsRise rs
+    × RecordsRise rs
 
 -- the records of tables: at each time a table has one record, and a name in a namespace is that of one table alone
 pub record TablesStand (c : Catalog) (time drawn : ℕ) (changes : List Change) : Type 0 where
@@ -125,13 +125,13 @@ pub record TabletGood (t : Tablet) : Type 0 where
 -- table, are those of the view. A clone's copies have a stamp before the one at which the view has their tables
 abbrev pub StandsIn : Tablet → List Change → Interval → Type 0
 StandsIn t changes i = (key : List ℕ) (x : ℕ) → in_range i.low i.high (code_of key) ≡ true → t.cutoff ≤ x
-      → before_end x i.to ≡ true
+    → before_end x i.to ≡ true
     → is_some (table_at changes x i.table) ≡ true → read_of t.versions key x ≡ row_at changes x i.table key
 
 -- the reads of a frozen set, from its cutoff to its time and within an interval, are those of the view
 abbrev pub SetStands : FrozenSet → List Change → Interval → Type 0
 SetStands f changes i = (key : List ℕ) (x : ℕ) → in_range i.low i.high (code_of key) ≡ true → f.cutoff ≤ x → x ≤ f.at
-      → active_at x i ≡ true
+    → active_at x i ≡ true
     → read_of f.versions key x ≡ row_at changes x i.table key
 
 -- an open interval begins at the point, and one that has ended had ended by it

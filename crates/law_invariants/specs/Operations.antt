@@ -31,7 +31,7 @@ Uses c ns = (c.source ≡ ns) ⊎ (c.target_id ≡ ns)
 abbrev pub SnapshotsRise : List SnapshotRecord → Type 0
 SnapshotsRise [] = Unit {0}
 SnapshotsRise (r ∷ rs) = ((q : SnapshotRecord) → In q rs → (r.id.number < q.id.number) × (r.at < q.at))
-      × SnapshotsRise rs
+    × SnapshotsRise rs
 
 -- a namespace is scheduled once, and has one unfinished operation that uses it, and one unfinished snapshot
 pub record OperationsApart (schedules : List Schedule) (scheduled : List ScheduledNamespace)
@@ -97,7 +97,7 @@ IsOpenOf m ns i = IsOpenIn m.activity m.catalog.owners ns i
 abbrev pub IsReached : Master → Id → ℕ → Type 0
 IsReached m ns after =
     (after < floor_of m ns m.clock)
-      ⊎ ((q : SnapshotRecord) × (In q m.snapshots × ((q.namespace ≡ ns) × (q.at ≡ after))))
+    ⊎ ((q : SnapshotRecord) × (In q m.snapshots × ((q.namespace ≡ ns) × (q.at ≡ after))))
 
 pub record ScheduleGood (m : Master) (s : Schedule) : Type 0 where
   pub drawn : s.id.number ≤ m.drawn.schedules
@@ -452,11 +452,11 @@ ListsSlot ls slot = (l : Listed) × (In l ls × (l.slot ≡ slot))
 abbrev pub IsSent : List SnapshotRecord → List RestorationRecord → List CloneRecord → Sent → Type 0
 IsSent snapshots restorations clones mark =
     ((r : SnapshotRecord) × (In r snapshots × ((r.id ≡ mark.operation) × (r.complete ≡ false)
-      × ListsSlot r.listed mark.slot)))
+    × ListsSlot r.listed mark.slot)))
     ⊎ (((r : RestorationRecord) × (In r restorations × ((r.id ≡ mark.operation) × (is_restored r.state ≡ false)
-      × ListsSlot r.listed mark.slot)))
+    × ListsSlot r.listed mark.slot)))
     ⊎ ((c : CloneRecord) × (In c clones × ((c.id ≡ mark.operation) × (is_cloned c.state ≡ false)
-      × ListsSlot c.listed mark.slot))))
+    × ListsSlot c.listed mark.slot))))
 
 -- what holds of all records, and of how far the catalog is kept
 pub record OperationsGood (m : Master) (changes : List Change) : Type 0 where
@@ -475,7 +475,7 @@ pub record OperationsGood (m : Master) (changes : List Change) : Type 0 where
 -- the changes of rows of a namespace that a restore at a point undoes are stamped before the restoration's own snapshot
 abbrev pub AfterRowsOf : List Owner → Id → ℕ → List Change → Type 0
 AfterRowsOf owners ns point changes = (c : Change) (table : Id) (key : List ℕ) (op : RowOp)
-      → In c (before_restore changes ns point changes)
+    → In c (before_restore changes ns point changes)
     → c.act ≡ RowChanged table key op → owns owners ns table ≡ true → c.stamp + 1 < point
 
 -- a restore of the journal is that of a restoration that has switched; its record stays

@@ -24,7 +24,8 @@ pub record Operations : Type 0 where
 abbrev pub operations : Master → Operations
 operations m = record { snapshots = m.snapshots; restorations = m.restorations; clones = m.clones }
 
--- what a slot's facts read of the master: its tablets, the owners of their tables, the drawn numbers, and the operations
+-- what a slot's facts read of the master: its tablets, the owners of their tables, the drawn numbers, and the
+-- operations
 pub record Directory : Type 0 where
   pub activity : List Interval
   pub owners : List Owner
@@ -107,7 +108,8 @@ pub record IsAfterIn (given : Operations) (clock : ℕ) (operation : Id) (kind :
   pub restoration : (r : RestorationRecord) → In r given.restorations → r.id ≡ operation → r.to < clock
   pub point : (r : RestorationRecord) (at : ℕ) → In r given.restorations → r.id ≡ operation → point_of r.state ≡ Some at
       → is_after_switch kind ≡ true → at < clock
-  pub copied : (c : CloneRecord) (at : ℕ) → In c given.clones → c.id ≡ operation → copied_at c.state ≡ Some at → at < clock
+  pub copied : (c : CloneRecord) (at : ℕ) → In c given.clones → c.id ≡ operation → copied_at c.state ≡ Some at
+      → at < clock
   pub released : (c : CloneRecord) (l : Listed) (at : ℕ) → In c given.clones → c.id ≡ operation → In l c.listed
       → l.body ≡ Release at → kind ≡ ReleaseKind → at < clock
 
@@ -192,7 +194,8 @@ pub record OrdersIn (d : Directory) (slot : ℕ) (t : Tablet) : Type 0 where
   pub fresh : (c : Command) → In c t.inbox → is_done t.done c.operation (kind_of c.body) ≡ false
   pub marks : (mark : Mark) → In mark t.done → IsMarkIn d.drawn d.given t.clock mark
   -- a tablet that did a kept snapshot's command holds its frozen set, and it has no other
-  pub holds : (r : SnapshotRecord) → In r d.given.snapshots → is_done t.done r.id FreezeKind ≡ true → HoldsFrozen r.id r.at t
+  pub holds : (r : SnapshotRecord) → In r d.given.snapshots → is_done t.done r.id FreezeKind ≡ true
+      → HoldsFrozen r.id r.at t
   pub frozen : (f : FrozenSet) → In f t.frozen → is_done t.done f.snapshot FreezeKind ≡ true
   pub sets : (f : FrozenSet) → In f t.frozen → IsSetOf d.given.snapshots t.tablet f
   pub bare : is_empty t.presence ≡ true → IsBare t

@@ -4,7 +4,7 @@ use Rattle.std.specs.Prelude.{Result, Ok, Err, length}
 use Rattle.std.specs.Option.{ok_or}
 use Rattle.row_values.specs.Slots.{same_slots, has}
 use Rattle.model.specs.Tablets.{Tablet}
-use Rattle.model.specs.Acts.{Command, CreateNamespace, DropNamespace, CreateTable, AddColumn, DropColumn, RenameTable, DropTable, Split, CreateSchedule, EditSchedule, DeleteSchedule, TakeSnapshot, Restore, CloneNamespace, ListSchedules, ListSnapshots, ListRestorations, ListClones, ListTablets, Refusal, SlotsFull, StalePlan}
+use Rattle.model.specs.Acts.{Command, Split, Refusal, SlotsFull, StalePlan}
 use Rattle.model.specs.Parts.{Master, Parts, Outcome, Check, If, refusal_in, either, checked, decided}
 use Rattle.model.specs.Looks.{free_slots, Parent, found_parent, Family, family, found_family, slots_for, plan_of}
 use Rattle.model.specs.Changes.{judge_split, splitting, split, planned, change}

@@ -1,6 +1,6 @@
 -- A removal reads the master; that of a tablet reads the tablet's part too, which its plan names.
 use Rattle.std.proofs.Common.{ℕ, ◌≡◌, List, [], ◌∷◌, Option, Some, None, true, refl, ap, ◌∙◌}
-use Rattle.row_values.specs.Ids.{Id, Kind, Namespace, Table, Tablet, Schedule, Snapshot, Restoration, Clone}
+use Rattle.row_values.specs.Ids.{Id, Kind, Tablet, Snapshot}
 use Rattle.row_values.specs.Slots.{same_slots, has}
 use Rattle.model.specs.Activity.{Interval, last_of}
 use Rattle.model.specs.Tablets.{Tablet as TabletPart}

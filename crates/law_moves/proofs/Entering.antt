@@ -123,14 +123,14 @@ entered_apart m r state listed there unfinished a =
     by_record (λ x y. is_restored y.state ≡ false → is_restored x.state ≡ false) m r state listed x a.restoration_ids there isin (λ k. unfinished) (λ b k. k) in
     let restoration_ids : Alone (λ r. r.id) (map (entering r state listed) m.restorations) = alone_mapped {A = RestorationRecord} (λ r. r.id) f m.restorations (λ x. refl) a.restoration_ids in
     let one_restoration : (q r' : RestorationRecord) → In q (map (entering r state listed) m.restorations) → In r' (map (entering r state listed) m.restorations) → is_restored q.state ≡ false → is_restored r'.state ≡ false → q.namespace ≡ r'.namespace → q ≡ r' = λ q s in_q in_s open_q open_s is. (
-          let x = mapped_is {A = RestorationRecord} f m.restorations q in_q in
-          let y = mapped_is {A = RestorationRecord} f m.restorations s in_s in
-          let one = a.one_restoration x.0 y.0 x.1.0 y.1.0 (open_was x.0 x.1.0 (ap (λ k. is_restored k.state) x.1.1 ∙ open_q)) (open_was y.0 y.1.0 (ap (λ k. is_restored k.state) y.1.1 ∙ open_s))
-          (ap (λ k. k.namespace) x.1.1 ∙ is ∙ sym (ap (λ k. k.namespace) y.1.1)) in
-          sym x.1.1 ∙ ap f one ∙ y.1.1) in
+    let x = mapped_is {A = RestorationRecord} f m.restorations q in_q in
+    let y = mapped_is {A = RestorationRecord} f m.restorations s in_s in
+    let one = a.one_restoration x.0 y.0 x.1.0 y.1.0 (open_was x.0 x.1.0 (ap (λ k. is_restored k.state) x.1.1 ∙ open_q)) (open_was y.0 y.1.0 (ap (λ k. is_restored k.state) y.1.1 ∙ open_s))
+    (ap (λ k. k.namespace) x.1.1 ∙ is ∙ sym (ap (λ k. k.namespace) y.1.1)) in
+    sym x.1.1 ∙ ap f one ∙ y.1.1) in
     let one_operation : (r' : RestorationRecord) (c : CloneRecord) → In r' (map (entering r state listed) m.restorations) → In c m.clones → is_restored r'.state ≡ false → is_cloned c.state ≡ false → Uses c r'.namespace → ⊥ = λ q c in_q in_c open_q open_c uses. (
-          let x = mapped_is {A = RestorationRecord} f m.restorations q in_q in
-          a.one_operation x.0 c x.1.0 in_c (open_was x.0 x.1.0 (ap (λ k. is_restored k.state) x.1.1 ∙ open_q)) open_c (subst (Uses c) (sym (ap (λ k. k.namespace) x.1.1)) uses)) in
+    let x = mapped_is {A = RestorationRecord} f m.restorations q in_q in
+    a.one_operation x.0 c x.1.0 in_c (open_was x.0 x.1.0 (ap (λ k. is_restored k.state) x.1.1 ∙ open_q)) open_c (subst (Uses c) (sym (ap (λ k. k.namespace) x.1.1)) uses)) in
     assumption (restoration_ids, one_restoration, one_operation)
 
 -- points go on to differ
@@ -157,17 +157,17 @@ entered_came : (ps : Parts) (activity : List Interval) (changes : List Change) (
 entered_came ps activity changes n r state listed e inv =
     let h = inv.operations.restorations r e.there in
     let how : NewRestoration ps.master (entered r state listed) ⊎ MovedRestoration ps.master changes (entered r state listed) = inr (record {
-    was = r;
-    kept = e.there;
-    id_is = refl;
-    to_is = refl;
-    acked = e.acked;
-    unfinished = e.unfinished;
-    stage = e.stage;
-    point = e.point;
-    moving = e.moving;
-    undone = e.undone;
-  }) in
+      was = r;
+      kept = e.there;
+      id_is = refl;
+      to_is = refl;
+      acked = e.acked;
+      unfinished = e.unfinished;
+      stage = e.stage;
+      point = e.point;
+      moving = e.moving;
+      undone = e.undone;
+    }) in
     let past : (entered r state listed).to < n = lt_of_lt_of_le h.past e.clock in
     let scheduled : is_restored (entered r state listed).state ≡ false → (s : Schedule) × (In s ps.master.schedules × ((s.id ≡ (entered r state listed).schedule) × (s.namespace ≡ (entered r state listed).namespace))) = λ unfinished. h.scheduled e.unfinished in
     let known : is_restored (entered r state listed).state ≡ false → (l : Listed) → In l (entered r state listed).listed → IsKnown (recorded ps.master (enters r state listed n ps.master)) l = λ unfinished l isin. e.known l isin in

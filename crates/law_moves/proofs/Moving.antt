@@ -7,9 +7,9 @@ use Rattle.row_values.specs.Ids.{Id, same}
 use Rattle.row_values.specs.Elements.{In}
 use Rattle.model.specs.Activity.{Interval}
 use Rattle.model.specs.Journal.{Change}
-use Rattle.model.specs.Tablets.{Body, Fence, Freeze, RestoreFrom, Hide, Copy, Release, BodyKind, RestoreFromKind, HideKind, ReleaseKind, same_body, Mark, is_mark, is_done, kind_of}
+use Rattle.model.specs.Tablets.{Body, Fence, RestoreFrom, Hide, Release, BodyKind, RestoreFromKind, HideKind, ReleaseKind, same_body, Mark, is_mark, is_done, kind_of}
 use Rattle.model.specs.Records.{Listed, RestorationRecord, RestorationState, Restoring, Releasing, Restored, CloneRecord, is_restored, point_of}
-use Rattle.model.specs.Schedules.{floor, low, least_low}
+use Rattle.model.specs.Schedules.{floor, least_low}
 use Rattle.model.specs.Stands.{awaited_of, is_restore}
 use Rattle.model.specs.Operations.{restoration_of, clone_with, time_of_user}
 use Rattle.model.specs.Cleanup.{floor_of}

@@ -1,23 +1,21 @@
 -- What operations have slots do, after the switch.
 use Rattle.std.proofs.Common.{ℕ, ◌≡◌, ◌≤◌, ◌<◌, List, map, Option, Some, None, true, false, ◌⊎◌, inl, inr, refl, sym, ap, subst, ◌∙◌, arith}
 use Rattle.std.proofs.lemmas.Bool.{true≢false}
-use Rattle.row_values.specs.Ids.{Kind, Namespace, Table, Tablet as TabletKind, Schedule as ScheduleKind, Snapshot, Restoration, Clone, Id, same}
+use Rattle.row_values.specs.Ids.{Id, same}
 use Rattle.row_values.specs.Elements.{In}
 use Rattle.model.specs.Activity.{Interval}
 use Rattle.model.specs.Catalog.{owner_of}
 use Rattle.model.specs.Journal.{Change}
 use Rattle.model.specs.Tablets.{Tablet, BodyKind, RestoreFromKind, HideKind, Mark, is_serving, kind_of, is_done, Command, CopyKind}
 use Rattle.model.specs.Records.{RestorationRecord, RestorationState, Fencing, Snapshotting, Switching, Restoring, Releasing, Restored, CloneRecord, CloneState, Accepted, CloneSnapshot, Copying, CloneReleasing, CloneComplete, is_restored, is_cloned, point_of, IdPair, TabletPair}
-use Rattle.model.specs.Coordination.{pending_of}
 use Rattle.model.specs.Stands.{is_after_switch, AreRowsAt, before_restore, is_restore}
 use Rattle.model.specs.Parts.{Master, Parts}
 use Rattle.law_store.proofs.Keys.{either_way}
 use Rattle.law_invariants.specs.Operations.{Uses, RestorationStateGood}
-use Rattle.law_invariants.specs.Orders.{FencePlace, ClonePlace, IsFence, IsAfter, IsMark, OrdersGood, RestorationSlot, CloneSlot, IsHome, IsTarget, restoring_stage, stage_of_restoration, IsRestored, operations, IsAfterIn, directory, IsFenceIn, IsOrderIn, IsMarkIn, IsCopy}
+use Rattle.law_invariants.specs.Orders.{FencePlace, IsFence, IsAfter, IsMark, OrdersGood, RestorationSlot, CloneSlot, IsHome, IsTarget, restoring_stage, stage_of_restoration, IsRestored, operations, IsAfterIn, directory, IsFenceIn, IsOrderIn, IsMarkIn, IsCopy}
 use Rattle.law_invariants.specs.Invariant.{SlotWorks}
 use Rattle.law_invariants.proofs.Finding.{in_mapped, map_in, same_equal}
 use Rattle.law_invariants.proofs.Working.{before_any}
-use Rattle.law_moves.proofs.Recording.{recorded}
 use Rattle.law_moves.proofs.Pending.{FindsOn, pending_stays, unfinished_restoration_is, unacked_is}
 use Rattle.law_moves.proofs.Moving.{not_yet}
 use Rattle.law_moves.proofs.Entering.{entering, entering_it, entering_other, enters, by_record, found_still}
@@ -74,10 +72,10 @@ after_turned ps activity changes n r point serving_ clock operation kind s h =
     let f = entering r (Restoring point serving_) L in
     let one = s.inv.operations.apart.restoration_ids in
     let restoration : (r' : RestorationRecord) → In r' ((map (entering r (Restoring point serving_) (listed_then ps.master r point serving_)) ps.master.restorations)) → r'.id ≡ operation → r'.to < clock = λ q there. in_mapped {A = RestorationRecord} {B = RestorationRecord} f (λ q. q.id ≡ operation → q.to < clock) m.restorations
-          (λ x isin. by_record (λ x q. q.id ≡ operation → q.to < clock) m r (Restoring point serving_) L x one s.there isin (λ e. h.restoration r s.there e) (λ b e. h.restoration x isin e)) q there in
+    (λ x isin. by_record (λ x q. q.id ≡ operation → q.to < clock) m r (Restoring point serving_) L x one s.there isin (λ e. h.restoration r s.there e) (λ b e. h.restoration x isin e)) q there in
     let point_now : (r' : RestorationRecord) (at : ℕ) → In r' ((map (entering r (Restoring point serving_) (listed_then ps.master r point serving_)) ps.master.restorations)) → r'.id ≡ operation → point_of r'.state ≡ Some at → is_after_switch kind ≡ true → at < clock = λ q at there. in_mapped {A = RestorationRecord} {B = RestorationRecord} f (λ q. q.id ≡ operation → point_of q.state ≡ Some at → is_after_switch kind ≡ true → at < clock) m.restorations
-          (λ x isin. by_record (λ x q. q.id ≡ operation → point_of q.state ≡ Some at → is_after_switch kind ≡ true → at < clock) m r (Restoring point serving_) L x one s.there isin
-          (λ e p k. h.point r at s.there e (ap point_of s.is ∙ p) k) (λ b e p k. h.point x at isin e p k)) q there in
+    (λ x isin. by_record (λ x q. q.id ≡ operation → point_of q.state ≡ Some at → is_after_switch kind ≡ true → at < clock) m r (Restoring point serving_) L x one s.there isin
+    (λ e p k. h.point r at s.there e (ap point_of s.is ∙ p) k) (λ b e p k. h.point x at isin e p k)) q there in
     assumption (restoration, point_now)
 
 mark_turned : (ps : Parts) (activity : List Interval) (changes : List Change) (n : ℕ) (r : RestorationRecord) (point : ℕ) (serving_ : Id) (clock : ℕ) (mark : Mark) → IsSwitch ps activity changes n r point serving_ → IsMark ps.master clock mark
@@ -88,8 +86,8 @@ mark_turned ps activity changes n r point serving_ clock mark s h =
     let f = entering r (Restoring point serving_) L in
     let after_now : IsAfterIn (operations (turned ps.master r point serving_ n)) clock mark.operation mark.kind = after_turned ps activity changes n r point serving_ clock mark.operation mark.kind s h.after in
     let by_restoration : (r' : RestorationRecord) → In r' ((map (entering r (Restoring point serving_) (listed_then ps.master r point serving_)) ps.master.restorations)) → r'.id ≡ mark.operation → restoring_stage mark.kind ≤ stage_of_restoration r'.state = λ q there. in_mapped {A = RestorationRecord} {B = RestorationRecord} f (λ q. q.id ≡ mark.operation → restoring_stage mark.kind ≤ stage_of_restoration q.state) m.restorations
-          (λ x isin. by_record (λ x q. q.id ≡ mark.operation → restoring_stage mark.kind ≤ stage_of_restoration q.state) m r (Restoring point serving_) L x s.inv.operations.apart.restoration_ids s.there isin
-          (λ e. (let l = h.by_restoration r s.there e in let k : stage_of_restoration r.state ≡ 1 = ap stage_of_restoration s.is in omega arith)) (λ b e. h.by_restoration x isin e)) q there in
+    (λ x isin. by_record (λ x q. q.id ≡ mark.operation → restoring_stage mark.kind ≤ stage_of_restoration q.state) m r (Restoring point serving_) L x s.inv.operations.apart.restoration_ids s.there isin
+    (λ e. (let l = h.by_restoration r s.there e in let k : stage_of_restoration r.state ≡ 1 = ap stage_of_restoration s.is in omega arith)) (λ b e. h.by_restoration x isin e)) q there in
     assumption (after_now, by_restoration)
 
 orders_turned : (ps : Parts) (activity : List Interval) (changes : List Change) (n : ℕ) (r : RestorationRecord) (point : ℕ) (serving_ : Id) (slot : ℕ) → IsSwitch ps activity changes n r point serving_ → OrdersGood (turned ps.master r point serving_ n) slot (ps.tablet slot)
@@ -114,9 +112,9 @@ orders_turned ps activity changes n r point serving_ slot s =
     } in
     let fences : (operation : Id) → (ps.tablet slot).fence ≡ Some operation → IsFenceIn (directory (turned ps.master r point serving_ n)) slot (ps.tablet slot).table (ps.tablet slot).done operation = λ operation is. fence_turned ps activity changes n r point serving_ slot operation s (h.fences operation is) in
     let orders : (c : Command) → In c (ps.tablet slot).inbox → IsOrderIn (operations (turned ps.master r point serving_ n)) slot (ps.tablet slot).clock c = λ c isin. (let g = h.orders c isin in record {
-        is_pending = pending_stays m w c.operation slot _ finds g.is_pending;
-        after = after_turned ps activity changes n r point serving_ t.clock c.operation (kind_of c.body) s g.after;
-      }) in
+      is_pending = pending_stays m w c.operation slot _ finds g.is_pending;
+      after = after_turned ps activity changes n r point serving_ t.clock c.operation (kind_of c.body) s g.after;
+    }) in
     let marks : (mark : Mark) → In mark (ps.tablet slot).done → IsMarkIn ps.master.drawn (operations (turned ps.master r point serving_ n)) (ps.tablet slot).clock mark = λ mark isin. mark_turned ps activity changes n r point serving_ t.clock mark s (h.marks mark isin) in
     assumption (fences, orders, marks)
 
@@ -186,8 +184,8 @@ clone_slot (CloneSnapshot own) ps activity changes n r point serving_ c slot t s
 clone_slot (Copying served at) ps activity changes n r point serving_ c slot t s isin unused h =
     let copied : (p : TabletPair) → In p c.tablets → p.slot ≡ slot → is_done t.done c.id CopyKind ≡ true → IsCopy (after r point changes) c at p t = λ p paired is did. (let k = h.copied p paired is did in
     let rows_now : (d : IdPair) → In d c.tables → d.target ≡ p.table → AreRowsAt t.versions p.low p.high at (after r point changes) c.to d.source = λ d listed e. (let z = k.rows d listed e in
-        let other = not_mine ps.master r.namespace c.source d.source ((s.inv.operations.clones c isin).owned d listed) (λ e. unused refl (inl e)) in
-        record { stamps = z.stamps; upserts = z.upserts; rows = λ key ranged. z.rows key ranged ∙ sym (row_other ps.master.catalog.owners changes r.namespace d.source point r.to c.to key s.inv.master.tables.inside other); inside = z.inside }) in
+    let other = not_mine ps.master r.namespace c.source d.source ((s.inv.operations.clones c isin).owned d listed) (λ e. unused refl (inl e)) in
+    record { stamps = z.stamps; upserts = z.upserts; rows = λ key ranged. z.rows key ranged ∙ sym (row_other ps.master.catalog.owners changes r.namespace d.source point r.to c.to key s.inv.master.tables.inside other); inside = z.inside }) in
     assumption rows_now) in
     assumption copied
 clone_slot (CloneReleasing served at) ps activity changes n r point serving_ c slot t s isin unused h = h

@@ -2,7 +2,7 @@
 use Rattle.std.proofs.Common.{ℕ, ◌≡◌, ◌≤◌, ◌+◌, List, [], ◌∷◌, ◌++◌, Option, Some, None, true, false, ◌&&◌, ◌⊎◌, inl, inr, refl, sym, ap, subst, ◌∙◌, arith, not, eqb}
 use Rattle.std.specs.Option.{option_and_then}
 use Rattle.std.proofs.lemmas.Bool.{true≢false}
-use Rattle.row_values.specs.Ids.{Kind, Namespace, Table, Tablet as TabletKind, Schedule as ScheduleKind, Snapshot, Restoration, Clone, Id, same}
+use Rattle.row_values.specs.Ids.{Kind, Snapshot, Restoration, Clone, Id, same}
 use Rattle.row_values.specs.Elements.{In}
 use Rattle.model.specs.Journal.{Change}
 use Rattle.model.specs.Tablets.{Mark}

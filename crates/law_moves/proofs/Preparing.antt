@@ -9,7 +9,7 @@ use Rattle.model.specs.Activity.{Interval, active_within}
 use Rattle.model.specs.Catalog.{owner_of}
 use Rattle.model.specs.Journal.{Change}
 use Rattle.model.specs.Tablets.{FreezeKind}
-use Rattle.model.specs.Records.{Listed, SnapshotRecord, RestorationRecord, RestorationState, Fencing, Snapshotting, Switching, Restoring, Releasing, Restored, is_restored, point_of}
+use Rattle.model.specs.Records.{Listed, SnapshotRecord, RestorationRecord, RestorationState, Fencing, Snapshotting, Switching, Restored, is_restored, point_of}
 use Rattle.model.specs.Schedules.{serving}
 use Rattle.model.specs.Stands.{awaited_of}
 use Rattle.model.specs.Lists.{next_snapshot, new_snapshot}

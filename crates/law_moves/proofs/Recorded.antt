@@ -15,7 +15,7 @@ use Rattle.model.specs.Records.{Listed, SnapshotRecord, RestorationRecord, Resto
 use Rattle.model.specs.Cleanup.{floor_of}
 use Rattle.model.specs.Parts.{Master, Parts}
 use Rattle.law_store.proofs.Keys.{either_way}
-use Rattle.law_invariants.specs.Operations.{Uses, IsKnown, IsListed, SnapshotGood, IsServing, IsPoint, BeforePoint, IsAfterSwitch, IsComing, RestorationStateGood, RestorationGood, CloneStateGood, CloneGood, OperationsGood, PairIn, IsSource, IsReserved}
+use Rattle.law_invariants.specs.Operations.{Uses, IsKnown, IsListed, SnapshotGood, IsPoint, BeforePoint, IsAfterSwitch, IsComing, RestorationStateGood, RestorationGood, CloneStateGood, CloneGood, OperationsGood, PairIn, IsSource, IsReserved}
 use Rattle.law_invariants.proofs.Finding.{in_mapped, map_in, filter_in, same_equal, both_pass, passes_both}
 use Rattle.law_invariants.proofs.Ticking.{not_true}
 use Rattle.law_moves.proofs.Staying.{schedule_on, scheduled_on}
@@ -47,19 +47,19 @@ snapshot_turned ps activity changes n r point serving_ q s isin floors =
     let good = good_yet ps activity changes n r point serving_ s in
     let past : q.at ≤ n = le_trans h.past (le_of_lt s.before) in
     let listed_of : (l : Listed) (i : Interval) → In l q.listed → In i (activity_then ps.master r point) → i.tablet ≡ l.tablet → (owner_of ps.master.catalog.owners i.table ≡ Some q.namespace) × (i.slot ≡ l.slot) = λ l j lists there e. (
-          let o = origin m r point j there in
-          let k = h.listed_of l o.was lists o.kept (o.tablet_is ∙ e) in
-          (ap (owner_of m.catalog.owners) (sym o.table_is) ∙ k.0, sym o.slot_is ∙ k.1)) in
+    let o = origin m r point j there in
+    let k = h.listed_of l o.was lists o.kept (o.tablet_is ∙ e) in
+    (ap (owner_of m.catalog.owners) (sym o.table_is) ∙ k.0, sym o.slot_is ∙ k.1)) in
     let known : q.complete ≡ false → (l : Listed) → In l q.listed → IsKnown (turned ps.master r point serving_ n) l = λ unfinished l lists. known_turned m r point serving_ n l (h.known unfinished l lists) in
     let lists_now : (i : Interval) → In i (activity_then ps.master r point) → owner_of ps.master.catalog.owners i.table ≡ Some q.namespace → active_within q.after q.at i ≡ true → IsListed q.listed i = λ j there owner within. interval_is (λ j. owner_of m.catalog.owners j.table ≡ Some q.namespace → active_within q.after q.at j ≡ true → IsListed q.listed j) m r point
-          (λ i i_in owner within. (
-          let b = both_pass (leb i.from q.at) (before_end (q.after + 1) (ended_in m.catalog.owners r.namespace point i).to) within in
-          let k = h.lists i i_in owner (passes_both (leb i.from q.at) (before_end (q.after + 1) i.to) b.0 (ended_weaker (owns m.catalog.owners r.namespace i.table) (q.after + 1) point i.to b.1)) in
-          record { line = k.line; listed = k.listed; tablet_is = k.tablet_is; slot_is = k.slot_is }))
-          (λ i i_in mine active owner within. absurd (
-          let z : Some q.namespace ≡ Some r.namespace = sym owner ∙ mine in
-          let l : q.at < point = good.is_point.snapshots q isin (let e : q.namespace ≡ r.namespace = cc in e) in
-          let f = leb-true point q.at (both_pass (leb point q.at) true within).0 in omega arith)) j there owner within in
+    (λ i i_in owner within. (
+    let b = both_pass (leb i.from q.at) (before_end (q.after + 1) (ended_in m.catalog.owners r.namespace point i).to) within in
+    let k = h.lists i i_in owner (passes_both (leb i.from q.at) (before_end (q.after + 1) i.to) b.0 (ended_weaker (owns m.catalog.owners r.namespace i.table) (q.after + 1) point i.to b.1)) in
+    record { line = k.line; listed = k.listed; tablet_is = k.tablet_is; slot_is = k.slot_is }))
+    (λ i i_in mine active owner within. absurd (
+    let z : Some q.namespace ≡ Some r.namespace = sym owner ∙ mine in
+    let l : q.at < point = good.is_point.snapshots q isin (let e : q.namespace ≡ r.namespace = cc in e) in
+    let f = leb-true point q.at (both_pass (leb point q.at) true within).0 in omega arith)) j there owner within in
     let reached : (q.after < floor_of (turned ps.master r point serving_ n) q.namespace n) ⊎ ((q' : SnapshotRecord) × (In q' ps.master.snapshots × ((q'.namespace ≡ q.namespace) × ((q'.at ≡ q.after) × (q'.complete ≡ true))))) = elim h.reached [ inl l ↦ inl (lt_of_lt_of_le l floors) | inr k ↦ inr k ] in
     assumption (past, listed_of, known, lists_now, reached)
 
@@ -287,28 +287,28 @@ clone_turned ps activity changes n r point serving_ c s isin =
     let past : c.to < n = lt_of_lt_of_le h.past (le_of_lt s.before) in
     let pairs : (p : TabletPair) → In p c.tablets → PairIn ps.master.slots ps.master.drawn ps.master.catalog.owners c p = λ p paired. (let g = h.pairs p paired in g) in
     let sources : is_cloned c.state ≡ false → (p : TabletPair) → In p c.tablets → IsSource (turned ps.master r point serving_ n) c p = λ open_ p paired. (let k = h.sources open_ p paired in record {
-        interval = k.interval;
-        kept = other_stays m r point k.interval k.kept (not_mine m r.namespace c.source k.interval.table k.owned (λ e. unused open_ (inl e)));
-        tablet_is = k.tablet_is;
-        slot_is = k.slot_is;
-        low_is = k.low_is;
-        high_is = k.high_is;
-        active = k.active;
-        owned = k.owned;
-        pair = k.pair;
-        paired = k.paired;
-        source_is = k.source_is;
-        target_is = k.target_is;
-      }) in
+      interval = k.interval;
+      kept = other_stays m r point k.interval k.kept (not_mine m r.namespace c.source k.interval.table k.owned (λ e. unused open_ (inl e)));
+      tablet_is = k.tablet_is;
+      slot_is = k.slot_is;
+      low_is = k.low_is;
+      high_is = k.high_is;
+      active = k.active;
+      owned = k.owned;
+      pair = k.pair;
+      paired = k.paired;
+      source_is = k.source_is;
+      target_is = k.target_is;
+    }) in
     let reserved : is_visible c.state ≡ false → (p : TabletPair) → In p c.tablets → IsReserved (turned ps.master r point serving_ n) p = λ unseen p paired. (let k = h.reserved unseen p paired in record {
-        free = λ j there at. (let o = origin m r point j there in k.free o.was o.kept (o.slot_is ∙ at));
-        unknown = λ j there e. (let o = origin m r point j there in k.unknown o.was o.kept (o.tablet_is ∙ e));
-        no_snapshot = k.no_snapshot;
-        no_restoration = λ q l there. in_mapped {A = RestorationRecord} {B = RestorationRecord} (entering r (Restoring point serving_) (listed_then m r point serving_)) (λ q. In l q.listed → l.tablet ≡ p.target → ⊥) m.restorations
-            (λ x x_in. by_record (λ x q. In l q.listed → l.tablet ≡ p.target → ⊥) m r (Restoring point serving_) (listed_then m r point serving_) x one s.there x_in
-            (λ lists e. (let z = line_is m r point serving_ l lists in k.unknown z.interval z.kept (ap (λ y. y.tablet) z.is ∙ e)))
-            (λ b lists e. k.no_restoration x l x_in lists e)) q there;
-      }) in
+      free = λ j there at. (let o = origin m r point j there in k.free o.was o.kept (o.slot_is ∙ at));
+      unknown = λ j there e. (let o = origin m r point j there in k.unknown o.was o.kept (o.tablet_is ∙ e));
+      no_snapshot = k.no_snapshot;
+      no_restoration = λ q l there. in_mapped {A = RestorationRecord} {B = RestorationRecord} (entering r (Restoring point serving_) (listed_then m r point serving_)) (λ q. In l q.listed → l.tablet ≡ p.target → ⊥) m.restorations
+          (λ x x_in. by_record (λ x q. In l q.listed → l.tablet ≡ p.target → ⊥) m r (Restoring point serving_) (listed_then m r point serving_) x one s.there x_in
+          (λ lists e. (let z = line_is m r point serving_ l lists in k.unknown z.interval z.kept (ap (λ y. y.tablet) z.is ∙ e)))
+          (λ b lists e. k.no_restoration x l x_in lists e)) q there;
+    }) in
     let no_tablet : is_visible c.state ≡ false → (i : Interval) → In i (activity_then ps.master r point) → owner_of ps.master.catalog.owners i.table ≡ Some c.target_id → ⊥ = λ unseen j there owner. (let o = origin m r point j there in h.no_tablet unseen o.was o.kept (ap (owner_of m.catalog.owners) o.table_is ∙ owner)) in
     let no_table : is_visible c.state ≡ false → (r' : TableRecord) → In r' (restored_tables ps.master.catalog.tables r.namespace r.to point) → r'.namespace ≡ c.target_id → ⊥ = λ unseen t there named. h.no_table unseen t (table_was m r point c.target_id t (λ e. unused (visible_later c.state unseen) (inr e)) there named) named in
     let unfixed : is_cloned c.state ≡ false → (to : ℕ) → is_fixed (after r point changes) c.target_id to ≡ true → ⊥ = λ open_ to fixed. elim (fixed_is r point changes c.target_id to fixed) [ inl k ↦ unused open_ (inr k.0) | inr old ↦ h.unfixed open_ to old ] in

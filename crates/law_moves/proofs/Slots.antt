@@ -1,18 +1,18 @@
 -- What holds of slots goes on to hold while records of operations are made, move or go.
 use Rattle.model.specs.Times.{ended_by}
-use Rattle.std.proofs.Common.{ℕ, ◌≡◌, ◌≤◌, List, [], ◌∷◌, Some, None, Bool, true, false, ◌||◌, ◌⊎◌, inl, inr, refl, sym, ap, subst, ◌∙◌, arith, le_trans}
+use Rattle.std.proofs.Common.{ℕ, ◌≡◌, ◌≤◌, List, [], ◌∷◌, Some, None, Bool, true, false, ◌||◌, inl, inr, refl, sym, ap, subst, ◌∙◌, arith, le_trans}
 use Rattle.std.proofs.lemmas.Bool.{true≢false}
 use Rattle.row_values.specs.Ids.{Table, Tablet as TabletKind, Id, same}
 use Rattle.row_values.specs.Elements.{In}
 use Rattle.model.specs.Activity.{Interval}
 use Rattle.model.specs.Journal.{Change}
-use Rattle.model.specs.Tablets.{Tablet, Presence, EmptyPart, ServingPart, HiddenPart, BodyKind, FenceKind, FreezeKind, RestoreFromKind, HideKind, CopyKind, ReleaseKind, Mark, is_empty, is_serving, is_mark, is_done, kind_of, set_of}
-use Rattle.model.specs.Records.{SnapshotRecord, RestorationRecord, RestorationState, Fencing, Snapshotting, Switching, Restoring, Releasing, Restored, CloneRecord, CloneState, Accepted, CloneSnapshot, Copying, CloneReleasing, CloneComplete}
+use Rattle.model.specs.Tablets.{Presence, EmptyPart, HiddenPart, BodyKind, FreezeKind, RestoreFromKind, HideKind, ReleaseKind, Mark, is_empty, is_serving, is_mark, is_done, kind_of, set_of}
+use Rattle.model.specs.Records.{SnapshotRecord, RestorationRecord}
 use Rattle.model.specs.Stands.{is_after_switch, awaited_in, awaited_of}
 use Rattle.model.specs.Drawn.{drawn_of}
 use Rattle.model.specs.Parts.{Master, Parts}
 use Rattle.law_store.proofs.Keys.{either_way}
-use Rattle.law_invariants.specs.Orders.{IsAfter, IsMark, OrdersGood, RestorationSlot, CloneSlot, IsHome, IsTarget, ObeyedGood, restoring_stage, stage_of_restoration, directory}
+use Rattle.law_invariants.specs.Orders.{IsAfter, IsMark, OrdersGood, ObeyedGood, restoring_stage, stage_of_restoration, directory}
 use Rattle.law_invariants.specs.Invariant.{IsGood, SlotGood, Inv, is_awaited, IsPast, TurnsAt, ComesFrom, StandsIn, IsGoodIn, TakesWritesIn}
 use Rattle.law_invariants.proofs.Finding.{both_pass, same_equal}
 use Rattle.law_invariants.proofs.Ticking.{past_later}
@@ -30,9 +30,9 @@ good_on ps changes w slot i o g =
     let drawn_table : i.table.number ≤ w.drawn.tables = le_trans g.drawn_table (o.drawn Table) in
     let waits_now : (point : ℕ) → awaited_in w.restorations (ps.tablet slot).tablet (ps.tablet slot).done ≡ Some point → TurnsAt point i.from i.to = λ point waits. g.waits point (sym same_ ∙ waits) in
     let comes : (r : RestorationRecord) (point : ℕ) → In r w.restorations → awaited_of r.state r (ps.tablet slot).tablet (ps.tablet slot).done ≡ Some point → i.to ≡ None → ComesFrom changes r.namespace i point r.to = λ r point there awaits opened. elim (o.restoration_came r there) [
-        | inl old ↦ g.comes r point old awaits opened
-        | inr came ↦ absurd (let q : None ≡ Some point = sym (came.unawaited t.tablet t.done) ∙ awaits in grind arith)
-      ] in
+      | inl old ↦ g.comes r point old awaits opened
+      | inr came ↦ absurd (let q : None ≡ Some point = sym (came.unawaited t.tablet t.done) ∙ awaits in grind arith)
+    ] in
     let serves : i.to ≡ None → awaited_in w.restorations (ps.tablet slot).tablet (ps.tablet slot).done ≡ None → is_serving (ps.tablet slot).presence ≡ true = λ opened settled. g.serves opened (sym same_ ∙ settled) in
     let hidden : (at : ℕ) → (ps.tablet slot).presence ≡ HiddenPart at → is_awaited (awaited_in w.restorations (ps.tablet slot).tablet (ps.tablet slot).done) i.to ≡ false → ended_by at i.to ≡ true = λ at is came. g.hidden at is (ap (λ a. is_awaited a i.to) (sym same_) ∙ came) in
     let stands : is_awaited (awaited_in w.restorations (ps.tablet slot).tablet (ps.tablet slot).done) i.to ≡ false → StandsIn (ps.tablet slot) changes i = λ counted. g.stands (ap (λ a. is_awaited a i.to) (sym same_) ∙ counted) in
@@ -48,13 +48,13 @@ slot_on ps changes w slot o h =
     let numbered : (ps.tablet slot).tablet.number ≤ w.drawn.tablets = le_trans h.numbered (o.drawn TabletKind) in
     let each : (i : Interval) → In i ps.master.activity → i.slot ≡ slot → IsGoodIn w.clock ps.master.slots (directory (recorded ps.master w)) changes (ps.tablet slot) i = λ i isin is. good_on ps changes w slot i o (h.each i isin is) in
     let opens : is_serving (ps.tablet slot).presence ≡ true → (ps.tablet slot).fence ≡ None → TakesWritesIn ps.master.activity w.restorations slot (ps.tablet slot) = λ serving unfenced. (let k = h.opens serving unfenced in record {
-    interval = k.interval;
-    listed = k.listed;
-    slot_is = k.slot_is;
-    opened = k.opened;
-    begun = k.begun;
-    settled = o.awaits slot (serving_present t.presence serving) ∙ k.settled;
-  }) in
+      interval = k.interval;
+      listed = k.listed;
+      slot_is = k.slot_is;
+      opened = k.opened;
+      begun = k.begun;
+      settled = o.awaits slot (serving_present t.presence serving) ∙ k.settled;
+    }) in
     assumption (numbered, each, opens)
 
 -- Commands and marks

@@ -11,7 +11,7 @@ use Rattle.model.specs.Restored.{begun_at, end_namespace_tablets, restored_activ
 use Rattle.model.specs.Journal.{Change}
 use Rattle.model.specs.Lists.{once, intervals_in, active_tablets, tablets_active_at}
 use Rattle.model.specs.Tablets.{RestoreFrom, Hide, RestoreFromKind, Mark, is_done}
-use Rattle.model.specs.Records.{Listed, RestorationRecord, RestorationState, Fencing, Snapshotting, Switching, Restoring, Releasing, Restored, is_restored, point_of, unsent}
+use Rattle.model.specs.Records.{Listed, RestorationRecord, RestorationState, Switching, Restoring, is_restored, point_of, unsent}
 use Rattle.model.specs.Stands.{awaited_in, awaited_of, first_of_two, is_restore}
 use Rattle.model.specs.Parts.{Master, Parts}
 use Rattle.law_store.proofs.Keys.{either_way}

@@ -1,6 +1,0 @@
-pub mod Entries
-pub mod Names
-pub mod Chains
-pub mod Counts
-pub mod Spaces
-pub mod Found

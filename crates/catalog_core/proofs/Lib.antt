@@ -1,0 +1,6 @@
+pub mod Entries
+pub mod Names
+pub mod Chains
+pub mod Counts
+pub mod Spaces
+pub mod Found

@@ -1,0 +1,222 @@
+ghost use Rattle.std.specs.Prelude.{◌≡◌, ◌≤◌, ◌+◌, None, true, [], ◌∷◌, ◌++◌, length, filter, OnOk};
+ghost use Rattle.std.specs.Option.{option_copied};
+ghost use Rattle.model.specs.Times.{is_open};
+ghost use Rattle.model.specs.Catalog.{Catalog, TableRecord, empty_catalog, namespace_named, name_of, current_named, current_table, current_tables, table_named, latest, kept_from, set_kept_from, owner_of, namespace_added, namespace_ended, table_added, table_ended};
+ghost use Rattle.catalog_core.specs.Kept.{ends_by};
+
+use crate::marks::Marks;
+use crate::namespaces::Namespaces;
+use crate::owners::Owners;
+use crate::records::{NamespaceRecord, TableRecord};
+use crate::tables::Tables;
+use hybrid_time::HybridTime;
+use row_values::{Name, NoMemory};
+use std::alloc::Global;
+use std::marker::Model;
+use table_schema::Schema;
+use yb_ident::Ident;
+
+/// The master's catalog. Contracts see the book's, and for how many more records of each kind there is room.
+#[derive(Drop)]
+pub struct Catalog {
+    namespaces: Namespaces,
+    tables: Tables,
+    kept_from: Marks,
+    owners: Owners,
+}
+
+impl Model for Catalog {
+    ghost use Rattle.std.specs.Prelude.{min};
+    ghost use Rattle.catalog_core.specs.Kept.{CatalogView};
+
+    ghost Value = { CatalogView };
+
+    ghost view = { λ c. record {
+      catalog = record {
+        namespaces = c.namespaces.items;
+        tables = c.tables.items;
+        kept_from = c.kept_from.items;
+        owners = c.owners.items;
+      };
+      room = min (min c.namespaces.room c.kept_from.room) (min c.tables.room c.owners.room);
+    } };
+}
+
+impl Catalog {
+    /// The empty catalog, which takes no memory.
+    pub fn new(alloc: Global) -> Catalog
+        ensures { result ≡ record { catalog = empty_catalog; room = 0 } }
+    {
+        Catalog {
+            namespaces: Namespaces::new(alloc),
+            tables: Tables::new(alloc),
+            kept_from: Marks::new(alloc),
+            owners: Owners::new(alloc),
+        }
+    }
+
+    /// The current namespace of a name.
+    pub fn namespace_named(&self, name: &Name) -> Option<Ident>
+        ensures { result ≡ namespace_named self.now.catalog.namespaces name.now }
+    {
+        self.namespaces.namespace_named(name)
+    }
+
+    /// The name of a current namespace.
+    pub fn name_of(&self, id: &Ident) -> Option<&Name>
+        ensures { option_copied result ≡ name_of self.now.catalog.namespaces id.now }
+    {
+        self.namespaces.name_of(id)
+    }
+
+    /// How many namespaces are current. The count is kept.
+    pub fn count_namespaces(&self) -> usize
+        ensures { result ≡ length (filter (λ r. is_open r.to) self.now.catalog.namespaces) }
+    {
+        self.namespaces.count()
+    }
+
+    /// The current table of a name in a namespace.
+    pub fn current_named(&self, namespace: &Ident, name: &Name) -> Option<&TableRecord>
+        ensures { option_copied result ≡ current_named self.now.catalog.tables namespace.now name.now }
+    {
+        self.tables.current_named(namespace, name)
+    }
+
+    /// The table that had a name at a time. It passes the records of the name that began later, and no other.
+    pub fn table_named(&self, namespace: &Ident, name: &Name, x: HybridTime) -> Option<&TableRecord>
+        ensures { option_copied result ≡ table_named self.now.catalog.tables namespace.now name.now x }
+    {
+        self.tables.table_named(namespace, name, x)
+    }
+
+    /// The current record of a table.
+    pub fn current_table(&self, id: &Ident) -> Option<&TableRecord>
+        ensures { option_copied result ≡ current_table self.now.catalog.tables id.now }
+    {
+        self.tables.current_table(id)
+    }
+
+    /// The schema of the newest kept record of a table.
+    pub fn latest(&self, id: &Ident) -> Option<&Schema>
+        ensures { option_copied result ≡ latest self.now.catalog.tables id.now }
+    {
+        self.tables.latest(id)
+    }
+
+    /// How many tables of a namespace are current. The counts are kept.
+    pub fn count_tables(&self, namespace: &Ident) -> usize
+        ensures { result ≡ length (current_tables self.now.catalog.tables namespace.now) }
+    {
+        self.tables.count(namespace)
+    }
+
+    /// The stamp below which the catalog of a namespace is not kept.
+    pub fn kept_from(&self, namespace: &Ident) -> HybridTime
+        ensures { result ≡ kept_from self.now.catalog.kept_from namespace.now }
+    {
+        self.kept_from.kept_from(namespace)
+    }
+
+    /// The namespace in which a table was made.
+    pub fn owner_of(&self, table: &Ident) -> Option<Ident>
+        ensures { result ≡ owner_of self.now.catalog.owners table.now }
+    {
+        self.owners.owner_of(table)
+    }
+
+    /// Whether no record of a table ends after a time. It goes through all of them.
+    pub fn ends_by(&self, at: HybridTime) -> bool
+        ensures { result ≡ ends_by at self.now.catalog.tables }
+    {
+        self.tables.ends_by(at)
+    }
+
+    /// Makes room for so many more records of each kind.
+    pub fn prepare(&mut self, count: usize) -> Result<(), NoMemory>
+        ensures catalog { self.new.catalog ≡ self.old.catalog }
+        ensures room { OnOk result (count ≤ self.new.room) }
+    {
+        self.namespaces.prepare(count)?;
+        self.kept_from.prepare(count)?;
+        self.tables.prepare(count)?;
+        self.owners.prepare(count)?;
+        Ok(())
+    }
+
+    /// A new namespace, in the room that was made. Its catalog is kept from its beginning on.
+    pub fn add_namespace(&mut self, namespace: NamespaceRecord)
+        requires room { 1 ≤ self.old.room }
+        requires current { namespace.to ≡ None }
+        requires free { namespace_named self.old.catalog.namespaces namespace.name ≡ None }
+        requires fresh { name_of self.old.catalog.namespaces namespace.id ≡ None }
+        ensures catalog { self.new.catalog ≡ namespace_added namespace self.old.catalog }
+        ensures room { self.old.room ≤ self.new.room + 1 }
+    {
+        self.kept_from.set(namespace.id, namespace.from);
+        self.namespaces.add(namespace);
+    }
+
+    /// The current record of a namespace ends, if there is one. It takes no memory.
+    pub fn end_namespace(&mut self, id: &Ident, at: HybridTime)
+        ensures catalog { self.new.catalog ≡ namespace_ended id.now at self.old.catalog }
+        ensures room { self.new.room ≡ self.old.room }
+    {
+        self.namespaces.end(id, at);
+    }
+
+    /// A new table that its namespace owns, in the room that was made.
+    pub fn add_table(&mut self, table: TableRecord)
+        requires room { 1 ≤ self.old.room }
+        requires current { table.to ≡ None }
+        requires past { ends_by table.from self.old.catalog.tables ≡ true }
+        requires free { current_named self.old.catalog.tables table.namespace table.name ≡ None }
+        requires fresh { current_table self.old.catalog.tables table.id ≡ None }
+        requires unowned { owner_of self.old.catalog.owners table.id ≡ None }
+        ensures catalog { self.new.catalog ≡ table_added table self.old.catalog }
+        ensures room { self.old.room ≤ self.new.room + 1 }
+    {
+        self.owners.add(table.id, table.namespace);
+        self.tables.add(table);
+    }
+
+    /// The record of a table whose owner is known, as a clone begins them, in the room that was made.
+    pub fn begin_table(&mut self, table: TableRecord)
+        requires room { 1 ≤ self.old.room }
+        requires current { table.to ≡ None }
+        requires past { ends_by table.from self.old.catalog.tables ≡ true }
+        requires free { current_named self.old.catalog.tables table.namespace table.name ≡ None }
+        requires fresh { current_table self.old.catalog.tables table.id ≡ None }
+        ensures catalog { self.new.catalog ≡ record self.old.catalog { tables = self.old.catalog.tables ++ table ∷ [] } }
+        ensures room { self.old.room ≤ self.new.room + 1 }
+    {
+        self.tables.add(table);
+    }
+
+    /// The current record of a table ends, if there is one. It takes no memory.
+    pub fn end_table(&mut self, id: &Ident, at: HybridTime)
+        ensures catalog { self.new.catalog ≡ table_ended id.now at self.old.catalog }
+        ensures room { self.new.room ≡ self.old.room }
+    {
+        self.tables.end(id, at);
+    }
+
+    /// The namespace of a table that is yet to be made, in the room that was made.
+    pub fn add_owner(&mut self, table: Ident, namespace: Ident)
+        requires room { 1 ≤ self.old.room }
+        requires unowned { owner_of self.old.catalog.owners table ≡ None }
+        ensures catalog { self.new.catalog ≡ record self.old.catalog { owners = self.old.catalog.owners ++ record { table = table; namespace = namespace } ∷ [] } }
+        ensures room { self.old.room ≤ self.new.room + 1 }
+    {
+        self.owners.add(table, namespace);
+    }
+
+    /// Sets the mark of a namespace, or raises it, in the room that was made.
+    pub fn set_kept_from(&mut self, namespace: Ident, from: HybridTime)
+        requires room { 1 ≤ self.old.room }
+        ensures catalog { self.new.catalog ≡ record self.old.catalog { kept_from = set_kept_from self.old.catalog.kept_from namespace from } }
+        ensures room { self.old.room ≤ self.new.room + 1 }
+    {
+        self.kept_from.set(namespace, from);
+    }
+}

@@ -1,0 +1,366 @@
+ghost use Rattle.std.specs.Prelude.{◌≡◌, ◌≤◌, ◌<◌, ◌-◌, ◌+◌, ◌^◌, nat_eq, true, None, [], ◌∷◌, ◌++◌, map, length, OnOk, vec_len, vec_capacity, slice_get, Some};
+ghost use Rattle.std.specs.Option.{option_copied};
+ghost use Rattle.indexmap.specs.IndexMap.{spare};
+ghost use Rattle.newest_index.specs.Newest.{Indexes, last_place, open_at, record_of, if_open, changed_at};
+ghost use Rattle.row_values.specs.Ids.{Id, same};
+ghost use Rattle.model.specs.Catalog.{TableRecord, current_named, current_table, current_tables, table_named, latest, end_table};
+ghost use Rattle.catalog_core.specs.Codes.{table_code, code_in};
+ghost use Rattle.catalog_core.specs.Kept.{is_current_table, table_closed, stood_at, is_sought, begun_by, over_or_open, ends_by, namespace_of, is_named, one_if, count_in};
+
+use crate::codes::name_code;
+use crate::keys::keys_agree;
+use crate::records::TableRecord;
+use hybrid_time::HybridTime;
+use indexmap::IndexMap;
+use newest_index::NewestIndex;
+use row_values::{Name, NoMemory};
+use std::alloc::Global;
+use std::marker::Model;
+use table_schema::Schema;
+use yb_ident::Ident;
+
+/// The records of tables. Contracts see the book's list, and for how many more there is room.
+#[derive(Drop)]
+pub struct Tables {
+    records: Vec<TableRecord>,
+    named: NewestIndex<u64>,
+    by_id: NewestIndex<Ident>,
+    counts: IndexMap<Ident, usize>,
+    room: usize,
+}
+
+impl Model for Tables {
+    ghost use Rattle.std.specs.Prelude.{◌≡◌, ◌≤◌, ◌-◌, nat_eq, map, length, vec_len, vec_capacity};
+    ghost use Rattle.indexmap.specs.IndexMap.{spare};
+    ghost use Rattle.newest_index.specs.Newest.{Indexes, InTurn};
+    ghost use Rattle.row_values.specs.Ids.{Id};
+    ghost use Rattle.model.specs.Catalog.{TableRecord, current_tables};
+    ghost use Rattle.catalog_core.specs.Codes.{table_code};
+    ghost use Rattle.catalog_core.specs.Kept.{Roomy, table_id, same_table_name, same_table_id, table_over, count_in};
+
+    ghost Value = { Roomy TableRecord };
+
+    ghost view = { λ t. record { items = t.records.items; room = t.room } };
+
+    ghost invariant = { λ t. record {
+      named : Indexes nat_eq t.named.places t.named.earlier.items (map table_code t.records.items);
+      by_id : Indexes ⟦<Ident as PartialEq>⟧.eq t.by_id.places t.by_id.earlier.items (map table_id t.records.items);
+      names : InTurn same_table_name table_over t.records.items;
+      ids : InTurn same_table_id table_over t.records.items;
+      counted : (ns : Id) → count_in ⟦<Ident as PartialEq>⟧.eq t.counts ns ≡ length (current_tables t.records.items ns);
+      records_room : t.room ≤ vec_capacity t.records - vec_len t.records;
+      named_room : t.room ≤ spare t.named.places;
+      named_links : t.room ≤ vec_capacity t.named.earlier - vec_len t.named.earlier;
+      by_id_room : t.room ≤ spare t.by_id.places;
+      by_id_links : t.room ≤ vec_capacity t.by_id.earlier - vec_len t.by_id.earlier;
+      counts_room : t.room ≤ spare t.counts;
+    } };
+}
+
+impl Tables {
+    /// That of no table, which takes no memory.
+    pub fn new(alloc: Global) -> Tables
+        ensures { result ≡ record { items = []; room = 0 } }
+    {
+        Tables {
+            records: Vec::new(alloc),
+            named: NewestIndex::new(alloc),
+            by_id: NewestIndex::new(alloc),
+            counts: IndexMap::new(alloc),
+            room: 0,
+        }
+    }
+
+    /// The current table of a name.
+    pub fn current_named(&self, namespace: &Ident, name: &Name) -> Option<&TableRecord>
+        ensures { option_copied result ≡ current_named self.now.items namespace.now name.now }
+    {
+        keys_agree();
+        let place = place_named(&self.records, &self.named, namespace, name, &None);
+        current_at(&self.records, place)
+    }
+
+    /// The table that had a name at a time. It passes the records of the name that began later, and no other.
+    pub fn table_named(&self, namespace: &Ident, name: &Name, x: HybridTime) -> Option<&TableRecord>
+        ensures { option_copied result ≡ table_named self.now.items namespace.now name.now x }
+    {
+        keys_agree();
+        let place = place_named(&self.records, &self.named, namespace, name, &Some(x));
+        held_at(&self.records, place, x)
+    }
+
+    /// The current record of a table.
+    pub fn current_table(&self, id: &Ident) -> Option<&TableRecord>
+        ensures { option_copied result ≡ current_table self.now.items id.now }
+    {
+        keys_agree();
+        let place = self.by_id.newest(id);
+        current_at(&self.records, place)
+    }
+
+    /// The schema of the newest kept record of a table.
+    pub fn latest(&self, id: &Ident) -> Option<&Schema>
+        ensures { option_copied result ≡ latest self.now.items id.now }
+    {
+        keys_agree();
+        let place = self.by_id.newest(id);
+        match record_at(&self.records, place) {
+            Some(record) => Some(&record.schema),
+            None => None,
+        }
+    }
+
+    /// How many tables of a namespace are current.
+    pub fn count(&self, namespace: &Ident) -> usize
+        ensures { result ≡ length (current_tables self.now.items namespace.now) }
+    {
+        match self.counts.get(namespace) {
+            Some(count) => *count,
+            None => 0,
+        }
+    }
+
+    /// Whether no record ends after a time. It goes through all records.
+    pub fn ends_by(&self, at: HybridTime) -> bool
+        ensures { result ≡ ends_by at self.now.items }
+    {
+        for table in &self.records {
+            if !is_over_or_open(table, at) {
+                return false;
+            }
+        }
+        true
+    }
+
+    /// The records, the oldest first.
+    pub fn records(&self) -> &[TableRecord]
+        ensures { result.now ≡ self.now.items }
+    {
+        self.records.as_slice()
+    }
+
+    /// Makes room for so many more records.
+    pub fn prepare(&mut self, count: usize) -> Result<(), NoMemory>
+        ensures kept { self.new.items ≡ self.old.items }
+        ensures room { OnOk result (count ≤ self.new.room) }
+        ensures no_less { self.old.room ≤ self.new.room }
+    {
+        if count > self.room {
+            self.records.reserve(count)?;
+            self.named.prepare_for(count)?;
+            self.by_id.prepare_for(count)?;
+            self.counts.reserve(count)?;
+            self.room = count;
+        }
+        Ok(())
+    }
+
+    /// Takes in a record that is current, in the room that was made. No other record ends after it begins.
+    pub fn add(&mut self, table: TableRecord)
+        requires room { 1 ≤ self.old.room }
+        requires current { table.to ≡ None }
+        requires past { ends_by table.from self.old.items ≡ true }
+        requires free { current_named self.old.items table.namespace table.name ≡ None }
+        requires fresh { current_table self.old.items table.id ≡ None }
+        ensures items { self.new.items ≡ self.old.items ++ table ∷ [] }
+        ensures room { self.new.room ≡ self.old.room - 1 }
+    {
+        keys_agree();
+        self.room -= 1;
+        self.named.note(code_in(&table.namespace, &table.name));
+        self.by_id.note(table.id);
+        raise_count(&mut self.counts, table.namespace);
+        self.records.push(table).unwrap();
+    }
+
+    /// The current record of a table ends, if there is one. It takes no memory.
+    pub fn end(&mut self, id: &Ident, at: HybridTime)
+        ensures items { self.new.items ≡ end_table id.now at self.old.items }
+        ensures room { self.new.room ≡ self.old.room }
+    {
+        keys_agree();
+        let place = self.by_id.newest(id);
+        let namespace = end_place(&mut self.records, place, at);
+        lower_count(&mut self.counts, namespace);
+    }
+}
+
+// The record of a place.
+fn record_at(records: &Vec<TableRecord>, place: Option<usize>) -> Option<&TableRecord>
+    ensures { option_copied result ≡ record_of records.now.items place }
+{
+    match place {
+        None => None,
+        Some(place) => records.get(place),
+    }
+}
+
+// The record of a place, if it is current.
+fn current_at(records: &Vec<TableRecord>, place: Option<usize>) -> Option<&TableRecord>
+    ensures { option_copied result ≡ open_at is_current_table records.now.items place }
+{
+    match place {
+        None => None,
+        Some(place) => match records.get(place) {
+            None => None,
+            Some(record) => {
+                if record.to.is_none() {
+                    Some(record)
+                } else {
+                    None
+                }
+            }
+        },
+    }
+}
+
+// The record of a place, if it had not ended by a time.
+fn held_at(records: &Vec<TableRecord>, place: Option<usize>, x: HybridTime) -> Option<&TableRecord>
+    ensures { option_copied result ≡ open_at (stood_at x) records.now.items place }
+{
+    match place {
+        None => None,
+        Some(place) => match records.get(place) {
+            None => None,
+            Some(record) => {
+                if is_before_end(record, x) {
+                    Some(record)
+                } else {
+                    None
+                }
+            }
+        },
+    }
+}
+
+fn is_before_end(table: &TableRecord, x: HybridTime) -> bool
+    ensures { result ≡ stood_at x table.now }
+{
+    match table.to {
+        None => true,
+        Some(to) => x.number() < to.number(),
+    }
+}
+
+fn is_over_or_open(table: &TableRecord, at: HybridTime) -> bool
+    ensures { result ≡ over_or_open at table.now.to }
+{
+    match table.to {
+        None => true,
+        Some(to) => to.number() <= at.number(),
+    }
+}
+
+fn has_begun(table: &TableRecord, begun: &Option<HybridTime>) -> bool
+    ensures { result ≡ begun_by begun.now table.now.from }
+{
+    match begun {
+        None => true,
+        Some(x) => table.from.number() <= x.number(),
+    }
+}
+
+// Whether the record of a place has the name, and began by a time if one is given.
+fn is_sought(
+    records: &Vec<TableRecord>,
+    at: usize,
+    namespace: &Ident,
+    name: &Name,
+    begun: &Option<HybridTime>,
+) -> bool
+    ensures { (r : TableRecord) → slice_get records.now.items at ≡ Some r → result ≡ is_sought namespace.now name.now begun.now r }
+{
+    match records.get(at) {
+        Some(record) => {
+            has_begun(record, begun)
+                && record.namespace == *namespace
+                && record.name.as_slice() == name.as_slice()
+        }
+        None => false,
+    }
+}
+
+// The number by which the name of a table is looked up.
+fn code_in(namespace: &Ident, name: &Name) -> u64
+    ensures code { result ≡ code_in namespace.now name.now }
+{
+    name_code(namespace.number % (1 << 32), name)
+}
+
+// The place of the last record of a name that began by a time, if one is given. Records whose names have the same number
+// are walked back.
+fn place_named(
+    records: &Vec<TableRecord>,
+    named: &NewestIndex<u64>,
+    namespace: &Ident,
+    name: &Name,
+    begun: &Option<HybridTime>,
+) -> Option<usize>
+    requires indexed { Indexes nat_eq named.now.places named.now.earlier.items (map table_code records.now.items) }
+    ensures last { result ≡ last_place (is_sought namespace.now name.now begun.now) records.now.items }
+{
+    keys_agree();
+    let mut upto = records.len();
+    let mut next = named.newest(&code_in(namespace, name));
+    'records: while let Some(at) = next {
+        if is_sought(records, at, namespace, name, begun) {
+            return Some(at);
+        }
+        next = named.earlier(at);
+        upto = at;
+    }
+    None
+}
+
+// The record of a place ends, if it is current; the namespace of one that did.
+fn end_place(records: &mut Vec<TableRecord>, place: Option<usize>, at: HybridTime) -> Option<Ident>
+    ensures items { records.new.items ≡ changed_at (table_closed at) records.old.items place }
+    ensures ended { result ≡ namespace_of (open_at is_current_table records.old.items place) }
+    ensures room { vec_capacity records.new - vec_len records.new ≡ vec_capacity records.old - vec_len records.old }
+{
+    if let Some(place) = place {
+        if place < records.len() {
+            return end_record(&mut records[place], at);
+        }
+    }
+    None
+}
+
+fn end_record(table: &mut TableRecord, at: HybridTime) -> Option<Ident>
+    ensures written { table.new ≡ table_closed at table.old }
+    ensures ended { result ≡ namespace_of (if_open is_current_table (Some table.old)) }
+{
+    if table.to.is_none() {
+        table.to = Some(at);
+        Some(table.namespace)
+    } else {
+        None
+    }
+}
+
+// One more for a namespace.
+fn raise_count(counts: &mut IndexMap<Ident, usize>, namespace: Ident)
+    requires room { 1 ≤ spare counts.old }
+    requires small { count_in ⟦<Ident as PartialEq>⟧.eq counts.old namespace < 2 ^ 63 }
+    ensures counted { (ns : Id) → count_in ⟦<Ident as PartialEq>⟧.eq counts.new ns ≡ count_in ⟦<Ident as PartialEq>⟧.eq counts.old ns + one_if (same namespace ns) }
+    ensures room { spare counts.old ≤ spare counts.new + 1 }
+{
+    keys_agree();
+    let count = counts.get(&namespace).copied().unwrap_or(0);
+    counts.insert(namespace, count + 1).unwrap();
+}
+
+// One less for a namespace, if there is one.
+fn lower_count(counts: &mut IndexMap<Ident, usize>, namespace: Option<Ident>)
+    ensures counted { (ns : Id) → count_in ⟦<Ident as PartialEq>⟧.eq counts.new ns ≡ count_in ⟦<Ident as PartialEq>⟧.eq counts.old ns - one_if (is_named namespace ns) }
+    ensures room { spare counts.old ≤ spare counts.new }
+{
+    keys_agree();
+    let Some(namespace) = namespace else {
+        return;
+    };
+    let Some(count) = counts.get_mut(&namespace) else {
+        return;
+    };
+    *count = count.saturating_sub(1);
+}

@@ -93,20 +93,20 @@ remembered_forget ps activity changes n target i inv r =
     let before = r.gone.before in
     let part : IsPartOf (forget target ps.master.activity) activity = part_left (λ j. not (same j.tablet target)) activity m.activity h.part in
     let each : (i : Interval) → In i activity → In i (forget target ps.master.activity) ⊎ IsForgotten (forgetting ps.master n target) i = λ j isin. elim (h.each j isin) [
-        | inl here ↦ either_way (same j.tablet target)
-            (λ e.
-            let is = same_equal j.tablet target e in
-            let below = r.below j here is in
-            let past = ((inv.slots j.slot).each j here refl).past in
-            inr (record {
-              below = below;
-              over = ended_past j.to j.from m.clock (floor_of_table m j.table n) n (le_of_lt before) past.ended below;
-              unknown = λ k known same_. (was_in target m.activity k known).1 (same_ ∙ is);
-            }))
-            (λ e. inl (kept_in target m.activity j here (λ is. true≢false (sym (ap (λ t. same t target) is ∙ same_self target) ∙ e))))
-        | inr gone ↦ inr (forgotten_on m (forgetting m n target) j (record { clock = le_of_lt before; schedules = refl; restorations = refl; clones = refl }) refl
-            (λ k known. gone.unknown k (was_in target m.activity k known).0) gone)
-      ] in
+      | inl here ↦ either_way (same j.tablet target)
+          (λ e.
+          let is = same_equal j.tablet target e in
+          let below = r.below j here is in
+          let past = ((inv.slots j.slot).each j here refl).past in
+          inr (record {
+            below = below;
+            over = ended_past j.to j.from m.clock (floor_of_table m j.table n) n (le_of_lt before) past.ended below;
+            unknown = λ k known same_. (was_in target m.activity k known).1 (same_ ∙ is);
+          }))
+          (λ e. inl (kept_in target m.activity j here (λ is. true≢false (sym (ap (λ t. same t target) is ∙ same_self target) ∙ e))))
+      | inr gone ↦ inr (forgotten_on m (forgetting m n target) j (record { clock = le_of_lt before; schedules = refl; restorations = refl; clones = refl }) refl
+          (λ k known. gone.unknown k (was_in target m.activity k known).0) gone)
+    ] in
     assumption (part, each)
 
 master_forget : (m : Master) (n : ℕ) (target : Id) (changes : List Made) → m.clock ≤ n → MasterGood m changes → MasterGood (forgetting m n target) changes

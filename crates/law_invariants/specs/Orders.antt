@@ -49,7 +49,7 @@ FencePlaceIn (Snapshotting point own) r activity owners slot done = HasOpen acti
 FencePlaceIn (Switching point serving) r activity owners slot done = HasOpen activity owners r.namespace slot
 FencePlaceIn (Restoring point serving) r activity owners slot done =
     (l : Listed) × (In l r.listed × ((l.slot ≡ slot)
-      × ((is_restore l.body ≡ true) ⊎ (is_done done r.id HideKind ≡ false))))
+    × ((is_restore l.body ≡ true) ⊎ (is_done done r.id HideKind ≡ false))))
 FencePlaceIn (Releasing point serving) r activity owners slot done =
     (l : Listed) × (In l r.listed × ((l.slot ≡ slot) × (is_done done r.id ReleaseKind ≡ false)))
 FencePlaceIn (Restored point serving) r activity owners slot done = ⊥
@@ -93,7 +93,7 @@ ByClone m slot table done operation = ByCloneIn m.clones m.catalog.owners slot t
 abbrev pub IsFenceIn : Directory → ℕ → Id → List Mark → Id → Type 0
 IsFenceIn d slot table done operation =
     ByRestorationIn d.given.restorations d.activity d.owners slot table done operation
-      ⊎ ByCloneIn d.given.clones d.owners slot table done operation
+    ⊎ ByCloneIn d.given.clones d.owners slot table done operation
 
 abbrev pub IsFence : Master → ℕ → Id → List Mark → Id → Type 0
 IsFence m slot table done operation = IsFenceIn (directory m) slot table done operation
@@ -250,7 +250,7 @@ pub record ReleasingSlot (operation : Id) (l : Listed) (t : Tablet) : Type 0 whe
   pub fenced : is_done t.done operation ReleaseKind ≡ false → t.fence ≡ Some operation
 
 abbrev pub RestorationSlotIn : RestorationState → List Interval → List Owner → List Change → RestorationRecord → ℕ
-      → Tablet
+    → Tablet
     → Type 0
 RestorationSlotIn Fencing activity owners changes r slot t = FencingSlot r slot t
 RestorationSlotIn (Snapshotting point own) activity owners changes r slot t = FencedIn activity owners r slot t
@@ -346,7 +346,7 @@ ObeyedGood m changes slot t = ObeyedIn (directory m) changes slot t
 
 -- the tablet of a row's change is active, and has not told a restoration that it is fenced
 pub record IsBehindIn (activity : List Interval) (restorations : List RestorationRecord) (tablet : ℕ
-      → Tablet) (table : Id)
+    → Tablet) (table : Id)
     (stamp : ℕ) : Type 0 where
   pub interval : Interval
   pub kept : In interval activity

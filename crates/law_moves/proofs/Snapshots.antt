@@ -166,45 +166,45 @@ taken_onto ps activity changes n ns schedule before may inv =
     let here : In q0 (m.snapshots ++ q0 ∷ []) = in_second m.snapshots (q0 ∷ []) q0 (inl refl) in
     let kept : (q : SnapshotRecord) → In q m.snapshots → (r : SnapshotRecord) × (In r w.snapshots × SnapshotOn q r) = λ q isin. (q, (in_first m.snapshots (q0 ∷ []) q isin, same_on q)) in
     record {
-  clock = le_of_lt before;
-  drawn = drawn_more m.drawn;
-  floors = floors;
-  apart = let schedule_ids : Alone (λ s. s.id) (taken ns schedule n ps.master).schedules = alone_mapped {A = Schedule} (λ t. t.id) f m.schedules (λ t. refl) a.schedule_ids in
-    let one_scheduled : Alone (λ k. k.namespace) (taken ns schedule n ps.master).scheduled = alone_mapped {A = ScheduledNamespace} (λ k. k.namespace) g m.scheduled (λ k. refl) a.one_scheduled in
-    let snapshots_rise : SnapshotsRise (taken ns schedule n ps.master).snapshots = rise_added m.snapshots q0 (λ r isin. let k = ops.snapshots r isin in let l = k.drawn in let u = k.past in (omega arith, omega arith)) a.snapshots_rise in
-    let one_snapshot : (q r : SnapshotRecord) → In q (taken ns schedule n ps.master).snapshots → In r (taken ns schedule n ps.master).snapshots → q.complete ≡ false → r.complete ≡ false → q.namespace ≡ r.namespace → q ≡ r = λ q r in_q in_r open_q open_r e. elim (in_append m.snapshots (q0 ∷ []) q in_q) [
-          | inl old_q ↦ elim (in_append m.snapshots (q0 ∷ []) r in_r) [
-            | inl old_r ↦ a.one_snapshot q r old_q old_r open_q open_r e
-            | inr new_r ↦ elim new_r [ inl is ↦ absurd (unfinished_none m.snapshots ns q may.calm old_q open_q (e ∙ sym (ap (λ k. k.namespace) is))) | inr none ↦ absurd none ]
-          ]
-          | inr new_q ↦ elim new_q [
-            | inl is ↦ elim (in_append m.snapshots (q0 ∷ []) r in_r) [
-              | inl old_r ↦ absurd (unfinished_none m.snapshots ns r may.calm old_r open_r (sym e ∙ sym (ap (λ k. k.namespace) is)))
-              | inr new_r ↦ elim new_r [ inl is_r ↦ sym is ∙ is_r | inr none ↦ absurd none ]
+      clock = le_of_lt before;
+      drawn = drawn_more m.drawn;
+      floors = floors;
+      apart = let schedule_ids : Alone (λ s. s.id) (taken ns schedule n ps.master).schedules = alone_mapped {A = Schedule} (λ t. t.id) f m.schedules (λ t. refl) a.schedule_ids in
+          let one_scheduled : Alone (λ k. k.namespace) (taken ns schedule n ps.master).scheduled = alone_mapped {A = ScheduledNamespace} (λ k. k.namespace) g m.scheduled (λ k. refl) a.one_scheduled in
+          let snapshots_rise : SnapshotsRise (taken ns schedule n ps.master).snapshots = rise_added m.snapshots q0 (λ r isin. let k = ops.snapshots r isin in let l = k.drawn in let u = k.past in (omega arith, omega arith)) a.snapshots_rise in
+          let one_snapshot : (q r : SnapshotRecord) → In q (taken ns schedule n ps.master).snapshots → In r (taken ns schedule n ps.master).snapshots → q.complete ≡ false → r.complete ≡ false → q.namespace ≡ r.namespace → q ≡ r = λ q r in_q in_r open_q open_r e. elim (in_append m.snapshots (q0 ∷ []) q in_q) [
+            | inl old_q ↦ elim (in_append m.snapshots (q0 ∷ []) r in_r) [
+              | inl old_r ↦ a.one_snapshot q r old_q old_r open_q open_r e
+              | inr new_r ↦ elim new_r [ inl is ↦ absurd (unfinished_none m.snapshots ns q may.calm old_q open_q (e ∙ sym (ap (λ k. k.namespace) is))) | inr none ↦ absurd none ]
             ]
-            | inr none ↦ absurd none
-          ]
-        ] in
-    assumption (schedule_ids, one_scheduled, snapshots_rise, one_snapshot);
-  complete = in_mapped {A = ScheduledNamespace} {B = ScheduledNamespace} g (λ k. complete_to k + 1 ≤ n) m.scheduled (λ k isin. le_trans (inv.master.complete k isin) (le_of_lt before));
-  schedule = in_mapped {A = Schedule} {B = Schedule} f (ScheduleGood (recorded m w)) m.schedules
+            | inr new_q ↦ elim new_q [
+              | inl is ↦ elim (in_append m.snapshots (q0 ∷ []) r in_r) [
+                | inl old_r ↦ absurd (unfinished_none m.snapshots ns r may.calm old_r open_r (sym e ∙ sym (ap (λ k. k.namespace) is)))
+                | inr new_r ↦ elim new_r [ inl is_r ↦ sym is ∙ is_r | inr none ↦ absurd none ]
+              ]
+              | inr none ↦ absurd none
+            ]
+          ] in
+          assumption (schedule_ids, one_scheduled, snapshots_rise, one_snapshot);
+      complete = in_mapped {A = ScheduledNamespace} {B = ScheduledNamespace} g (λ k. complete_to k + 1 ≤ n) m.scheduled (λ k isin. le_trans (inv.master.complete k isin) (le_of_lt before));
+      schedule = in_mapped {A = Schedule} {B = Schedule} f (ScheduleGood (recorded m w)) m.schedules
           (λ t isin. let s = schedule_on m w t (le_of_lt before) (drawn_more m.drawn) (λ k there is. (g k, (map_in {A = ScheduledNamespace} {B = ScheduledNamespace} g m.scheduled k there, (refl, refl)))) (ops.schedules t isin) in
           record { drawn = s.drawn; drawn_namespace = s.drawn_namespace; begun = s.begun; scheduled = s.scheduled });
-  scheduled = in_mapped {A = ScheduledNamespace} {B = ScheduledNamespace} g (ScheduledGood (recorded m w)) m.scheduled
+      scheduled = in_mapped {A = ScheduledNamespace} {B = ScheduledNamespace} g (ScheduledGood (recorded m w)) m.scheduled
           (λ k isin. lasted (same k.namespace ns) m n ns schedule k before (λ e. same_equal k.namespace ns e) here
           (let h = ops.scheduled k isin in scheduled_on m w k (le_of_lt before) (drawn_more m.drawn) (floors k.namespace) kept (f h.has.0, (map_in {A = Schedule} {B = Schedule} f m.schedules h.has.0 h.has.1.0, h.has.1.1)) h));
-  schedule_came = λ t isin. (let p = mapped_is {A = Schedule} f m.schedules t isin in inl (record { was = p.0; kept = p.1.0; namespace_is = ap (λ q. q.namespace) (sym p.1.1) }));
-  schedule_kept = λ t isin. inl (f t, (map_in {A = Schedule} {B = Schedule} f m.schedules t isin, (refl, refl)));
-  points = λ r point k there unfinished at isin is. (let p = mapped_is {A = ScheduledNamespace} g m.scheduled k isin in
+      schedule_came = λ t isin. (let p = mapped_is {A = Schedule} f m.schedules t isin in inl (record { was = p.0; kept = p.1.0; namespace_is = ap (λ q. q.namespace) (sym p.1.1) }));
+      schedule_kept = λ t isin. inl (f t, (map_in {A = Schedule} {B = Schedule} f m.schedules t isin, (refl, refl)));
+      points = λ r point k there unfinished at isin is. (let p = mapped_is {A = ScheduledNamespace} g m.scheduled k isin in
           subst (λ q. complete_to q + 1 ≤ point) p.1.1 (point_complete m changes r point p.0 ops there unfinished at p.1.0 (ap (λ q. q.namespace) p.1.1 ∙ is)));
-  last = λ q there now unfinished k isin is lasts. either_way (same k.namespace ns)
+      last = λ q there now unfinished k isin is lasts. either_way (same k.namespace ns)
           (λ b. absurd (unfinished_none m.snapshots ns q may.calm there unfinished (sym is ∙ same_equal k.namespace ns b)))
           (λ b. (g k, (map_in {A = ScheduledNamespace} {B = ScheduledNamespace} g m.scheduled k isin, (is, ap (λ c. cond c (Some n) k.last) b ∙ lasts))));
-  sent = λ mark isin. elim (ops.sent mark isin) [
+      sent = λ mark isin. elim (ops.sent mark isin) [
         | inl q ↦ inl (q.0, (in_first m.snapshots (q0 ∷ []) q.0 q.1.0, q.1.1))
         | inr more ↦ inr more
       ];
-  snapshot_came = in_added (λ q. In q m.snapshots ⊎ SnapshotCame m w q) m.snapshots q0 (λ q isin. inl isin) (inr (record {
+      snapshot_came = in_added (λ q. In q m.snapshots ⊎ SnapshotCame m w q) m.snapshots q0 (λ q isin. inl isin) (inr (record {
         how = inl (record {
           kind_is = refl;
           drawn = omega arith;
@@ -215,17 +215,17 @@ taken_onto ps activity changes n ns schedule before may inv =
         });
         good = good;
       }));
-  snapshot_kept = kept;
-  restoration_came = λ r isin. inl isin;
-  restored = inv.journal.restored;
-  one_point = inv.journal.one_point;
-  awaits = λ slot present. refl;
-  fences = λ slot operation h. fence_stays m w slot (ps.tablet slot).table (ps.tablet slot).done operation (λ r isin. inl isin) h;
-  pendings = λ operation slot l e. pending_stays m w operation slot l
+      snapshot_kept = kept;
+      restoration_came = λ r isin. inl isin;
+      restored = inv.journal.restored;
+      one_point = inv.journal.one_point;
+      awaits = λ slot present. refl;
+      fences = λ slot operation h. fence_stays m w slot (ps.tablet slot).table (ps.tablet slot).done operation (λ r isin. inl isin) h;
+      pendings = λ operation slot l e. pending_stays m w operation slot l
           (record { snapshot = λ id slot l r e at. snapshot_added m.snapshots q0 id r e; restoration = λ id slot l r e at. e }) e;
-  given = λ operation slot l e. pending_drawn m changes operation slot l ops e;
-  unmoved = λ operation slot l r e v is. pending_unmoved m changes operation slot l r ops e v is;
-}
+      given = λ operation slot l e. pending_drawn m changes operation slot l ops e;
+      unmoved = λ operation slot l r e v is. pending_unmoved m changes operation slot l r ops e v is;
+    }
 
 pub take_snapshot_keeps : (ps : Parts) (activity : List Interval) (changes : List Made) (n : ℕ) (schedule : Id) (slots : List ℕ) → Later (0 ∷ slots) ps n → same_slots slots [] ≡ true → Inv ps activity changes
     → KeepsAll (Change (TakeSnapshot schedule) slots) n ps activity changes (take_snapshot schedule n ps.master)

@@ -57,9 +57,9 @@ snapshot_on ps changes w q o there now h =
     let past : q.at ≤ w.clock = le_trans h.past o.clock in
     let drawn_listed : (l : Listed) → In l q.listed → l.tablet.number ≤ w.drawn.tablets = λ l isin. le_trans (h.drawn_listed l isin) (o.drawn TabletKind) in
     let reached : (q.after < floor_of (recorded ps.master w) q.namespace w.clock) ⊎ ((q' : SnapshotRecord) × (In q' w.snapshots × ((q'.namespace ≡ q.namespace) × ((q'.at ≡ q.after) × (q'.complete ≡ true))))) = elim h.reached [
-    | inl l ↦ inl (lt_of_lt_of_le l (o.floors q.namespace))
-    | inr p ↦ (let k = o.snapshot_kept p.0 p.1.0 in inr (k.0, (k.1.0, (k.1.1.namespace_is ∙ p.1.1.0, (k.1.1.at_is ∙ p.1.1.1.0, k.1.1.complete p.1.1.1.1)))))
-  ] in
+      | inl l ↦ inl (lt_of_lt_of_le l (o.floors q.namespace))
+      | inr p ↦ (let k = o.snapshot_kept p.0 p.1.0 in inr (k.0, (k.1.0, (k.1.1.namespace_is ∙ p.1.1.0, (k.1.1.at_is ∙ p.1.1.1.0, k.1.1.complete p.1.1.1.1)))))
+    ] in
     let scheduled : q.complete ≡ false → (k : ScheduledNamespace) × (In k w.scheduled × ((k.namespace ≡ q.namespace) × (k.last ≡ Some q.at))) = λ unfinished. (let s = h.scheduled unfinished in o.last q there now unfinished s.0 s.1.0 s.1.1.0 s.1.1.1) in
     assumption (drawn, drawn_namespace, past, drawn_listed, reached, scheduled)
 
@@ -223,14 +223,14 @@ clone_on ps changes w c o there h =
     let drawn_listed : (l : Listed) → In l c.listed → l.tablet.number ≤ w.drawn.tablets = λ l lists. le_trans (h.drawn_listed l lists) (o.drawn TabletKind) in
     let drawn_sources : (d : IdPair) → In d c.tables → d.source.number ≤ w.drawn.tables = λ e paired. le_trans (h.drawn_sources e paired) (o.drawn Table) in
     let scheduled : is_cloned c.state ≡ false → (s : Schedule) × (In s w.schedules × (s.namespace ≡ c.source)) = λ unfinished. (let s = h.scheduled unfinished in elim (o.schedule_kept s.0 s.1.0) [
-    | inl k ↦ (k.0, (k.1.0, k.1.1.1 ∙ s.1.1))
-    | inr free ↦ absurd (free.clone c there unfinished s.1.1)
-  ]) in
+      | inl k ↦ (k.0, (k.1.0, k.1.1.1 ∙ s.1.1))
+      | inr free ↦ absurd (free.clone c there unfinished s.1.1)
+    ]) in
     let reserved : is_visible c.state ≡ false → (p : TabletPair) → In p c.tablets → IsReserved (recorded ps.master w) p = λ unseen p paired. reserved_on ps changes w p o (h.reserved unseen p paired) in
     let no_schedule : is_visible c.state ≡ false → (s : Schedule) → In s w.schedules → s.namespace ≡ c.target_id → ⊥ = λ unseen s isin is. elim (o.schedule_came s isin) [
-    | inl was ↦ h.no_schedule unseen was.was was.kept (sym was.namespace_is ∙ is)
-    | inr new ↦ new.unmade c there unseen (sym is)
-  ] in
+      | inl was ↦ h.no_schedule unseen was.was was.kept (sym was.namespace_is ∙ is)
+      | inr new ↦ new.unmade c there unseen (sym is)
+    ] in
     let in_state : CloneStateGood c.state (recorded ps.master w) c = clone_state_on c.state ps changes w c refl o there h.in_state in
     assumption (drawn_now, drawn_source, drawn_target, past, pairs, drawn_listed, drawn_sources, scheduled, reserved, no_schedule, in_state)
 
@@ -305,22 +305,22 @@ remembered_on ps activity changes w o h = record {
 pub master_on : (ps : Parts) (activity : List Interval) (changes : List Change) (w : Records) → Onto ps changes w → Remembered ps.master activity → MasterGood ps.master changes → MasterGood (recorded ps.master w) changes
 master_on ps activity changes w o old h =
     let m = ps.master in record {
-  namespaces = (let g = namespaces_later m.catalog.namespaces m.clock w.clock m.drawn.namespaces changes o.clock h.namespaces in
-    let drawn_before : (r : NamespaceRecord) → In r ps.master.catalog.namespaces → r.id.number ≤ w.drawn.namespaces = λ r isin. le_trans (g.drawn_before r isin) (o.drawn Namespace) in
-    assumption drawn_before);
-  tables = (let g = tables_later m.catalog m.clock w.clock m.drawn.tables changes o.clock h.tables in
-    let drawn_before : (r : TableRecord) → In r ps.master.catalog.tables → r.id.number ≤ w.drawn.tables = λ r isin. le_trans (g.drawn_before r isin) (o.drawn Table) in
-    let owners_drawn : (id : Id) → w.drawn.tables < id.number → owner_of ps.master.catalog.owners id ≡ None = λ id more. g.owners_drawn id (let l = o.drawn Table in omega arith) in
-    assumption (drawn_before, owners_drawn));
-  past = λ ns to is. le_trans (h.past ns to is) o.clock;
-  complete = o.complete;
-  listed = λ r l isin lists. elim (o.restoration_came r isin) [
-    | inl there ↦ le_trans (h.listed r l there lists) (o.drawn TabletKind)
-    | inr came ↦ (let k = came.known l lists in let d = old.drawn k.interval (kept_all old k.interval k.kept) in let e : k.interval.tablet.number ≡ l.tablet.number = ap (λ i. i.number) k.tablet_is in let u = o.drawn TabletKind in omega arith)
-  ];
-  marks = h.marks;
-  listed_of = λ r l isin lists i there is. elim (o.restoration_came r isin) [
-    | inl before ↦ h.listed_of r l before lists i there is
-    | inr came ↦ came.listed_of l i lists there is
-  ];
-}
+      namespaces = (let g = namespaces_later m.catalog.namespaces m.clock w.clock m.drawn.namespaces changes o.clock h.namespaces in
+          let drawn_before : (r : NamespaceRecord) → In r ps.master.catalog.namespaces → r.id.number ≤ w.drawn.namespaces = λ r isin. le_trans (g.drawn_before r isin) (o.drawn Namespace) in
+          assumption drawn_before);
+      tables = (let g = tables_later m.catalog m.clock w.clock m.drawn.tables changes o.clock h.tables in
+          let drawn_before : (r : TableRecord) → In r ps.master.catalog.tables → r.id.number ≤ w.drawn.tables = λ r isin. le_trans (g.drawn_before r isin) (o.drawn Table) in
+          let owners_drawn : (id : Id) → w.drawn.tables < id.number → owner_of ps.master.catalog.owners id ≡ None = λ id more. g.owners_drawn id (let l = o.drawn Table in omega arith) in
+          assumption (drawn_before, owners_drawn));
+      past = λ ns to is. le_trans (h.past ns to is) o.clock;
+      complete = o.complete;
+      listed = λ r l isin lists. elim (o.restoration_came r isin) [
+        | inl there ↦ le_trans (h.listed r l there lists) (o.drawn TabletKind)
+        | inr came ↦ (let k = came.known l lists in let d = old.drawn k.interval (kept_all old k.interval k.kept) in let e : k.interval.tablet.number ≡ l.tablet.number = ap (λ i. i.number) k.tablet_is in let u = o.drawn TabletKind in omega arith)
+      ];
+      marks = h.marks;
+      listed_of = λ r l isin lists i there is. elim (o.restoration_came r isin) [
+        | inl before ↦ h.listed_of r l before lists i there is
+        | inr came ↦ came.listed_of l i lists there is
+      ];
+    }

@@ -124,20 +124,20 @@ ended_good ps activity changes n r point serving_ slot i s h owner =
     let ended_now : EndsBy n i.from (ended point i.to) = ends_now i.to i.from point n m.clock from (le_trans good.begun (le_of_lt s.before)) (le_of_lt s.before) g.past.ended in
     let over_now : OverBy (ps.tablet slot).clock i.from (ended point i.to) = over_now i.to i.from point t.clock from (λ opened. (slot_yet ps activity changes n r point serving_ slot s).past i (record { kept = h.kept; opened = opened; owned = owner }) h.at) g.over in
     let viewed : (x : ℕ) → active_at x (record i { to = ended point i.to }) ≡ true → is_some (table_at (after r point changes) x i.table) ≡ true = λ x active. (
-          let k = both_pass (leb i.from x) (before_end x (ended point i.to)) active in
-          let b = before_it i.to x point over k.1 in
-          ap is_some (restored_before point r.namespace r.to changes x i.table b.0) ∙ g.viewed x (passes_both (leb i.from x) (before_end x i.to) k.0 b.1)) in
+    let k = both_pass (leb i.from x) (before_end x (ended point i.to)) active in
+    let b = before_it i.to x point over k.1 in
+    ap is_some (restored_before point r.namespace r.to changes x i.table b.0) ∙ g.viewed x (passes_both (leb i.from x) (before_end x i.to) k.0 b.1)) in
     let waits_now : (point' : ℕ) → awaited_in ((map (entering r (Restoring point serving_) (listed_then ps.master r point serving_)) ps.master.restorations)) (ps.tablet slot).tablet (ps.tablet slot).done ≡ Some point' → TurnsAt point' i.from (ended point i.to) = λ p waits. turns_now i.to i.from point p (awaited_point _ point p (sym (awaited_mine ps activity changes n r point serving_ slot i s h owner) ∙ waits)) over in
     let comes : (r' : RestorationRecord) (point' : ℕ) → In r' ((map (entering r (Restoring point serving_) (listed_then ps.master r point serving_)) ps.master.restorations)) → awaited_of r'.state r' (ps.tablet slot).tablet (ps.tablet slot).done ≡ Some point' → (ended point i.to) ≡ None → ComesFrom (after r point changes) r'.namespace (record i { to = ended point i.to }) point' r'.to = λ q p there awaits opened. absurd (ended_some i.to point opened) in
     let serves : (ended point i.to) ≡ None → awaited_in ((map (entering r (Restoring point serving_) (listed_then ps.master r point serving_)) ps.master.restorations)) (ps.tablet slot).tablet (ps.tablet slot).done ≡ None → is_serving (ps.tablet slot).presence ≡ true = λ opened settled_. absurd (ended_some i.to point opened) in
     let hidden : (at : ℕ) → (ps.tablet slot).presence ≡ HiddenPart at → is_awaited (awaited_in ((map (entering r (Restoring point serving_) (listed_then ps.master r point serving_)) ps.master.restorations)) (ps.tablet slot).tablet (ps.tablet slot).done) (ended point i.to) ≡ false → ended_by at (ended point i.to) ≡ true = λ at out closed. hidden_now i.to point at (λ opened. not_serving t.presence at out (g.serves opened none)) (λ e is. ap (ended_by at) (sym is) ∙ g.hidden at out settled) in
     let stands : is_awaited (awaited_in ((map (entering r (Restoring point serving_) (listed_then ps.master r point serving_)) ps.master.restorations)) (ps.tablet slot).tablet (ps.tablet slot).done) (ended point i.to) ≡ false → StandsIn (ps.tablet slot) (after r point changes) (record i { to = ended point i.to }) = λ closed key x ranged cut before there. (
-          let b = before_it i.to x point over before in
-          g.stands settled key x ranged cut b.1 (ap is_some (sym (restored_before point r.namespace r.to changes x i.table b.0)) ∙ there) ∙ sym (rows_before point r.namespace r.to changes x i.table key b.0)) in
+    let b = before_it i.to x point over before in
+    g.stands settled key x ranged cut b.1 (ap is_some (sym (restored_before point r.namespace r.to changes x i.table b.0)) ∙ there) ∙ sym (rows_before point r.namespace r.to changes x i.table key b.0)) in
     let sets : (f : FrozenSet) → In f (ps.tablet slot).frozen → SetStands f (after r point changes) (record i { to = ended point i.to }) = λ f held key x ranged cut by active. (
-          let k = both_pass (leb i.from x) (before_end x (ended point i.to)) active in
-          let b = before_it i.to x point over k.1 in
-          g.sets f held key x ranged cut by (passes_both (leb i.from x) (before_end x i.to) k.0 b.1) ∙ sym (rows_before point r.namespace r.to changes x i.table key b.0)) in
+    let k = both_pass (leb i.from x) (before_end x (ended point i.to)) active in
+    let b = before_it i.to x point over k.1 in
+    g.sets f held key x ranged cut by (passes_both (leb i.from x) (before_end x i.to) k.0 b.1) ∙ sym (rows_before point r.namespace r.to changes x i.table key b.0)) in
     assumption (begun, ended_now, over_now, viewed, waits_now, comes, serves, hidden, stands, sets)
 
 begun_good : (ps : Parts) (activity : List Interval) (changes : List Change) (n : ℕ) (r : RestorationRecord) (point : ℕ) (serving_ : Id) (slot : ℕ) (i : Interval) → IsSwitch ps activity changes n r point serving_ → Holds ps slot i
@@ -209,18 +209,18 @@ other_good ps activity changes n r point serving_ slot i s h other =
     let viewed : (x : ℕ) → active_at x i ≡ true → is_some (table_at (after r point changes) x i.table) ≡ true = λ x active. ap is_some (tables x) ∙ g.viewed x active in
     let waits_now : (point' : ℕ) → awaited_in ((map (entering r (Restoring point serving_) (listed_then ps.master r point serving_)) ps.master.restorations)) (ps.tablet slot).tablet (ps.tablet slot).done ≡ Some point' → TurnsAt point' i.from i.to = λ p waits. g.waits p (sym same_ ∙ waits) in
     let comes : (r' : RestorationRecord) (point' : ℕ) → In r' ((map (entering r (Restoring point serving_) (listed_then ps.master r point serving_)) ps.master.restorations)) → awaited_of r'.state r' (ps.tablet slot).tablet (ps.tablet slot).done ≡ Some point' → i.to ≡ None → ComesFrom (after r point changes) r'.namespace i point' r'.to = λ q p there found opened. in_mapped {A = RestorationRecord} {B = RestorationRecord} (entering r (Restoring point serving_) (listed_then m r point serving_))
-          (λ q. awaited_of q.state q t.tablet t.done ≡ Some p → ComesFrom (after r point changes) q.namespace i p q.to) m.restorations
-          (λ x isin. by_record (λ x q. awaited_of q.state q t.tablet t.done ≡ Some p → ComesFrom (after r point changes) q.namespace i p q.to) m r (Restoring point serving_) (listed_then m r point serving_) x s.inv.operations.apart.restoration_ids s.there isin
-          (λ found. absurd (let z : None ≡ Some p = sym (back_other ps activity changes n r point serving_ slot i s h other) ∙ found in grind arith))
-          (λ b found. (
-          let old = g.comes x p isin found opened in
-          let apart : x.namespace ≡ r.namespace → ⊥ = λ e. other_namespace ps activity changes n r point serving_ x s isin b (awaiting x.state x p found) e in
-          record {
-            switched = switched_on r point changes x.namespace p old.switched;
-            rows = λ key y ranged l. rows y key ∙ old.rows key y ranged l ∙ sym (rows x.to key);
-            before = λ key ranged. ap (λ js. row_at js x.to i.table key) (before_other r point changes x.namespace p (other_restore r point x.namespace p apart) ∙ before_any changes x.namespace p (after r point changes) changes old.switched)
-                ∙ old.before key ranged ∙ sym (rows x.to key);
-          }))) q there found in
+    (λ q. awaited_of q.state q t.tablet t.done ≡ Some p → ComesFrom (after r point changes) q.namespace i p q.to) m.restorations
+    (λ x isin. by_record (λ x q. awaited_of q.state q t.tablet t.done ≡ Some p → ComesFrom (after r point changes) q.namespace i p q.to) m r (Restoring point serving_) (listed_then m r point serving_) x s.inv.operations.apart.restoration_ids s.there isin
+    (λ found. absurd (let z : None ≡ Some p = sym (back_other ps activity changes n r point serving_ slot i s h other) ∙ found in grind arith))
+    (λ b found. (
+    let old = g.comes x p isin found opened in
+    let apart : x.namespace ≡ r.namespace → ⊥ = λ e. other_namespace ps activity changes n r point serving_ x s isin b (awaiting x.state x p found) e in
+    record {
+      switched = switched_on r point changes x.namespace p old.switched;
+      rows = λ key y ranged l. rows y key ∙ old.rows key y ranged l ∙ sym (rows x.to key);
+      before = λ key ranged. ap (λ js. row_at js x.to i.table key) (before_other r point changes x.namespace p (other_restore r point x.namespace p apart) ∙ before_any changes x.namespace p (after r point changes) changes old.switched)
+          ∙ old.before key ranged ∙ sym (rows x.to key);
+    }))) q there found in
     let serves : i.to ≡ None → awaited_in ((map (entering r (Restoring point serving_) (listed_then ps.master r point serving_)) ps.master.restorations)) (ps.tablet slot).tablet (ps.tablet slot).done ≡ None → is_serving (ps.tablet slot).presence ≡ true = λ opened settled. g.serves opened (sym same_ ∙ settled) in
     let hidden : (at : ℕ) → (ps.tablet slot).presence ≡ HiddenPart at → is_awaited (awaited_in ((map (entering r (Restoring point serving_) (listed_then ps.master r point serving_)) ps.master.restorations)) (ps.tablet slot).tablet (ps.tablet slot).done) i.to ≡ false → ended_by at i.to ≡ true = λ at out closed. g.hidden at out (ap (λ a. is_awaited a i.to) (sym same_) ∙ closed) in
     let stands : is_awaited (awaited_in ((map (entering r (Restoring point serving_) (listed_then ps.master r point serving_)) ps.master.restorations)) (ps.tablet slot).tablet (ps.tablet slot).done) i.to ≡ false → StandsIn (ps.tablet slot) (after r point changes) i = λ closed key x ranged cut before there. g.stands (ap (λ a. is_awaited a i.to) (sym same_) ∙ closed) key x ranged cut before (ap is_some (sym (tables x)) ∙ there) ∙ sym (rows x key) in

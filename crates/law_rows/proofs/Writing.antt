@@ -77,9 +77,9 @@ slot_stays m n table batch changes slot t stays h =
     let each : (i : Interval) → In i m.activity → i.slot ≡ slot → IsGoodIn m.clock m.slots (directory m) (rows_made n table batch changes) t i = λ i isin is. let g = h.each i isin is in
     let viewed : (x : ℕ) → active_at x i ≡ true → is_some (table_at (rows_made n table batch changes) x i.table) ≡ true = λ x active. ap is_some (tables_stay batch n table changes x i.table) ∙ g.viewed x active in
     let comes : (r : RestorationRecord) (point : ℕ) → In r m.restorations → awaited_of r.state r t.tablet t.done ≡ Some point → i.to ≡ None → ComesFrom (rows_made n table batch changes) r.namespace i point r.to = λ r point kept awaits opened. comes_on changes (rows_made n table batch changes) r.namespace i point r.to (rows_fixed n table batch changes) (λ key x ranged. stays i key x isin is ranged (ap (before_end x) opened))
-        (g.comes r point kept awaits opened) in
+    (g.comes r point kept awaits opened) in
     let stands : is_awaited (awaited_in m.restorations t.tablet t.done) i.to ≡ false → StandsIn t (rows_made n table batch changes) i = λ counted key x ranged cut before there.
-        g.stands counted key x ranged cut before (ap is_some (sym (tables_stay batch n table changes x i.table)) ∙ there) ∙ sym (stays i key x isin is ranged before) in
+    g.stands counted key x ranged cut before (ap is_some (sym (tables_stay batch n table changes x i.table)) ∙ there) ∙ sym (stays i key x isin is ranged before) in
     let sets : (f : FrozenSet) → In f t.frozen → SetStands f (rows_made n table batch changes) i = λ f held key x ranged cut by active. g.sets f held key x ranged cut by active ∙ sym (stays i key x isin is ranged (both_pass (leb i.from x) (before_end x i.to) active).1) in
     assumption (viewed, comes, stands, sets) in
     let shown : is_serving t.presence ≡ true → t.fence ≡ None → (x : ℕ) → t.cutoff ≤ x → is_some (table_at (rows_made n table batch changes) x t.table) ≡ true = λ serving unfenced x cut. ap is_some (tables_stay batch n table changes x t.table) ∙ h.shown serving unfenced x cut in

@@ -44,28 +44,28 @@ impl<V: VersionStore> Model for TabletPart<V> {
     ghost Value = { TabletView };
 
     ghost view = { λ p. record {
-        tablet = record {
-            clock = p.clock;
-            presence = presence_of p.presence;
-            tablet = id_or Tablet p.tablet;
-            table = id_or Table p.table;
-            low = p.low;
-            high = p.high;
-            version = p.version;
-            versions = V.versions p.store;
-            cutoff = V.cutoff p.store;
-            frozen = p.frozen;
-            fence = p.fence;
-            inbox = p.inbox.inbox;
-            done = p.inbox.done;
-        };
-        room = V.room p.store;
-        ready = p.inbox.ready;
+      tablet = record {
+        clock = p.clock;
+        presence = presence_of p.presence;
+        tablet = id_or Tablet p.tablet;
+        table = id_or Table p.table;
+        low = p.low;
+        high = p.high;
+        version = p.version;
+        versions = V.versions p.store;
+        cutoff = V.cutoff p.store;
+        frozen = p.frozen;
+        fence = p.fence;
+        inbox = p.inbox.inbox;
+        done = p.inbox.done;
+      };
+      room = V.room p.store;
+      ready = p.inbox.ready;
     } };
 
     ghost invariant = { λ p. record {
-        stamps : Below (p.clock + 1) (V.versions p.store);
-        few : count_frozen p.frozen < 2 ^ 64;
+      stamps : Below (p.clock + 1) (V.versions p.store);
+      few : count_frozen p.frozen < 2 ^ 64;
     } };
 }
 

@@ -59,7 +59,11 @@ impl<V: VersionStore> TabletPart<V> {
             });
         }
         let cutoff = self.cutoff();
-        Ok(if cutoff.number() < to.number() { to } else { cutoff })
+        Ok(if cutoff.number() < to.number() {
+            to
+        } else {
+            cutoff
+        })
     }
 
     /// What a compaction comes to, with the store that was prepared for it.
@@ -85,7 +89,12 @@ impl<V: VersionStore> TabletPart<V> {
         if self.is_empty() {
             return None;
         }
-        Some((self.cutoff(), self.len(), self.frozen_len(), self.inbox_len()))
+        Some((
+            self.cutoff(),
+            self.len(),
+            self.frozen_len(),
+            self.inbox_len(),
+        ))
     }
 
     /// The present row of a key at a time, if its range has the key.

@@ -7,9 +7,7 @@ pub enum Presence {
     Empty,
     Serving,
     /// Hidden at this stamp.
-    Hidden {
-        ended: HybridTime,
-    },
+    Hidden { ended: HybridTime },
 }
 
 /// What a part says of itself where it is asked for a tablet that it doesn't serve.

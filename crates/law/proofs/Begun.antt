@@ -15,7 +15,7 @@ use Rattle.model.specs.Parts.{Master, Parts, BeginsClone}
 use Rattle.model.specs.Looks.{free_slots}
 use Rattle.model.specs.Changed.{next_clone, next_namespace, pair_tablets, sources, clone_time, clone_begun, new_clone}
 use Rattle.model.specs.Changes.{accepts, CloneSource, judge_clone}
-use Rattle.model.specs.Drawn.{AreNext, DrawsNext, drawn_of, drawn_for_clone, given_of, given_to_clones, clones_made}
+use Rattle.model.specs.Drawn.{AreNext, DrawsNext, drawn_of, drawn_for_clone, given_to_clones, clones_made}
 use Rattle.law_invariants.specs.Invariant.{Inv}
 use Rattle.law_invariants.proofs.Finding.{not_same, apart_by_number}
 use Rattle.law_moves.proofs.Backing.{then_is}
@@ -72,17 +72,17 @@ begun_turn Clone m ns to = (refl, tt)
 
 -- its tables and tablets stand in order
 begun_given : (kind : Kind) (ps : Parts) (activity : List Interval) (changes : List Made) (ns : Id) (least : ℕ) (source target : List ℕ) (to n : ℕ) → ps.master.clock ≤ n → MayClone ps.master ns least target to n → KindsGood ps.master → Inv ps activity changes
-    → given_of kind (given_to_clones (new_clone ns source target to ps.master ∷ [])) ≡ begun_ids ps.master ns to kind
+    → given_to_clones (new_clone ns source target to ps.master ∷ []) kind ≡ begun_ids ps.master ns to kind
 begun_given Namespace ps activity changes ns least source target to n le may kinds inv = refl
 begun_given Table ps activity changes ns least source target to n le may kinds inv =
     let m = ps.master in
     let then_ = filter (λ (r : TableRecord). holds_at to r.from r.to && same r.namespace ns) m.catalog.tables in
-    append-nil _ ∙ ap (map {A = IdPair} (λ p. p.target)) (order_same _ (tables_of m ns to) (pair_tables_chained (tables_at m.catalog.tables ns to) m.drawn.tables (by_id_chained then_)))
+    append-nil _ ∙ append-nil _ ∙ append-nil _ ∙ ap (map {A = IdPair} (λ p. p.target)) (order_same _ (tables_of m ns to) (pair_tables_chained (tables_at m.catalog.tables ns to) m.drawn.tables (by_id_chained then_)))
 begun_given Tablet ps activity changes ns least source target to n le may kinds inv =
     let m = ps.master in
     let ts = tables_at m.catalog.tables ns to in
     let then_ = filter (λ (r : TableRecord). holds_at to r.from r.to && same r.namespace ns) m.catalog.tables in
-    append-nil _ ∙ ap (map {A = TabletPair} (λ p. p.target)) (order_same _ (tablets_of m ns to)
+    append-nil _ ∙ append-nil _ ∙ ap (map {A = TabletPair} (λ p. p.target)) (order_same _ (tablets_of m ns to)
     (pair_tablets_chained (sources m ns to) (free_slots m) m.drawn.tablets m.drawn.tables ts (by_id_chained then_) (tables_then_apart m.catalog.tables ns to inv.master.tables.rise)
     (λ t isin. kinds.tables t (then_is m.catalog.tables ns to t isin).0)
     (λ i isin. let t = source_table ps activity changes ns least target to n i le may inv (source_then m ns to i isin) in (t.0, (t.1.0, t.1.1)))
@@ -104,8 +104,8 @@ begun_next ps activity changes source target at slots n s le kinds inv e =
     let one : clones_made (next_clone m ∷ []) (m.clones ++ new ∷ []) ≡ new ∷ [] = made_one m.clones new
     (λ d isin. let by : d.id.number ≤ m.drawn.clones = (inv.operations.clones d isin).drawn in not_same d.id new.id (apart_by_number d.id new.id (omega arith))) in
     let drawn = accepted_draws ps activity changes source target at n s inv e in
-    let given : (kind : Kind) → given_of kind (given_to_clones (clones_made (next_clone m ∷ []) (m.clones ++ new ∷ []))) ≡ begun_ids m s.namespace to kind
-    = λ kind. ap (λ cs. given_of kind (given_to_clones cs)) one ∙ begun_given kind ps activity changes s.namespace _ source target to n le may.1 kinds inv in
+    let given : (kind : Kind) → given_to_clones (clones_made (next_clone m ∷ []) (m.clones ++ new ∷ [])) kind ≡ begun_ids m s.namespace to kind
+    = λ kind. ap (λ cs. given_to_clones cs kind) one ∙ begun_given kind ps activity changes s.namespace _ source target to n le may.1 kinds inv in
     record {
       count = λ kind. subst (λ d. drawn_of kind (clone_begun s.namespace source target to n m).drawn ≡ drawn_of kind m.drawn + drawn_of kind d) (sym drawn) (begun_counts kind m s.namespace source target to n may.1.enough);
       given = λ kind. ap length (given kind) ∙ begun_long kind m s.namespace to may.1.enough ∙ sym (ap (drawn_of kind) drawn);

@@ -7,7 +7,7 @@ use Rattle.model.specs.Parts.{Master, Parts, BeginsClone, If, judged, decided}
 use Rattle.model.specs.Entries.{Entry, slots_of, log_of, least, ActAsked, CommandAsked}
 use Rattle.model.specs.History.{outcome, told, master_effect, replay, held, most_entries, Legal}
 use Rattle.model.specs.Records.{State, IsCreating, IsComplete, IsFencing, IsSnapshot, IsSwitching, IsRestoring, IsReleasing, IsRestored, IsAccepted, IsCopying}
-use Rattle.model.specs.Drawn.{drawn_of, most_slots, DrawnWithin, DrawnBelow, drawn_by, drawn_entering, drawn_for, drawn_making, entered_by, made_by}
+use Rattle.model.specs.Drawn.{drawn_of, most_slots, DrawnWithin, DrawnBelow, drawn_by, drawn_entering, drawn_for, drawn_making, entered_by, ids_made}
 use Rattle.law_store.proofs.Keys.{either_way}
 use Rattle.std.specs.Prelude.{Result, Ok as Granted, Err as Denied, Option, not}
 use Rattle.row_values.specs.Slots.{same_slots}
@@ -90,8 +90,8 @@ clone_draws_few ps activity changes source target at plan n le most inv =
 -- an entry draws at most so many of a kind
 act_few : (act : Act) (slots n : ℕ) (ps : Parts) (activity : List Interval) (changes : List Made) → Later (slots_of act) ps n → ps.master.slots ≤ most_slots → ActAsked slots act → Inv ps activity changes
     → (kind : Kind) → drawn_of kind (drawn_by act (outcome act n ps).reply n ps.master) ≤ most_slots
-act_few (Change command plan) slots n ps activity changes later most asked inv = making_few (made_by (outcome (Change command plan) n ps).reply) command n ps.master asked.0
-    (λ source target at is. subst (λ c. (kind : Kind) → drawn_of kind (drawn_making (made_by (outcome (Change c plan) n ps).reply) c n ps.master) ≤ most_slots) (sym is)
+act_few (Change command plan) slots n ps activity changes later most asked inv = making_few (ids_made (outcome (Change command plan) n ps).reply) command n ps.master asked.0
+    (λ source target at is. subst (λ c. (kind : Kind) → drawn_of kind (drawn_making (ids_made (outcome (Change c plan) n ps).reply) c n ps.master) ≤ most_slots) (sym is)
     (clone_draws_few ps activity changes source target at plan n (le_of_lt (later 0 refl)) most inv))
 act_few (Advance operation) slots n ps activity changes later most asked inv = entering_few (entered_by (outcome (Advance operation) n ps).reply)
 act_few _ slots n ps activity changes later most asked inv = none_few

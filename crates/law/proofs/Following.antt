@@ -18,12 +18,11 @@ use Rattle.model.specs.Looks.{look_plan, look_present, plan_of, least_slots, fre
 use Rattle.model.specs.Entries.{IsSlot, IsRemovable, IsName, IsNamedOp, IsNamedBatch, IsTime, ActAsked, CommandAsked}
 use Rattle.row_values.specs.Batches.{IsKey, IsValue, IsOp, IsBatch}
 use Rattle.model.specs.History.{look}
-use Rattle.model.specs.Left.{left}
-use Rattle.model.specs.Settling.{coordinated}
+use Rattle.model.specs.Settling.{left, coordinated}
 use Rattle.model.specs.Replies.{ReplyRight}
 use Rattle.model.specs.Right.{IsActivePlace, PlacesRight, holds_keys}
 use Rattle.model.specs.Scripts.{ScriptCommand, Tick, Lag, CreateNamespace, DropNamespace, CreateTable, AddColumn, DropColumn, RenameTable, DropTable, WriteRows, ReadRow, ReadTable, Split, CreateSchedule, DeleteSchedule, TakeSnapshot, Restore, CloneNamespace, ListSchedules, ListSnapshots, ListRestorations, ListClones, ListTablets, RaiseCutoffs, CompactTablets, CleanUp, Coordinate, Settle, RestartMaster, RestartTablet, ShowStats, ShowHistory, time_at, asked_at, EditSchedule}
-use Rattle.model_runs.specs.Courses.{Found, found_by, Course, SetReading, SetLag, Perform, LookFor, WorkOff, ShowEntries, tell, plan_and_tell, course_of, key_alone, at_place, cell_by_id, op_by_id, item_by_id, write_at, write_into, change_under, read_from, at_each, remove_each, CourseAsked}
+use Rattle.model_runs.specs.Courses.{Found, found_by, Course, SetReading, SetLag, Perform, LookFor, WorkOff, ShowEntries, tell_alone, plan_and_tell, course_of, key_alone, at_place, cell_by_id, op_by_id, item_by_id, write_at, write_into, change_under, read_places, at_each, remove_each, CourseAsked}
 use Rattle.law_invariants.specs.Invariant.{Inv}
 use Rattle.law_invariants.proofs.Finding.{none_or_some, both_pass, passes_both, same_equal, in_mapped, filter_in}
 use Rattle.law_invariants.proofs.Overlap.{code_below, holder_there}
@@ -217,7 +216,7 @@ rows_follow namespace table batch slots asked (Placed places version columns) a 
     (λ place isin. place_in slots a.parts a.activity a.changes a.stamp right.found.id batch place a.count a.inv (right.each place isin))
 rows_follow namespace table batch slots asked _ a = tt
 
-row_follows : (namespace table key : List ℕ) (at : Option ℕ) (slots : ℕ) → IsKey key → IsTime at → Follows slots (AskKeys namespace table (key_alone key) at) (read_from (Some key) at)
+row_follows : (namespace table key : List ℕ) (at : Option ℕ) (slots : ℕ) → IsKey key → IsTime at → Follows slots (AskKeys namespace table (key_alone key) at) (read_places (Some key) at)
 row_follows namespace table key at slots is time (Placed places version columns) a =
     let right = a.right.1 in
     let some = some_place a.parts a.activity a.changes _ a.stamp namespace table (key_alone key) (code_of key) places a.later a.inv (code_below key) (λ i h. passes_both _ _ h refl) right in (
@@ -228,7 +227,7 @@ row_follows namespace table key at slots is time (Placed places version columns)
     )
 row_follows namespace table key at slots is time _ a = tt
 
-table_follows : (namespace table : List ℕ) (at : Option ℕ) (slots : ℕ) → IsTime at → Follows slots (AskTable namespace table at) (read_from None at)
+table_follows : (namespace table : List ℕ) (at : Option ℕ) (slots : ℕ) → IsTime at → Follows slots (AskTable namespace table at) (read_places None at)
 table_follows namespace table at slots time (Placed places version columns) a =
     let right = a.right.1 in
     let some = some_place a.parts a.activity a.changes _ a.stamp namespace table [] 0 places a.later a.inv (omega arith) (λ i h. refl) right in (
@@ -327,7 +326,7 @@ removals_follow slots reply a =
 
 -- Commands
 
-tell_fits : (command : Command) (slots reading : ℕ) → CourseAsked slots (tell command) → CourseFits slots reading (tell command)
+tell_fits : (command : Command) (slots reading : ℕ) → CourseAsked slots (tell_alone command) → CourseFits slots reading (tell_alone command)
 tell_fits command slots reading asked = record { asked = asked }
 
 plan_fits : (command : Command) (slots reading : ℕ) → CourseAsked slots (plan_and_tell command) → CourseFits slots reading (plan_and_tell command)

@@ -16,7 +16,7 @@ use Rattle.model.specs.Parts.{none_drawn, Drawn, Master, Parts, Outcome}
 use Rattle.model.specs.Looks.{free_slots}
 use Rattle.model.specs.Changed.{pair_tables, pair_tablets, sources, clone_time}
 use Rattle.model.specs.Changes.{CloneSource, judge_clone}
-use Rattle.model.specs.Drawn.{drawn_of, most_slots, drawn_for, drawn_for_clone, drawn_making, made_by}
+use Rattle.model.specs.Drawn.{drawn_of, most_slots, drawn_for, drawn_for_clone, drawn_making, ids_made}
 use Rattle.law_invariants.specs.Operations.{PairsApart}
 use Rattle.law_invariants.specs.Invariant.{Inv}
 use Rattle.law_invariants.proofs.Finding.{in_filter, same_self, not_same}
@@ -109,7 +109,7 @@ clone_few ps activity changes ns least target to n le most may inv =
 
 -- what a clone's command draws at a stamp, by its outcome
 abbrev pub CloneDraws : List ℕ → List ℕ → Option ℕ → ℕ → Master → Outcome → Drawn
-CloneDraws source target at n m o = drawn_making (made_by o.reply) (CloneNamespace source target at) n m
+CloneDraws source target at n m o = drawn_making (ids_made o.reply) (CloneNamespace source target at) n m
 
 -- where it is accepted
 pub accepted_draws : (ps : Parts) (activity : List Interval) (changes : List Made) (source target : List ℕ) (at : Option ℕ) (n : ℕ) (s : CloneSource) → Inv ps activity changes → judge_clone source target (clone_time at n) n ps.master ≡ Granted s

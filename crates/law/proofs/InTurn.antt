@@ -5,7 +5,7 @@ use Rattle.std.proofs.lemmas.Bool.Decides.{nat_tests}
 use Rattle.std.proofs.Math.Nat.{div-mul-le_self}
 use Rattle.std.proofs.lemmas.Nat.{le-div}
 use Rattle.std.proofs.lemmas.List.Elements.{filter-append}
-use Rattle.row_values.specs.Ids.{Id, Kind, Namespace, Table, Tablet, Schedule, Snapshot, Restoration, Clone, same}
+use Rattle.row_values.specs.Ids.{Id, Kind, Namespace, Table, Tablet, Schedule, Snapshot, Restoration, Clone, same, same_kind}
 use Rattle.row_values.specs.Elements.{In, put_in}
 use Rattle.row_values.specs.Ranges.{share_from}
 use Rattle.row_values.specs.Slots.{same_slots, has}
@@ -14,7 +14,7 @@ use Rattle.model.specs.Acts.{Act, Change, Command, CreateNamespace, DropNamespac
 use Rattle.model.specs.Parts.{Master, Parts, Outcome, If, decided, refused, judged, none_drawn, MasterAct, Ticks, MakesNamespace, DropsNamespace, MakesTable, AddsColumn, DropsColumn, RenamesTable, DropsTable, SplitsTablet, MakesSchedule, EditsSchedule, DeletesSchedule, TakesSnapshot, BeginsRestoration, BeginsClone, Sends, Acks, Unsends, Moves, Removes, Prunes, Restarts}
 use Rattle.model.specs.Lists.{by_range, next_snapshot, numbered_as, with_snapshot}
 use Rattle.model.specs.Changed.{begins, shares, next_namespace, next_table, next_tablet, clone_time}
-use Rattle.model.specs.Drawn.{AreNext, DrawsNext, drawn_of, drawn_by, given_of, given_by, none_given, given_for, given_to_clones, own_of, own_of_clone, own_of_restoration, tablets_of, DrawsInTurn}
+use Rattle.model.specs.Drawn.{AreNext, DrawsNext, drawn_of, drawn_by, given_by, given_for, given_to_clones, only, own_of, tablets_of, DrawsInTurn}
 use Rattle.model.specs.Changes.{accepts, change, planned, create_namespace, create_namespace_checks, drop_namespace, create_table, create_table_checks, add_column, drop_column, rename_table, drop_table, split, create_schedule, edit_schedule, delete_schedule, take_snapshot, restore, clone_namespace, list_tablets, judge_clone, judge_create_namespace, judge_drop_namespace, judge_create_table, judge_add_column, judge_drop_column, judge_rename_table, judge_drop_table, judge_split, judge_create_schedule, judge_edit_schedule, judge_delete_schedule, judge_take_snapshot, judge_restore}
 use Rattle.model.specs.Entries.{ActAsked, CommandAsked, Entry, slots_of}
 use Rattle.model.specs.History.{activity_of, journal_of, Legal, master_effect, outcome, replay, told}
@@ -33,23 +33,23 @@ use Rattle.law_clones.proofs.Serving.{clone_scheduled}
 use Rattle.std.proofs.lemmas.List.{append-nil}
 use Rattle.law_store.proofs.Keys.{either_way}
 use Rattle.law_invariants.proofs.Finding.{same_self, not_same, apart_by_number}
-use Rattle.model.specs.Records.{RestorationRecord, RestorationState, Fencing, Snapshotting, Switching, Restoring, Releasing, Restored, SnapshotRecord, CloneRecord, CloneState, Accepted, CloneSnapshot, Copying, CloneReleasing, CloneComplete, Schedule as ScheduleRecord, schedule_of, is_cloned, State, IsCreating, IsComplete, IsFencing, IsSnapshot, IsSwitching, IsRestoring, IsReleasing, IsRestored, IsAccepted, IsCopying, first_unacked}
+use Rattle.model.specs.Records.{RestorationRecord, RestorationState, Fencing, Snapshotting, Switching, Restoring, Releasing, Restored, SnapshotRecord, CloneRecord, CloneState, Accepted, CloneSnapshot, Copying, CloneReleasing, CloneComplete, Schedule as ScheduleRecord, schedule_of, is_cloned, State, IsCreating, IsComplete, IsFencing, IsSnapshot, IsSwitching, IsRestoring, IsReleasing, IsRestored, IsAccepted, IsCopying, first_unacked, is_snapshotting, named_by_restoration, named_by_clone, restoration_state, clone_state}
 use Rattle.model.specs.Coordination.{unfinished_snapshot, unfinished_restoration, unfinished_clone, acked_by}
-use Rattle.model.specs.Moves.{advance, advancing, moving, moved, moved_of, progress_of, snapshot_progress, restoration_progress, awaited_by_restoration, after_restoration, waits_for, completed, restoration_enters, restoration_moved, clone_progress, awaited_by_clone, after_clone, serving_clone, with_clones_snapshot, clone_goes, begins_clone, clone_moved}
+use Rattle.model.specs.Moves.{advance, advancing, moving, moved, moved_of, progress_of, snapshot_progress, restoration_progress, awaited_by_restoration, after_restoration, waits_for, completed, restoration_enters, restoration_moved, restoration_next as restoration_goes, given_restoration, clone_progress, awaited_by_clone, after_clone, clone_next, given_clone, id_of_snapshot, serving_clone, with_clones_snapshot, clone_goes, begins_clone, clone_moved}
 use Rattle.model.specs.Cleanup.{prune, removed_of}
 use Rattle.law_moves.proofs.Advancing.{no_clone, no_restoration}
 use Rattle.law_moves.proofs.Pending.{unfinished_restoration_is, unfinished_clone_is}
 use Rattle.law.proofs.Plain.{is_weighty, may_weigh, act_none}
 use Rattle.law.proofs.Law.{legal_holds, stamps_later}
-use Rattle.std.specs.Option.{is_some, option_map, option_map_or}
+use Rattle.std.specs.Option.{option_map, option_map_or, option_to_list}
 use Rattle.std.proofs.lemmas.Bool.{cond_both}
 
 -- so many of a kind are drawn, the next ones
 abbrev pub DrawsKind : Act → Reply → ℕ → Master → Master → Kind → Type 0
 DrawsKind act reply n before after kind =
     (drawn_of kind after.drawn ≡ drawn_of kind before.drawn + drawn_of kind (drawn_by act reply n before))
-    × ((length (given_of kind (given_by act reply after)) ≡ drawn_of kind (drawn_by act reply n before))
-    × AreNext kind (drawn_of kind before.drawn) (given_of kind (given_by act reply after)))
+    × ((length (given_by act reply after kind) ≡ drawn_of kind (drawn_by act reply n before))
+    × AreNext kind (drawn_of kind before.drawn) (given_by act reply after kind))
 
 pub next_of : (act : Act) (reply : Reply) (n : ℕ) (before after : Master) → DrawsKind act reply n before after Namespace → DrawsKind act reply n before after Table → DrawsKind act reply n before after Tablet → DrawsKind act reply n before after Schedule
     → DrawsKind act reply n before after Snapshot → DrawsKind act reply n before after Restoration → DrawsKind act reply n before after Clone → DrawsNext act reply n before after
@@ -65,13 +65,13 @@ next_of act reply n before after a b c d e f g = record { count = λ kind. (each
     each Clone = g
 
 -- what draws none
-pub none_next : (act : Act) (reply : Reply) (n : ℕ) (before after : Master) → drawn_by act reply n before ≡ none_drawn → given_by act reply after ≡ none_given → after.drawn ≡ before.drawn → DrawsNext act reply n before after
-none_next act reply n before after drawn given same_ = next_of act reply n before after (by Namespace refl refl) (by Table refl refl) (by Tablet refl refl) (by Schedule refl refl) (by Snapshot refl refl) (by Restoration refl refl) (by Clone refl refl)
+pub none_next : (act : Act) (reply : Reply) (n : ℕ) (before after : Master) → drawn_by act reply n before ≡ none_drawn → ((kind : Kind) → given_by act reply after kind ≡ []) → after.drawn ≡ before.drawn → DrawsNext act reply n before after
+none_next act reply n before after drawn given same_ = next_of act reply n before after (by Namespace refl) (by Table refl) (by Tablet refl) (by Schedule refl) (by Snapshot refl) (by Restoration refl) (by Clone refl)
   where
-    by : (kind : Kind) → drawn_of kind none_drawn ≡ 0 → given_of kind none_given ≡ [] → DrawsKind act reply n before after kind
-    by kind zero_ empty =
+    by : (kind : Kind) → drawn_of kind none_drawn ≡ 0 → DrawsKind act reply n before after kind
+    by kind zero_ =
         let d : drawn_of kind (drawn_by act reply n before) ≡ 0 = ap (drawn_of kind) drawn ∙ zero_ in
-        let g : given_of kind (given_by act reply after) ≡ [] = ap (given_of kind) given ∙ empty in
+        let g : given_by act reply after kind ≡ [] = given kind in
         let s : drawn_of kind after.drawn ≡ drawn_of kind before.drawn = ap (drawn_of kind) same_ in
         (omega (arith, d, s), (ap length g ∙ sym d, subst (AreNext kind (drawn_of kind before.drawn)) (sym g) tt))
 
@@ -135,9 +135,18 @@ tablets_made m slots count n some drawn =
 record Draws (act : Act) (n : ℕ) (m : Master) (o : Outcome) : Type 0 where
   next : DrawsNext act o.reply n m (master_effect o.master n m)
 
-given_none : (command : Command) (m : Master) → given_for command [] m ≡ none_given
-given_none (CloneNamespace source target to) m = ap given_to_clones (none_made m.clones)
-given_none _ m = refl
+only_none : (k kind : Kind) → only k [] kind ≡ []
+only_none k kind = either_way (same_kind kind k) (λ e. rw e refl) (λ e. rw e refl)
+
+given_none : (command : Command) (m : Master) (kind : Kind) → given_for command [] m kind ≡ []
+given_none (CreateNamespace name) m kind = only_none Namespace kind
+given_none (CreateTable namespace table tablets columns) m kind = ap (λ ids. ids ++ only Tablet [] kind) (only_none Table kind) ∙ only_none Tablet kind
+given_none (Split namespace table code) m kind = only_none Tablet kind
+given_none (CreateSchedule interval retention namespace) m kind = only_none Schedule kind
+given_none (TakeSnapshot schedule) m kind = only_none Snapshot kind
+given_none (Restore schedule to) m kind = only_none Restoration kind
+given_none (CloneNamespace source target to) m kind = ap (λ cs. given_to_clones cs kind) (none_made m.clones)
+given_none _ m kind = refl
 
 refused_next : (command : Command) (slots : List ℕ) (n : ℕ) (m : Master) (why : Refusal) → Draws (Change command slots) n m (refused why)
 refused_next command slots n m why = record { next = none_next (Change command slots) (Refused why) n m (record m { clock = n }) refl (given_none command (record m { clock = n })) refl }
@@ -203,47 +212,33 @@ planned_next (EditSchedule schedule interval retention) slots n ps activity chan
     decided_next (judge_edit_schedule schedule interval retention ps.master) _ (EditSchedule schedule interval retention) slots n ps.master (λ found e. made_none (EditSchedule schedule interval retention) slots _ _ n ps.master refl)
 planned_next (DeleteSchedule schedule) slots n ps activity changes asked le kinds plan inv =
     decided_next (judge_delete_schedule schedule ps.master) _ (DeleteSchedule schedule) slots n ps.master (λ found e. made_none (DeleteSchedule schedule) slots _ _ n ps.master refl)
-planned_next ListSchedules slots n ps activity changes asked le kinds plan inv = record { next = none_next _ _ n ps.master _ refl refl refl }
-planned_next ListSnapshots slots n ps activity changes asked le kinds plan inv = record { next = none_next _ _ n ps.master _ refl refl refl }
-planned_next ListRestorations slots n ps activity changes asked le kinds plan inv = record { next = none_next _ _ n ps.master _ refl refl refl }
-planned_next ListClones slots n ps activity changes asked le kinds plan inv = record { next = none_next _ _ n ps.master _ refl refl refl }
+planned_next ListSchedules slots n ps activity changes asked le kinds plan inv = record { next = none_next _ _ n ps.master _ refl (λ kind. refl) refl }
+planned_next ListSnapshots slots n ps activity changes asked le kinds plan inv = record { next = none_next _ _ n ps.master _ refl (λ kind. refl) refl }
+planned_next ListRestorations slots n ps activity changes asked le kinds plan inv = record { next = none_next _ _ n ps.master _ refl (λ kind. refl) refl }
+planned_next ListClones slots n ps activity changes asked le kinds plan inv = record { next = none_next _ _ n ps.master _ refl (λ kind. refl) refl }
 planned_next (ListTablets namespace) slots n ps activity changes asked le kinds plan inv =
-    decided_next (found_namespace ps.master namespace) _ (ListTablets namespace) slots n ps.master (λ ns e. record { next = none_next _ _ n ps.master _ refl refl refl })
+    decided_next (found_namespace ps.master namespace) _ (ListTablets namespace) slots n ps.master (λ ns e. record { next = none_next _ _ n ps.master _ refl (λ kind. refl) refl })
 
 -- Moves
 
 -- the record that a restoration has after it entered a state, as the master finds it by its id
 own_found : (rs : List RestorationRecord) (r : RestorationRecord) (id own : Id) (point : ℕ) → r.id ≡ id → unfinished_restoration rs id ≡ Some r
-    → option_map_or (λ q. own_of_restoration q.state) (unfinished_restoration (map {A = RestorationRecord} (λ x. record x { listed = if same x.id r.id then [] else x.listed; state = if same x.id r.id then Snapshotting point own else x.state }) rs) id) [] ≡ own ∷ []
+    → option_map_or (λ q. option_to_list (named_by_restoration q.state)) (unfinished_restoration (map {A = RestorationRecord} (λ x. record x { listed = if same x.id r.id then [] else x.listed; state = if same x.id r.id then Snapshotting point own else x.state }) rs) id) [] ≡ own ∷ []
 own_found [] r id own point is found = absurd (let q = found in grind arith)
 own_found (x ∷ rs) r id own point is found = either_way (same x.id id)
     (λ b. let mine : same x.id r.id ≡ true = ap (same x.id) is ∙ b in rw mine (rw b refl))
     (λ b. let rest : unfinished_restoration rs id ≡ Some r = rw b at found in rw b (own_found rs r id own point is rest))
 
 own_cloned : (cs : List CloneRecord) (r : CloneRecord) (id own : Id) → r.id ≡ id → unfinished_clone cs id ≡ Some r
-    → option_map_or (λ q. own_of_clone q.state) (unfinished_clone (map {A = CloneRecord} (λ x. record x { listed = if same x.id r.id then [] else x.listed; state = if same x.id r.id then CloneSnapshot own else x.state }) cs) id) [] ≡ own ∷ []
+    → option_map_or (λ q. option_to_list (named_by_clone q.state)) (unfinished_clone (map {A = CloneRecord} (λ x. record x { listed = if same x.id r.id then [] else x.listed; state = if same x.id r.id then CloneSnapshot own else x.state }) cs) id) [] ≡ own ∷ []
 own_cloned [] r id own is found = absurd (let q = found in grind arith)
 own_cloned (x ∷ cs) r id own is found = either_way (same x.id id)
     (λ b. let mine : same x.id r.id ≡ true = ap (same x.id) is ∙ b in rw mine (rw b refl))
     (λ b. let rest : unfinished_clone cs id ≡ Some r = rw b at found in rw b (own_cloned cs r id own is rest))
 
--- whether it is the state in which an operation waits for the snapshot that it made
-abbrev is_snapshot : State → Bool
-is_snapshot IsSnapshot = true
-is_snapshot IsCreating = false
-is_snapshot IsComplete = false
-is_snapshot IsFencing = false
-is_snapshot IsSwitching = false
-is_snapshot IsRestoring = false
-is_snapshot IsReleasing = false
-is_snapshot IsRestored = false
-is_snapshot IsAccepted = false
-is_snapshot IsCopying = false
-
 -- a move into a state that makes no snapshot
-quiet_move : (operation : Id) (next : State) (n : ℕ) (before after : Master) → is_snapshot next ≡ false → after.drawn ≡ before.drawn → DrawsNext (Advance operation) (Advanced next) n before after
-quiet_move operation IsSnapshot n before after e same_ = absurd (let q = e in grind arith)
-quiet_move operation _ n before after e same_ = none_next _ _ n before after refl refl same_
+quiet_move : (operation : Id) (next : State) (n : ℕ) (before after : Master) → is_snapshotting next ≡ false → after.drawn ≡ before.drawn → DrawsNext (Advance operation) (Advanced next) n before after
+quiet_move operation next n before after e same_ = none_next _ _ n before after (rw e refl) (λ kind. rw e refl) same_
 
 -- a restoration makes a snapshot for itself
 own_move : (r : RestorationRecord) (operation : Id) (n : ℕ) (ps : Parts) (activity : List Interval) (changes : List Made) → operation.kind ≡ Restoration → unfinished_restoration ps.master.restorations operation ≡ Some r → Inv ps activity changes
@@ -253,14 +248,14 @@ own_move r operation n ps activity changes kind found inv =
     let is = unfinished_restoration_is m.restorations operation r found in
     let after = restoration_enters r (Snapshotting (n + 1) (next_snapshot m)) [] n (with_snapshot r.namespace r.schedule n m) in
     let own : own_of after operation ≡ next_snapshot m ∷ []
-    = ap (λ ids. ids ++ option_map_or (λ c. own_of_clone c.state) (unfinished_clone m.clones operation) []) (own_found m.restorations r operation (next_snapshot m) (n + 1) is.1.0 found)
-    ∙ ap (λ c. next_snapshot m ∷ option_map_or {T = CloneRecord} (λ c. own_of_clone c.state) c []) (no_clone m changes operation inv.operations (λ q. let e = sym kind ∙ q in grind arith)) in
+    = ap (λ ids. ids ++ option_map_or (λ c. option_to_list (named_by_clone c.state)) (unfinished_clone m.clones operation) []) (own_found m.restorations r operation (next_snapshot m) (n + 1) is.1.0 found)
+    ∙ ap (λ c. next_snapshot m ∷ option_map_or {T = CloneRecord} (λ c. option_to_list (named_by_clone c.state)) c []) (no_clone m changes operation inv.operations (λ q. let e = sym kind ∙ q in grind arith)) in
     next_of (Advance operation) (Advanced IsSnapshot) n m after (omega arith, (refl, tt)) (omega arith, (refl, tt)) (omega arith, (refl, tt)) (omega arith, (refl, tt))
     (refl, (ap length own, subst (AreNext Snapshot m.drawn.snapshots) (sym own) (refl, tt)))
     (omega arith, (refl, tt)) (omega arith, (refl, tt))
 
 state_next : (state : RestorationState) (r : RestorationRecord) (operation : Id) (n : ℕ) (ps : Parts) (activity : List Interval) (changes : List Made) → operation.kind ≡ Restoration → unfinished_restoration ps.master.restorations operation ≡ Some r → Inv ps activity changes
-    → DrawsNext (Advance operation) (Advanced (after_restoration state)) n ps.master (restoration_moved state r n ps.master)
+    → DrawsNext (Advance operation) (Advanced (restoration_state (restoration_goes state (given_restoration state r ps.master.clock ps.master)))) n ps.master (restoration_moved state r n ps.master)
 state_next Fencing r operation n ps activity changes kind found inv = own_move r operation n ps activity changes kind found inv
 state_next (Snapshotting point own) r operation n ps activity changes kind found inv = quiet_move operation IsSwitching n ps.master _ refl refl
 state_next (Switching point serving) r operation n ps activity changes kind found inv = quiet_move operation IsRestoring n ps.master _ refl refl
@@ -276,7 +271,7 @@ own_copy (Some s) k r operation n ps activity changes e kind found inv =
     let is = unfinished_clone_is m.clones operation r found in
     let after = clone_goes Accepted None r n m (with_snapshot r.source s.id n m) in
     let own : own_of after operation ≡ next_snapshot m ∷ []
-    = ap (λ q. option_map_or {T = RestorationRecord} (λ r. own_of_restoration r.state) q [] ++ option_map_or (λ c. own_of_clone c.state) (unfinished_clone after.clones operation) [])
+    = ap (λ q. option_map_or {T = RestorationRecord} (λ r. option_to_list (named_by_restoration r.state)) q [] ++ option_map_or (λ c. option_to_list (named_by_clone c.state)) (unfinished_clone after.clones operation) [])
     (no_restoration m changes operation inv.operations (λ q. let e = sym kind ∙ q in grind arith))
     ∙ own_cloned m.clones r operation (next_snapshot m) is.1.0 found in
     next_of (Advance operation) (Advanced IsSnapshot) n m after (omega arith, (refl, tt)) (omega arith, (refl, tt)) (omega arith, (refl, tt)) (omega arith, (refl, tt))
@@ -284,13 +279,13 @@ own_copy (Some s) k r operation n ps activity changes e kind found inv =
     (omega arith, (refl, tt)) (omega arith, (refl, tt))
 
 begins_next : (o : Option SnapshotRecord) (r : CloneRecord) (operation : Id) (n : ℕ) (ps : Parts) (activity : List Interval) (changes : List Made) → In r ps.master.clones → is_cloned r.state ≡ false → operation.kind ≡ Clone → unfinished_clone ps.master.clones operation ≡ Some r → Inv ps activity changes
-    → DrawsNext (Advance operation) (Advanced (after_clone Accepted (is_some o))) n ps.master (begins_clone o r n ps.master)
+    → DrawsNext (Advance operation) (Advanced (clone_state (clone_next Accepted (given_clone Accepted (id_of_snapshot o) r ps.master.clock ps.master)))) n ps.master (begins_clone o r n ps.master)
 begins_next (Some q) r operation n ps activity changes there open_ kind found inv = quiet_move operation IsCopying n ps.master _ refl refl
 begins_next None r operation n ps activity changes there open_ kind found inv =
     let s = clone_scheduled ps.master changes r inv.operations there open_ in own_copy (schedule_of ps.master.schedules r.source) s.0 r operation n ps activity changes s.1.0 kind found inv
 
 copy_next : (state : CloneState) (r : CloneRecord) (operation : Id) (n : ℕ) (ps : Parts) (activity : List Interval) (changes : List Made) → In r ps.master.clones → is_cloned r.state ≡ false → operation.kind ≡ Clone → unfinished_clone ps.master.clones operation ≡ Some r → Inv ps activity changes
-    → DrawsNext (Advance operation) (Advanced (after_clone state (is_some (serving_clone ps.master r)))) n ps.master (clone_moved state r n ps.master)
+    → DrawsNext (Advance operation) (Advanced (clone_state (clone_next state (given_clone state (id_of_snapshot (serving_clone ps.master r)) r ps.master.clock ps.master)))) n ps.master (clone_moved state r n ps.master)
 copy_next Accepted r operation n ps activity changes there open_ kind found inv = begins_next (serving_clone ps.master r) r operation n ps activity changes there open_ kind found inv
 copy_next (CloneSnapshot own) r operation n ps activity changes there open_ kind found inv = quiet_move operation IsCopying n ps.master _ refl refl
 copy_next (Copying serving at) r operation n ps activity changes there open_ kind found inv = quiet_move operation IsReleasing n ps.master _ refl refl
@@ -298,30 +293,30 @@ copy_next (CloneReleasing serving at) r operation n ps activity changes there op
 copy_next (CloneComplete serving at) r operation n ps activity changes there open_ kind found inv = quiet_move operation IsComplete n ps.master _ refl refl
 
 waits_next : (awaited : Option Id) (operation : Id) (next : State) (n : ℕ) (m : Master) → DrawsNext (Advance operation) (Advanced next) n m (moved operation n m) → Draws (Advance operation) n m (moving awaited operation next)
-waits_next (Some on) operation next n m h = record { next = none_next _ _ n m _ refl refl refl }
+waits_next (Some on) operation next n m h = record { next = none_next _ _ n m _ refl (λ kind. refl) refl }
 waits_next None operation next n m h = record { next = h }
 
 restoration_next : (found : Option RestorationRecord) (operation : Id) (n : ℕ) (ps : Parts) (activity : List Interval) (changes : List Made) → operation.kind ≡ Restoration → unfinished_restoration ps.master.restorations operation ≡ found → Inv ps activity changes
     → Draws (Advance operation) n ps.master (advancing (option_map (restoration_progress ps.master) found) operation)
-restoration_next None operation n ps activity changes kind found inv = record { next = none_next _ _ n ps.master _ refl refl refl }
+restoration_next None operation n ps activity changes kind found inv = record { next = none_next _ _ n ps.master _ refl (λ kind. refl) refl }
 restoration_next (Some r) operation n ps activity changes kind found inv =
     let m = ps.master in
     let is : moved operation n m ≡ restoration_moved r.state r n m = ap (λ k. moved_of k operation n m) kind ∙ ap (λ o. option_map_or {T = RestorationRecord} (λ r. restoration_moved r.state r n m) o (record m { clock = n })) found in
-    waits_next (waits_for (first_unacked r.listed) (awaited_by_restoration r.state m r)) operation (after_restoration r.state) n m
-    (subst (DrawsNext (Advance operation) (Advanced (after_restoration r.state)) n m) (sym is) (state_next r.state r operation n ps activity changes kind found inv))
+    waits_next (waits_for (first_unacked r.listed) (awaited_by_restoration r.state m r)) operation (after_restoration m r) n m
+    (subst (DrawsNext (Advance operation) (Advanced (after_restoration m r)) n m) (sym is) (state_next r.state r operation n ps activity changes kind found inv))
 
 copies_next : (found : Option CloneRecord) (operation : Id) (n : ℕ) (ps : Parts) (activity : List Interval) (changes : List Made) → operation.kind ≡ Clone → unfinished_clone ps.master.clones operation ≡ found → Inv ps activity changes
     → Draws (Advance operation) n ps.master (advancing (option_map (clone_progress ps.master) found) operation)
-copies_next None operation n ps activity changes kind found inv = record { next = none_next _ _ n ps.master _ refl refl refl }
+copies_next None operation n ps activity changes kind found inv = record { next = none_next _ _ n ps.master _ refl (λ kind. refl) refl }
 copies_next (Some r) operation n ps activity changes kind found inv =
     let m = ps.master in
     let there = unfinished_clone_is m.clones operation r found in
     let is : moved operation n m ≡ clone_moved r.state r n m = ap (λ k. moved_of k operation n m) kind ∙ ap (λ o. option_map_or {T = CloneRecord} (λ r. clone_moved r.state r n m) o (record m { clock = n })) found in
-    waits_next (waits_for (first_unacked r.listed) (awaited_by_clone r.state m r)) operation (after_clone r.state (is_some (serving_clone m r))) n m
-    (subst (DrawsNext (Advance operation) (Advanced (after_clone r.state (is_some (serving_clone m r)))) n m) (sym is) (copy_next r.state r operation n ps activity changes there.0 there.1.1 kind found inv))
+    waits_next (waits_for (first_unacked r.listed) (awaited_by_clone r.state m r)) operation (after_clone m r) n m
+    (subst (DrawsNext (Advance operation) (Advanced (after_clone m r)) n m) (sym is) (copy_next r.state r operation n ps activity changes there.0 there.1.1 kind found inv))
 
 snapshot_next : (found : Option SnapshotRecord) (operation : Id) (n : ℕ) (m : Master) → operation.kind ≡ Snapshot → unfinished_snapshot m.snapshots operation ≡ found → Draws (Advance operation) n m (advancing (option_map snapshot_progress found) operation)
-snapshot_next None operation n m kind found = record { next = none_next _ _ n m _ refl refl refl }
+snapshot_next None operation n m kind found = record { next = none_next _ _ n m _ refl (λ kind. refl) refl }
 snapshot_next (Some r) operation n m kind found =
     let is : moved operation n m ≡ completed r n m = ap (λ k. moved_of k operation n m) kind ∙ ap (λ o. option_map_or {T = SnapshotRecord} (λ r. completed r n m) o (record m { clock = n })) found in
     waits_next (waits_for (first_unacked r.listed) None) operation IsComplete n m (subst (DrawsNext (Advance operation) (Advanced IsComplete) n m) (sym is) (quiet_move operation IsComplete n m (completed r n m) refl refl))
@@ -330,7 +325,7 @@ kind_next : (kind : Kind) (operation : Id) (n : ℕ) (ps : Parts) (activity : Li
 kind_next Clone operation n ps activity changes is inv = copies_next (unfinished_clone ps.master.clones operation) operation n ps activity changes is refl inv
 kind_next Restoration operation n ps activity changes is inv = restoration_next (unfinished_restoration ps.master.restorations operation) operation n ps activity changes is refl inv
 kind_next Snapshot operation n ps activity changes is inv = snapshot_next (unfinished_snapshot ps.master.snapshots operation) operation n ps.master is refl
-kind_next _ operation n ps activity changes is inv = record { next = none_next _ _ n ps.master _ refl refl refl }
+kind_next _ operation n ps activity changes is inv = record { next = none_next _ _ n ps.master _ refl (λ kind. refl) refl }
 
 -- Each act
 
@@ -368,18 +363,18 @@ act_next (Change command plan) slots n ps activity changes asked later kinds inv
     by true e = rw e (planned_next command plan n ps activity changes asked.0 (le_of_lt (later 0 refl)) kinds e inv)
     by false e = rw e (refused_next command plan n ps.master (StalePlan (plan_of command ps.master)))
 act_next (Advance operation) slots n ps activity changes asked later kinds inv = (kind_next operation.kind operation n ps activity changes refl inv).next
-act_next Prune slots n ps activity changes asked later kinds inv = none_next _ _ n ps.master _ refl refl refl
-act_next (Look ask) slots n ps activity changes asked later kinds inv = none_next _ _ n ps.master _ refl refl (plain_told (Look ask) n ps refl)
-act_next (Write place version batch) slots n ps activity changes asked later kinds inv = none_next _ _ n ps.master _ refl refl (plain_told (Write place version batch) n ps refl)
-act_next (Read places version key at columns) slots n ps activity changes asked later kinds inv = none_next _ _ n ps.master _ refl refl (plain_told (Read places version key at columns) n ps refl)
-act_next (Cutoff slot) slots n ps activity changes asked later kinds inv = none_next _ _ n ps.master _ refl refl (plain_told (Cutoff slot) n ps refl)
-act_next (Compact slot) slots n ps activity changes asked later kinds inv = none_next _ _ n ps.master _ refl refl (plain_told (Compact slot) n ps refl)
-act_next (Send operation slot) slots n ps activity changes asked later kinds inv = none_next _ _ n ps.master _ refl refl (plain_told (Send operation slot) n ps refl)
-act_next (Process slot other) slots n ps activity changes asked later kinds inv = none_next _ _ n ps.master _ refl refl (plain_told (Process slot other) n ps refl)
-act_next (Ack operation slot) slots n ps activity changes asked later kinds inv = none_next _ _ n ps.master _ refl refl (plain_told (Ack operation slot) n ps refl)
-act_next (Remove target plan) slots n ps activity changes asked later kinds inv = none_next _ _ n ps.master _ refl refl (plain_told (Remove target plan) n ps refl)
-act_next (Restart slot) slots n ps activity changes asked later kinds inv = none_next _ _ n ps.master _ refl refl (plain_told (Restart slot) n ps refl)
-act_next (Stats slot) slots n ps activity changes asked later kinds inv = none_next _ _ n ps.master _ refl refl (plain_told (Stats slot) n ps refl)
+act_next Prune slots n ps activity changes asked later kinds inv = none_next _ _ n ps.master _ refl (λ kind. refl) refl
+act_next (Look ask) slots n ps activity changes asked later kinds inv = none_next _ _ n ps.master _ refl (λ kind. refl) (plain_told (Look ask) n ps refl)
+act_next (Write place version batch) slots n ps activity changes asked later kinds inv = none_next _ _ n ps.master _ refl (λ kind. refl) (plain_told (Write place version batch) n ps refl)
+act_next (Read places version key at columns) slots n ps activity changes asked later kinds inv = none_next _ _ n ps.master _ refl (λ kind. refl) (plain_told (Read places version key at columns) n ps refl)
+act_next (Cutoff slot) slots n ps activity changes asked later kinds inv = none_next _ _ n ps.master _ refl (λ kind. refl) (plain_told (Cutoff slot) n ps refl)
+act_next (Compact slot) slots n ps activity changes asked later kinds inv = none_next _ _ n ps.master _ refl (λ kind. refl) (plain_told (Compact slot) n ps refl)
+act_next (Send operation slot) slots n ps activity changes asked later kinds inv = none_next _ _ n ps.master _ refl (λ kind. refl) (plain_told (Send operation slot) n ps refl)
+act_next (Process slot other) slots n ps activity changes asked later kinds inv = none_next _ _ n ps.master _ refl (λ kind. refl) (plain_told (Process slot other) n ps refl)
+act_next (Ack operation slot) slots n ps activity changes asked later kinds inv = none_next _ _ n ps.master _ refl (λ kind. refl) (plain_told (Ack operation slot) n ps refl)
+act_next (Remove target plan) slots n ps activity changes asked later kinds inv = none_next _ _ n ps.master _ refl (λ kind. refl) (plain_told (Remove target plan) n ps refl)
+act_next (Restart slot) slots n ps activity changes asked later kinds inv = none_next _ _ n ps.master _ refl (λ kind. refl) (plain_told (Restart slot) n ps refl)
+act_next (Stats slot) slots n ps activity changes asked later kinds inv = none_next _ _ n ps.master _ refl (λ kind. refl) (plain_told (Stats slot) n ps refl)
 
 pub drawn_in_turn : (history : List Entry) (slots : ℕ) → Legal slots history → DrawsInTurn slots history
 unfolding replay

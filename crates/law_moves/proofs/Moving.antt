@@ -14,7 +14,7 @@ use Rattle.model.specs.Stands.{awaited_of, is_restore}
 use Rattle.model.specs.Operations.{restoration_of, clone_with, time_of_user}
 use Rattle.model.specs.Cleanup.{floor_of}
 use Rattle.model.specs.Parts.{Master, Parts}
-use Rattle.model.specs.Moves.{released, is_restoring, brought_back}
+use Rattle.model.specs.Moves.{released, brought_back}
 use Rattle.law_store.proofs.Keys.{either_way}
 use Rattle.law_invariants.specs.Operations.{Uses, IsPoint, IsAfterSwitch, RestoringGood, ReleasingGood, RestorationStateGood}
 use Rattle.law_invariants.specs.Orders.{restoring_stage, stage_of_restoration, FencePlace, RestoringSlot, ReleasingSlot, RestorationSlot}
@@ -46,10 +46,6 @@ not_yet ps activity changes r slot kind inv there later = either_way (is_done (p
 
 -- Bodies
 
-restoring_same : (b : Body) → is_restoring b ≡ is_restore b
-restoring_same Fence = refl
-restoring_same _ = refl
-
 restore_kind : (b : Body) → is_restore b ≡ true → kind_of b ≡ RestoreFromKind
 restore_kind (RestoreFrom snapshot to point version) e = refl
 restore_kind _ e = absurd (true≢false (sym e))
@@ -80,11 +76,11 @@ point_moves m w changes r state listed point snapshots scheduled h = record {
 released_is : (point : ℕ) (ls : List Listed) (l : Listed) → In l (released point (brought_back ls)) → (k : Listed) × ((In k ls × (is_restore k.body ≡ true)) × ((k.tablet ≡ l.tablet) × ((k.slot ≡ l.slot) × ((l.body ≡ Release point) × (l.acked ≡ false)))))
 released_is point ls l isin = in_mapped {A = Listed} {B = Listed} (λ k. record { tablet = k.tablet; slot = k.slot; body = Release point; acked = false })
     (λ l. (k : Listed) × ((In k ls × (is_restore k.body ≡ true)) × ((k.tablet ≡ l.tablet) × ((k.slot ≡ l.slot) × ((l.body ≡ Release point) × (l.acked ≡ false)))))) (brought_back ls)
-    (λ k there. let f = filter_in ls (λ l. is_restoring l.body) k there in (k, ((f.0, sym (restoring_same k.body) ∙ f.1), (refl, (refl, (refl, refl)))))) l isin
+    (λ k there. let f = filter_in ls (λ l. is_restore l.body) k there in (k, ((f.0, f.1), (refl, (refl, (refl, refl)))))) l isin
 
 released_has : (point : ℕ) (ls : List Listed) (k : Listed) → In k ls → is_restore k.body ≡ true → In (record { tablet = k.tablet; slot = k.slot; body = Release point; acked = false }) (released point (brought_back ls))
 released_has point ls k isin is = map_in {A = Listed} {B = Listed} (λ k. record { tablet = k.tablet; slot = k.slot; body = Release point; acked = false }) (brought_back ls) k
-    (in_filter ls (λ l. is_restoring l.body) k isin (restoring_same k.body ∙ is))
+    (in_filter ls (λ l. is_restore l.body) k isin is)
 
 pub releases : (ps : Parts) (activity : List Interval) (changes : List Change) (n : ℕ) (r : RestorationRecord) (point : ℕ) (serving_ : Id) → ps.master.clock < n → In r ps.master.restorations → r.state ≡ Restoring point serving_
     → ((l : Listed) → In l r.listed → l.acked ≡ true) → Inv ps activity changes → Enters ps changes n r (Releasing point serving_) (released point (brought_back r.listed))

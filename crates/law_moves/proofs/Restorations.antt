@@ -40,16 +40,16 @@ moved_is operation r n k kind found = ap (λ q. moved_of q operation n k) kind �
 -- a move that makes no change and leaves the activity
 quiet_keeps : (ps : Parts) (activity : List Interval) (changes : List Made) (n : ℕ) (operation : Id) (r : RestorationRecord) (state : RestorationState) (w : Records) → Later (0 ∷ []) ps n → Moved ps operation r → r.state ≡ state
     → restoration_moved state r n ps.master ≡ recorded ps.master w → (restoration_moved state r n (record ps.master { activity = activity })).activity ≡ activity → with_restoration state r changes ≡ changes → Inv (parts_with ps w) activity changes
-    → KeepsAll (Advance operation) n ps activity changes (moves operation (after_restoration r.state))
+    → KeepsAll (Advance operation) n ps activity changes (moves operation (after_restoration ps.master r))
 quiet_keeps ps activity changes n operation r state w later v is master stays quiet inv =
-    alone_keeps (Advance operation) (moves operation (after_restoration r.state)) n ps activity activity changes changes (recorded ps.master w) refl refl
+    alone_keeps (Advance operation) (moves operation (after_restoration ps.master r)) n ps activity activity changes changes (recorded ps.master w) refl refl
     (moved_is operation r n ps.master v.kind v.found ∙ ap (λ st. restoration_moved st r n ps.master) is ∙ master)
     (ap (λ k. k.activity) (moved_is operation r n (record ps.master { activity = activity }) v.kind v.found) ∙ ap (λ st. (restoration_moved st r n (record ps.master { activity = activity })).activity) is ∙ stays)
     tt
     (ap (λ o. with_either o (unfinished_clone ps.master.clones operation) n changes) v.found ∙ ap (λ st. with_restoration st r changes) is ∙ quiet) inv
 
 fencing_keeps : (ps : Parts) (activity : List Interval) (changes : List Made) (n : ℕ) (operation : Id) (r : RestorationRecord) → Later (0 ∷ []) ps n → Moved ps operation r → r.state ≡ Fencing → Inv ps activity changes
-    → KeepsAll (Advance operation) n ps activity changes (moves operation (after_restoration r.state))
+    → KeepsAll (Advance operation) n ps activity changes (moves operation (after_restoration ps.master r))
 fencing_keeps ps activity changes n operation r later v is inv =
     let m = ps.master in
     let before : m.clock < n = later 0 refl in
@@ -75,7 +75,7 @@ fencing_keeps ps activity changes n operation r later v is inv =
     (entered_keeps (parts_with ps w0) activity changes n r (Snapshotting (n + 1) (next_snapshot m)) [] e now)
 
 snapshotting_keeps : (ps : Parts) (activity : List Interval) (changes : List Made) (n : ℕ) (operation : Id) (r : RestorationRecord) (point : ℕ) (own : Id) → Later (0 ∷ []) ps n → Moved ps operation r → r.state ≡ Snapshotting point own → Inv ps activity changes
-    → KeepsAll (Advance operation) n ps activity changes (moves operation (after_restoration r.state))
+    → KeepsAll (Advance operation) n ps activity changes (moves operation (after_restoration ps.master r))
 snapshotting_keeps ps activity changes n operation r point own later v is inv =
     let m = ps.master in
     let before : m.clock < n = later 0 refl in
@@ -84,7 +84,7 @@ snapshotting_keeps ps activity changes n operation r point own later v is inv =
     quiet_keeps ps activity changes n operation r (Snapshotting point own) (enters r state [] n m) later v is refl refl refl (entered_keeps ps activity changes n r state [] e inv)
 
 restoring_keeps : (ps : Parts) (activity : List Interval) (changes : List Made) (n : ℕ) (operation : Id) (r : RestorationRecord) (point : ℕ) (serving_ : Id) → Later (0 ∷ []) ps n → Moved ps operation r → r.state ≡ Restoring point serving_ → Inv ps activity changes
-    → KeepsAll (Advance operation) n ps activity changes (moves operation (after_restoration r.state))
+    → KeepsAll (Advance operation) n ps activity changes (moves operation (after_restoration ps.master r))
 restoring_keeps ps activity changes n operation r point serving_ later v is inv =
     let m = ps.master in
     let new = released point (brought_back r.listed) in
@@ -92,7 +92,7 @@ restoring_keeps ps activity changes n operation r point serving_ later v is inv 
     quiet_keeps ps activity changes n operation r (Restoring point serving_) (enters r (Releasing point serving_) new n m) later v is refl refl refl (entered_keeps ps activity changes n r (Releasing point serving_) new e inv)
 
 releasing_keeps : (ps : Parts) (activity : List Interval) (changes : List Made) (n : ℕ) (operation : Id) (r : RestorationRecord) (point : ℕ) (serving_ : Id) → Later (0 ∷ []) ps n → Moved ps operation r → r.state ≡ Releasing point serving_ → Inv ps activity changes
-    → KeepsAll (Advance operation) n ps activity changes (moves operation (after_restoration r.state))
+    → KeepsAll (Advance operation) n ps activity changes (moves operation (after_restoration ps.master r))
 releasing_keeps ps activity changes n operation r point serving_ later v is inv =
     let m = ps.master in
     let e = finishes ps activity changes n r point serving_ (later 0 refl) v.there is v.acked inv in
@@ -100,10 +100,10 @@ releasing_keeps ps activity changes n operation r point serving_ later v is inv 
 
 -- what is to be shown of the switch
 abbrev pub SwitchKeeps : ℕ → Parts → List Interval → List Made → Id → Type 0
-SwitchKeeps n ps activity changes operation = (r : RestorationRecord) (point : ℕ) (serving_ : Id) → Moved ps operation r → r.state ≡ Switching point serving_ → KeepsAll (Advance operation) n ps activity changes (moves operation (after_restoration r.state))
+SwitchKeeps n ps activity changes operation = (r : RestorationRecord) (point : ℕ) (serving_ : Id) → Moved ps operation r → r.state ≡ Switching point serving_ → KeepsAll (Advance operation) n ps activity changes (moves operation (after_restoration ps.master r))
 
 by_state : (state : RestorationState) (ps : Parts) (activity : List Interval) (changes : List Made) (n : ℕ) (operation : Id) (r : RestorationRecord) → Later (0 ∷ []) ps n → Moved ps operation r → r.state ≡ state → is_restored state ≡ false → Inv ps activity changes
-    → SwitchKeeps n ps activity changes operation → KeepsAll (Advance operation) n ps activity changes (moves operation (after_restoration r.state))
+    → SwitchKeeps n ps activity changes operation → KeepsAll (Advance operation) n ps activity changes (moves operation (after_restoration ps.master r))
 by_state Fencing ps activity changes n operation r later v is open_ inv switch = fencing_keeps ps activity changes n operation r later v is inv
 by_state (Snapshotting point own) ps activity changes n operation r later v is open_ inv switch = snapshotting_keeps ps activity changes n operation r point own later v is inv
 by_state (Switching point serving_) ps activity changes n operation r later v is open_ inv switch = switch r point serving_ v is

@@ -152,11 +152,11 @@ switched_inv ps activity changes n r point serving_ s =
     }
 
 switch_keeps : (ps : Parts) (activity : List Interval) (changes : List Change) (n : ℕ) (operation : Id) (r : RestorationRecord) (point : ℕ) (serving_ : Id) → Later (0 ∷ []) ps n → Moved ps operation r → r.state ≡ Switching point serving_ → Inv ps activity changes
-    → KeepsAll (Advance operation) n ps activity changes (moves operation (after_restoration r.state))
+    → KeepsAll (Advance operation) n ps activity changes (moves operation (after_restoration ps.master r))
 switch_keeps ps activity changes n operation r point serving_ later v is inv =
     let m = ps.master in
     let s : IsSwitch ps activity changes n r point serving_ = record { before = later 0 refl; there = v.there; is = is; inv = inv } in
-    alone_keeps (Advance operation) (moves operation (after_restoration r.state)) n ps activity (all_then m r point activity) changes (after r point changes) (turned m r point serving_ n) refl refl
+    alone_keeps (Advance operation) (moves operation (after_restoration ps.master r)) n ps activity (all_then m r point activity) changes (after r point changes) (turned m r point serving_ n) refl refl
     (moved_is operation r n m v.kind v.found ∙ ap (λ st. restoration_moved st r n m) is)
     (ap (λ k. k.activity) (moved_is operation r n (record m { activity = activity }) v.kind v.found) ∙ ap (λ st. (restoration_moved st r n (record m { activity = activity })).activity) is)
     tt

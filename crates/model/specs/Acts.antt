@@ -1,10 +1,5 @@
 -- What may be asked of a cluster, and what it answers.
-use Rattle.std.specs.Prelude.{ℕ, List, Option}
-use Rattle.row_values.specs.declared.value.Value.{Value}
-use Rattle.row_values.specs.declared.value.Item.{Item}
-use Rattle.row_values.specs.declared.rows.KeyedRow.{KeyedRow}
-use Rattle.row_values.specs.Ids.{Id}
-use Rattle.row_values.specs.Schema.{Column, ColumnKind, NewColumn}
+use Rattle.model.specs.Words.{ℕ, List, Option, Value, Item, KeyedRow, Id, Column, ColumnKind, NewColumn}
 use Rattle.model.specs.Tablets.{Standing, BodyKind}
 use Rattle.model.specs.Records.{State}
 
@@ -191,3 +186,92 @@ pub data Reply : Type 0 where
   Clones : (lines : List CloneLine) → Reply
   Tablets : (lines : List TabletLine) → Reply
   Refused : (why : Refusal) → Reply
+
+-- What is counted over a whole history
+
+-- of acts: commands, moves of an operation's record, and what a tablet does of its inbox
+pub data Deed : Type 0 where
+  Commands : (command : Command) → Deed
+  Advances : (operation : Id) → Deed
+  Obeys : (slot : ℕ) → Deed
+  NoDeed : Deed
+
+abbrev pub deed_of : Act → Deed
+deed_of (Change command slots) = Commands command
+deed_of (Advance operation) = Advances operation
+deed_of (Process slot other) = Obeys slot
+deed_of (Look ask) = NoDeed
+deed_of (Write place version batch) = NoDeed
+deed_of (Read places version key at columns) = NoDeed
+deed_of (Cutoff slot) = NoDeed
+deed_of (Compact slot) = NoDeed
+deed_of (Send operation slot) = NoDeed
+deed_of (Ack operation slot) = NoDeed
+deed_of (Remove target slots) = NoDeed
+deed_of Prune = NoDeed
+deed_of (Restart slot) = NoDeed
+deed_of (Stats slot) = NoDeed
+
+-- of commands: what an accepted one makes that is numbered
+pub data Making : Type 0 where
+  ANamespace : Making
+  ATable : (tablets : ℕ) → Making
+  TwoTablets : Making
+  ASchedule : Making
+  ASnapshot : Making
+  ARestoration : (schedule : Id) (to : ℕ) → Making
+  AClone : (source target : List ℕ) (to : Option ℕ) → Making
+  Nothing : Making
+
+abbrev pub making_of : Command → Making
+making_of (CreateNamespace name) = ANamespace
+making_of (DropNamespace name) = Nothing
+making_of (CreateTable namespace table tablets columns) = ATable tablets
+making_of (AddColumn namespace table name kind) = Nothing
+making_of (DropColumn namespace table name) = Nothing
+making_of (RenameTable namespace table name) = Nothing
+making_of (DropTable namespace table) = Nothing
+making_of (Split namespace table code) = TwoTablets
+making_of (CreateSchedule interval retention namespace) = ASchedule
+making_of (EditSchedule schedule interval retention) = Nothing
+making_of (DeleteSchedule schedule) = Nothing
+making_of (TakeSnapshot schedule) = ASnapshot
+making_of (Restore schedule to) = ARestoration schedule to
+making_of (CloneNamespace source target to) = AClone source target to
+making_of ListSchedules = Nothing
+making_of ListSnapshots = Nothing
+making_of ListRestorations = Nothing
+making_of ListClones = Nothing
+making_of (ListTablets namespace) = Nothing
+
+-- of replies: what was made, the state that a record entered, and the command that a tablet did
+pub data Success : Type 0 where
+  Makes : (made : List Id) → Success
+  Enters : (state : State) → Success
+  Does : (operation : Id) (kind : BodyKind) → Success
+  NoSuccess : Success
+
+abbrev pub success_of : Reply → Success
+success_of (Ok made) = Makes made
+success_of (Advanced state) = Enters state
+success_of (Done operation kind) = Does operation kind
+success_of (Planned slots) = NoSuccess
+success_of (Placed places version columns) = NoSuccess
+success_of (Work item) = NoSuccess
+success_of (Removable targets) = NoSuccess
+success_of (Present slots) = NoSuccess
+success_of (Rows rows) = NoSuccess
+success_of (CutoffAt cutoff) = NoSuccess
+success_of (Compacted before after) = NoSuccess
+success_of SentTo = NoSuccess
+success_of Acked = NoSuccess
+success_of Removed = NoSuccess
+success_of (Pruned count) = NoSuccess
+success_of (Counts cutoff versions frozen inbox) = NoSuccess
+success_of NoTablet = NoSuccess
+success_of (Schedules lines) = NoSuccess
+success_of (Snapshots lines) = NoSuccess
+success_of (Restorations lines) = NoSuccess
+success_of (Clones lines) = NoSuccess
+success_of (Tablets lines) = NoSuccess
+success_of (Refused why) = NoSuccess

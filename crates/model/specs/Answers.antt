@@ -1,22 +1,12 @@
 -- How looks at a table and reads are answered: each reply with its cause, by the views at the stamp and at the asked
 -- time. What a journal doesn't have is the master's: how far the catalog of a namespace is kept, and which tablets are
 -- active.
-use Rattle.std.specs.Prelude.{◌≡◌, ℕ, ◌<◌, true, false, List, [], ◌∷◌, Option, Some, None, nat_le, if◌then◌else◌, ◌⊎◌, ◌≢◌}
-use Rattle.row_values.specs.Codes.{code_of}
-use Rattle.row_values.specs.declared.rows.KeyedRow.{KeyedRow}
-use Rattle.row_values.specs.Ids.{Id}
-use Rattle.row_values.specs.Elements.{In, AllOf}
-use Rattle.row_values.specs.Ranges.{in_range}
-use Rattle.row_values.specs.Schema.{Column}
-use Rattle.model.specs.Times.{time_of, is_future, is_below}
-use Rattle.model.specs.Catalog.{KeptFrom, kept_from}
-use Rattle.model.specs.Activity.{Interval, active_at}
-use Rattle.model.specs.Tablets.{Tablet, Standing, serves, standing}
-use Rattle.model.specs.Acts.{NamedItem, Place, At, Refusal, UnknownNamespace, UnknownTable, Future, TooOld, CrossTablet, Fenced, Moved, StaleSchema, Reply, Placed, Rows, Refused}
-use Rattle.model.specs.Journal.{Change, table_at}
-use Rattle.model.specs.Drawn.{version_after}
+use Rattle.model.specs.Words.{◌≡◌, ℕ, ◌<◌, true, false, List, [], ◌∷◌, Option, Some, None, nat_le, if◌then◌else◌, ◌⊎◌, ◌≢◌, code_of, KeyedRow, Id, In, AllOf, in_range, Column}
+use Rattle.model.specs.Cluster.{time_of, is_future, is_below, KeptFrom, kept_from, Interval, active_at, Tablet, Standing, serves, standing, NamedItem, Place, At, Refusal, UnknownNamespace, UnknownTable, Future, TooOld, CrossTablet, Fenced, Moved, StaleSchema, Reply, Placed, Rows, Refused}
 use Rattle.model.specs.Looks.{batch_fault, first_code, code_outside, place_of}
+use Rattle.model.specs.Journal.{Change, table_at}
 use Rattle.model.specs.Right.{NamespaceFound, TableFound, IsActivePlace, RowsRight}
+use Rattle.model.specs.Drawn.{version_after}
 
 -- the version of a table's schema in the view at x: 1, the columns that were added and dropped, and the restores that
 -- made the table current

@@ -1,10 +1,6 @@
 -- The master's catalog: records of namespaces and of tables, each with the interval in which it held, the oldest first.
 -- A record is current where its interval is open.
-use Rattle.std.specs.Prelude.{ℕ, Bool, false, List, [], ◌∷◌, ◌++◌, Option, Some, None, ◌&&◌, nat_lt, max, map, if◌then◌else◌}
-use Rattle.std.specs.List.{filter}
-use Rattle.std.specs.Str.{bytes_eq}
-use Rattle.row_values.specs.Ids.{Id, same}
-use Rattle.row_values.specs.Schema.{Schema}
+use Rattle.model.specs.Words.{ℕ, Bool, false, List, [], ◌∷◌, ◌++◌, Option, Some, None, ◌&&◌, nat_lt, max, map, if◌then◌else◌, filter, bytes_eq, Id, same, Schema, find}
 use Rattle.model.specs.Times.{is_open, holds_at, ended}
 
 pub record NamespaceRecord : Type 0 where
@@ -53,20 +49,16 @@ name_of (r ∷ rs) id = if is_open r.to && same r.id id then Some r.name else na
 
 -- the table of a name in a namespace at x
 abbrev pub table_named : List TableRecord → Id → List ℕ → ℕ → Option TableRecord
-table_named [] ns name x = None
-table_named (r ∷ rs) ns name x =
-    if holds_at x r.from r.to && (same r.namespace ns && bytes_eq r.name name) then Some r else table_named rs ns name x
+table_named rs ns name x =
+    find (λ r. holds_at x r.from r.to && (same r.namespace ns && bytes_eq r.name name)) rs
 
 -- the current table of a name
 abbrev pub current_named : List TableRecord → Id → List ℕ → Option TableRecord
-current_named [] ns name = None
-current_named (r ∷ rs) ns name =
-    if is_open r.to && (same r.namespace ns && bytes_eq r.name name) then Some r else current_named rs ns name
+current_named rs ns name = find (λ r. is_open r.to && (same r.namespace ns && bytes_eq r.name name)) rs
 
 -- the current record of a table
 abbrev pub current_table : List TableRecord → Id → Option TableRecord
-current_table [] id = None
-current_table (r ∷ rs) id = if is_open r.to && same r.id id then Some r else current_table rs id
+current_table rs id = find (λ r. is_open r.to && same r.id id) rs
 
 -- the current tables of a namespace
 abbrev pub current_tables : List TableRecord → Id → List TableRecord

@@ -1,20 +1,8 @@
 -- How commands are judged: the refusals of each in order, and else what the master and the tablets are told, and the
 -- reply.
-use Rattle.std.specs.Prelude.{ℕ, ◌+◌, not, ◌&&◌, List, [], ◌∷◌, map, length, is_some, if◌then◌else◌, nat_lt, nat_le, ◌==◌, Option, Some, None, option_map, Result, Ok as Granted, Err as Denied}
-use Rattle.std.specs.List.{filter}
-use Rattle.std.specs.Option.{option_or, ok_or}
-use Rattle.std.specs.Str.{bytes_eq}
-use Rattle.row_values.specs.Ids.{Id, same}
-use Rattle.row_values.specs.Slots.{same_slots}
-use Rattle.model.specs.Times.{is_open}
-use Rattle.row_values.specs.Store.{part_of}
-use Rattle.row_values.specs.Schema.{Column, ColumnKind, NewColumn, column_named}
-use Rattle.model.specs.Catalog.{TableRecord, namespace_named, current_named, current_tables, by_id}
-use Rattle.model.specs.Activity.{Interval}
-use Rattle.model.specs.Tablets.{Tablet, TabletAct, Make, Child, SetVersion, HideSince, Told}
-use Rattle.model.specs.Records.{Schedule, CloneRecord, is_visible, schedule_with, schedule_of, unfinished_of}
-use Rattle.model.specs.Acts.{Command, CreateNamespace, DropNamespace, CreateTable, AddColumn, DropColumn, RenameTable, DropTable, Split, CreateSchedule, EditSchedule, DeleteSchedule, TakeSnapshot, Restore, CloneNamespace, ListSchedules, ListSnapshots, ListRestorations, ListClones, ListTablets, Refusal, UnknownColumn, UnknownSchedule, BadPeriod, NameTaken, NotEmpty, UnderSchedule, NoSchedule, TooMany, SlotsFull, TooEarly, Future, Busy, StalePlan, TooNarrow, NotDue, Ok, Schedules, Snapshots, Restorations, Clones, Tablets}
-use Rattle.model.specs.Parts.{Master, Parts, MasterAct, MakesNamespace, DropsNamespace, MakesTable, AddsColumn, DropsColumn, RenamesTable, DropsTable, SplitsTablet, MakesSchedule, EditsSchedule, DeletesSchedule, TakesSnapshot, BeginsRestoration, BeginsClone, Outcome, Check, If, Names, checked, and_found, decided, judged, answered}
+use Rattle.model.specs.Words.{ℕ, ◌+◌, not, ◌&&◌, List, [], ◌∷◌, map, length, is_some, if◌then◌else◌, nat_lt, nat_le, ◌==◌, Option, Some, None, option_map, Result, Ok as Granted, Err as Denied, filter, option_or, ok_or, bytes_eq, Id, same, same_slots, part_of, Column, ColumnKind, NewColumn, column_named}
+use Rattle.model.specs.Cluster.{is_open, TableRecord, namespace_named, current_named, current_tables, by_id, Interval, Tablet, TabletAct, Make, Child, SetVersion, HideSince, Told, Schedule, CloneRecord, is_visible, schedule_with, schedule_of, unfinished_of, CreateNamespace, DropNamespace, CreateTable, AddColumn, DropColumn, RenameTable, DropTable, Split, CreateSchedule, EditSchedule, DeleteSchedule, TakeSnapshot, Restore, CloneNamespace, ListSchedules, ListSnapshots, ListRestorations, ListClones, ListTablets, Refusal, UnknownColumn, UnknownSchedule, BadPeriod, NameTaken, NotEmpty, UnderSchedule, NoSchedule, TooMany, SlotsFull, TooEarly, Future, Busy, StalePlan, TooNarrow, NotDue, Ok, Schedules, Snapshots, Restorations, Clones, Tablets, Master, Parts, MasterAct, MakesNamespace, DropsNamespace, MakesTable, AddsColumn, DropsColumn, RenamesTable, DropsTable, SplitsTablet, MakesSchedule, EditsSchedule, DeletesSchedule, TakesSnapshot, BeginsRestoration, BeginsClone, Outcome, Check, If, Names, checked, and_found, decided, judged, answered}
+use Rattle.model.specs.Acts.{Command}
 use Rattle.model.specs.Schedules.{is_period, low, least_low, next_due, is_due}
 use Rattle.model.specs.Lists.{next_snapshot}
 use Rattle.model.specs.Operations.{holder, user}

@@ -1,31 +1,20 @@
 -- A coordinator brings a record's commands to the listed tablets: it sends one, has the tablet do it, and tells the
 -- master that it is done.
-use Rattle.std.specs.Prelude.{ℕ, List, [], ◌∷◌, ◌++◌, Option, Some, None, ◌==◌, ◌&&◌, not, nat_lt, map, if◌then◌else◌}
-use Rattle.std.specs.Option.{option_and_then}
-use Rattle.row_values.specs.declared.rows.KeyedRow.{KeyedRow}
-use Rattle.row_values.specs.Ids.{Id, Kind, Namespace, Table, Tablet, Schedule, Snapshot, Restoration, Clone, same}
-use Rattle.model.specs.Tablets.{Tablet as TabletPart, FrozenSet, Body, Fence, Freeze, RestoreFrom, Hide, Copy, Release, Command, Offer, set_of, rows_of_set, cutoff_of_set, kind_of, is_done}
+use Rattle.model.specs.Words.{ℕ, List, [], ◌∷◌, ◌++◌, Option, Some, None, ◌==◌, ◌&&◌, not, nat_lt, map, if◌then◌else◌, option_and_then, KeyedRow, Id, Kind, Namespace, Table, Tablet, Schedule, Snapshot, Restoration, Clone, same, find}
+use Rattle.model.specs.Cluster.{Tablet as TabletPart, FrozenSet, Body, Fence, Freeze, RestoreFrom, Hide, Copy, Release, Offer, set_of, rows_of_set, cutoff_of_set, kind_of, is_done, Listed, SnapshotRecord, RestorationRecord, CloneRecord, unacked_at, acked_at, is_restored, is_cloned, is_sent, unsent_at, NotPending, Idle, OtherSlot, NotDone, Gone, SentTo, Done, Acked, Refused, Master, Parts, Outcome, Check, If, Ticks, Sends, Acks, Unsends, judged, refused}
 use Rattle.model.specs.Tablets as tell
-use Rattle.model.specs.Records.{Listed, SnapshotRecord, RestorationRecord, CloneRecord, unacked_at, acked_at, is_restored, is_cloned, is_sent, unsent_at}
-use Rattle.model.specs.Acts.{NotPending, Idle, OtherSlot, NotDone, Gone, SentTo, Done, Acked, Refused}
-use Rattle.model.specs.Parts.{Master, Parts, Outcome, Check, If, Ticks, Sends, Acks, Unsends, judged, refused}
+use Rattle.model.specs.Tablets.{Command}
 
 -- the unfinished record of an id
 
 abbrev pub unfinished_snapshot : List SnapshotRecord → Id → Option SnapshotRecord
-unfinished_snapshot [] id = None
-unfinished_snapshot (r ∷ rs) id =
-    if same r.id id && not r.complete then Some r else unfinished_snapshot rs id
+unfinished_snapshot rs id = find (λ r. same r.id id && not r.complete) rs
 
 abbrev pub unfinished_restoration : List RestorationRecord → Id → Option RestorationRecord
-unfinished_restoration [] id = None
-unfinished_restoration (r ∷ rs) id =
-    if same r.id id && not (is_restored r.state) then Some r else unfinished_restoration rs id
+unfinished_restoration rs id = find (λ r. same r.id id && not (is_restored r.state)) rs
 
 abbrev pub unfinished_clone : List CloneRecord → Id → Option CloneRecord
-unfinished_clone [] id = None
-unfinished_clone (r ∷ rs) id =
-    if same r.id id && not (is_cloned r.state) then Some r else unfinished_clone rs id
+unfinished_clone rs id = find (λ r. same r.id id && not (is_cloned r.state)) rs
 
 -- the tablet of the slot that the unfinished record of an id lists without ack, with what it is to do
 abbrev pub pending_of : Kind → List SnapshotRecord → List RestorationRecord → List CloneRecord → Id → ℕ → Option Listed

@@ -1,17 +1,11 @@
 -- When each record entered its states, read off a history: a snapshot, a restoration and a clone enters each of its
 -- states once, in order, and a tablet that was given a command has a clock above the stamp at which the record entered
 -- the state that gives it.
-use Rattle.std.specs.Prelude.{◌≡◌, ℕ, ◌<◌, Bool, true, false, List, [], ◌∷◌, ◌++◌, ◌⊎◌, map}
-use Rattle.std.specs.List.{filter}
-use Rattle.row_values.specs.Ids.{Id, same}
-use Rattle.row_values.specs.Elements.{In}
-use Rattle.model.specs.Tablets.{BodyKind, FenceKind, FreezeKind, RestoreFromKind, HideKind, CopyKind, ReleaseKind}
-use Rattle.model.specs.Records.{SnapshotRecord, RestorationRecord, RestorationState, Fencing, Snapshotting, Switching, Restoring, Releasing, Restored, CloneRecord, CloneState, Accepted, CloneSnapshot, Copying, CloneReleasing, CloneComplete, State, IsCreating, IsComplete, IsFencing, IsSnapshot, IsSwitching, IsRestoring, IsReleasing, IsRestored, IsAccepted, IsCopying}
-use Rattle.model.specs.Acts.{Act, Look, Change, Write, Read, Cutoff, Compact, Send, Process, Ack, Advance, Remove, Prune, Restart, Stats, Reply}
-use Rattle.model.specs.Parts.{Parts}
+use Rattle.model.specs.Words.{◌≡◌, ℕ, ◌<◌, Bool, true, false, List, [], ◌∷◌, ◌++◌, ◌⊎◌, map, filter, Id, same, In, Kind, Snapshot, Restoration, Clone}
+use Rattle.model.specs.Cluster.{BodyKind, FenceKind, FreezeKind, RestoreFromKind, HideKind, CopyKind, ReleaseKind, SnapshotRecord, RestorationRecord, RestorationState, Fencing, Snapshotting, Switching, Restoring, Releasing, Restored, CloneRecord, CloneState, Accepted, CloneSnapshot, Copying, CloneReleasing, CloneComplete, State, IsCreating, IsComplete, IsFencing, IsSnapshot, IsSwitching, IsRestoring, IsReleasing, IsRestored, IsAccepted, IsCopying, Act, Reply, Parts, deed_of, Commands, Advances, Obeys, NoDeed}
 use Rattle.model.specs.Entries.{Entry}
 use Rattle.model.specs.History.{replay}
-use Rattle.model.specs.Drawn.{Given, entered_by, given_by}
+use Rattle.model.specs.Drawn.{entered_by, given_by}
 use Rattle.model.specs.Stands.{was_given}
 
 -- the record of an operation entered a state at a stamp
@@ -24,27 +18,19 @@ abbrev pub all_enter : State → ℕ → List Id → List Entering
 all_enter state n ids = map (λ id. record { operation = id; state = state; at = n }) ids
 
 -- new records enter their first states
-abbrev pub begun_with : Given → ℕ → List Entering
+abbrev pub begun_with : (Kind → List Id) → ℕ → List Entering
 begun_with given n =
-    all_enter IsCreating n given.snapshots ++ all_enter IsFencing n given.restorations
-    ++ all_enter IsAccepted n given.clones
+    all_enter IsCreating n (given Snapshot) ++ all_enter IsFencing n (given Restoration)
+    ++ all_enter IsAccepted n (given Clone)
 
 abbrev pub moved_by : Act → Reply → ℕ → List Entering
-moved_by (Advance operation) reply n =
-    map {A = State} (λ state. record { operation = operation; state = state; at = n }) (entered_by reply)
-moved_by (Look ask) reply n = []
-moved_by (Change command slots) reply n = []
-moved_by (Write place version batch) reply n = []
-moved_by (Read places version key at columns) reply n = []
-moved_by (Cutoff slot) reply n = []
-moved_by (Compact slot) reply n = []
-moved_by (Send operation slot) reply n = []
-moved_by (Process slot other) reply n = []
-moved_by (Ack operation slot) reply n = []
-moved_by (Remove target slots) reply n = []
-moved_by Prune reply n = []
-moved_by (Restart slot) reply n = []
-moved_by (Stats slot) reply n = []
+moved_by act reply n = elim (deed_of act) [
+  | Advances operation ↦
+      map {A = State} (λ state. record { operation = operation; state = state; at = n }) (entered_by reply)
+  | Commands command ↦ []
+  | Obeys slot ↦ []
+  | NoDeed ↦ []
+]
 
 -- which records entered which states, the newest first
 unfoldable pub entered : ℕ → List Entry → List Entering

@@ -1,15 +1,8 @@
 -- Entries of a history, what an event touches, and what it must meet.
-use Rattle.std.specs.Prelude.{◌≡◌, ℕ, ◌≤◌, ◌<◌, false, List, [], ◌∷◌, Option, Some, None, ◌==◌, ◌^◌, min, fold, map, length, if◌then◌else◌}
-use Rattle.std.specs.Str.{bytes_eq}
+use Rattle.model.specs.Words.{◌≡◌, ℕ, ◌≤◌, ◌<◌, false, List, [], ◌∷◌, Option, Some, None, ◌==◌, ◌^◌, min, fold, map, length, if◌then◌else◌, bytes_eq, Kind, Namespace, Table, Tablet, Schedule, Snapshot, Restoration, Clone, rising, NewColumn, AllOf, IsKey, IsValue, IsBatch}
+use Rattle.model.specs.Cluster.{end_of_time, NamedOp, NamedUpsert, NamedDelete, NamedItem, CreateNamespace, DropNamespace, CreateTable, AddColumn, DropColumn, RenameTable, DropTable, Split, CreateSchedule, EditSchedule, DeleteSchedule, TakeSnapshot, Restore, CloneNamespace, ListSchedules, ListSnapshots, ListRestorations, ListClones, ListTablets, Ask, AskPlan, AskKeys, AskTable, AskWork, AskRemovable, AskPresent, Act, Look, Change, Read, Cutoff, Send, Process, Ack, Advance, Remove, Prune, Stats, Event, Reply, Parts}
 use Rattle.row_values.specs.Stamps as rule
-use Rattle.row_values.specs.Ids.{Kind, Namespace, Table, Tablet, Schedule, Snapshot, Restoration, Clone}
-use Rattle.row_values.specs.Slots.{rising}
-use Rattle.model.specs.Times.{end_of_time}
-use Rattle.row_values.specs.Schema.{NewColumn}
-use Rattle.model.specs.Acts.{NamedOp, NamedUpsert, NamedDelete, NamedItem, Command, CreateNamespace, DropNamespace, CreateTable, AddColumn, DropColumn, RenameTable, DropTable, Split, CreateSchedule, EditSchedule, DeleteSchedule, TakeSnapshot, Restore, CloneNamespace, ListSchedules, ListSnapshots, ListRestorations, ListClones, ListTablets, Ask, AskPlan, AskKeys, AskTable, AskWork, AskRemovable, AskPresent, Act, Look, Change, Write, Read, Cutoff, Compact, Send, Process, Ack, Advance, Remove, Prune, Restart, Stats, Event, Reply}
-use Rattle.model.specs.Parts.{Parts}
-use Rattle.row_values.specs.Elements.{AllOf}
-use Rattle.row_values.specs.Batches.{IsKey, IsValue, IsBatch}
+use Rattle.model.specs.Acts.{Command, Write, Compact, Restart}
 
 -- an event that was performed, with its place in the history, its stamp and its reply
 pub record Entry : Type 0 where

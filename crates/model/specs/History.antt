@@ -1,25 +1,16 @@
 -- Histories, the newest entry first: what they leave, which are legal, and the journal of their changes.
-use Rattle.std.specs.Prelude.{◌≡◌, ℕ, ◌<◌, Bool, true, false, List, [], ◌∷◌, ◌++◌, Option, Some, None, ◌==◌, ◌&&◌, ◌+◌, nat_lt, not, length, if◌then◌else◌}
-use Rattle.std.specs.List.{filter}
-use Rattle.row_values.specs.declared.value.Item.{Item}
-use Rattle.row_values.specs.Ids.{Id}
-use Rattle.row_values.specs.Slots.{has}
-use Rattle.model.specs.Times.{end_of_time}
-use Rattle.row_values.specs.Schema.{Column, numbered, with_column, without_column}
-use Rattle.model.specs.Activity.{Interval}
-use Rattle.model.specs.Tablets.{Told, act_for, effect}
-use Rattle.model.specs.Records.{SnapshotRecord, RestorationRecord, RestorationState, Fencing, Snapshotting, Switching, Restoring, Releasing, Restored, CloneRecord, CloneState, Accepted, CloneSnapshot, Copying, CloneReleasing, CloneComplete}
-use Rattle.model.specs.Acts.{Ask, AskPlan, AskKeys, AskTable, AskWork, AskRemovable, AskPresent, Act, Look, Change, Write, Read, Cutoff, Compact, Send, Process, Ack, Advance, Remove, Prune, Restart, Stats, Event, Work, Removable}
-use Rattle.model.specs.Parts.{Master, Parts, start, MasterAct, Ticks, MakesNamespace, DropsNamespace, MakesTable, AddsColumn, DropsColumn, RenamesTable, DropsTable, SplitsTablet, MakesSchedule, EditsSchedule, DeletesSchedule, TakesSnapshot, BeginsRestoration, BeginsClone, Sends, Acks, Unsends, Moves, Removes, Prunes, Restarts, Outcome, answered}
+use Rattle.model.specs.Words.{◌≡◌, ℕ, ◌<◌, Bool, true, false, List, [], ◌∷◌, ◌++◌, Option, Some, None, ◌==◌, ◌&&◌, ◌+◌, nat_lt, not, length, if◌then◌else◌, filter, Item, Id, has, Column, numbered, with_column, without_column}
+use Rattle.model.specs.Cluster.{end_of_time, Interval, Told, act_for, effect, SnapshotRecord, RestorationRecord, RestorationState, Fencing, Snapshotting, Switching, Restoring, Releasing, Restored, CloneRecord, CloneState, Accepted, CloneSnapshot, Copying, CloneReleasing, CloneComplete, Ask, AskPlan, AskKeys, AskTable, AskWork, AskRemovable, AskPresent, Act, Look, Change, Read, Cutoff, Send, Process, Ack, Advance, Remove, Prune, Stats, Event, Work, Removable, Master, Parts, start, MasterAct, Ticks, MakesNamespace, DropsNamespace, MakesTable, AddsColumn, DropsColumn, RenamesTable, DropsTable, SplitsTablet, MakesSchedule, EditsSchedule, DeletesSchedule, TakesSnapshot, BeginsRestoration, BeginsClone, Sends, Acks, Unsends, Moves, Removes, Prunes, Restarts, Outcome, answered}
+use Rattle.model.specs.Journal as made
+use Rattle.model.specs.Acts.{Write, Compact, Restart}
 use Rattle.model.specs.Looks.{look_plan, look_keys, look_table, look_present}
-use Rattle.model.specs.Changes.{change}
 use Rattle.model.specs.Changed.{next_namespace, next_table, namespace_made, namespace_dropped, table_made, table_changed, table_dropped, tablet_split, schedule_made, schedule_edited, schedule_deleted, snapshot_taken, restoration_begun, clone_begun}
+use Rattle.model.specs.Changes.{change}
 use Rattle.model.specs.RowActs.{write, read, cutoff, compact, stats, restart}
 use Rattle.model.specs.Coordination.{unfinished_restoration, unfinished_clone, send, process, ack, sent_to, acked, unsent_by, restarted_master}
 use Rattle.model.specs.Moves.{advance, moved}
 use Rattle.model.specs.Work.{next_work}
 use Rattle.model.specs.Cleanup.{remove, prune, removable, removed, pruned}
-use Rattle.model.specs.Journal as made
 use Rattle.model.specs.Entries.{Entry, slots_of, log_of, stamp_of, Asked}
 
 -- What a history leaves

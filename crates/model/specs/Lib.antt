@@ -1,3 +1,4 @@
+mod Words
 pub mod Times
 pub mod Catalog
 pub mod Activity
@@ -5,6 +6,7 @@ pub mod Tablets
 pub mod Records
 pub mod Acts
 pub mod Parts
+mod Cluster
 pub mod Schedules
 pub mod Lists
 pub mod Operations
@@ -32,6 +34,5 @@ pub mod Once
 pub mod Strict
 pub mod Retained
 pub mod Taking
-pub mod Left
 pub mod Settling
 pub mod Scripts

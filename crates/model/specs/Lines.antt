@@ -1,13 +1,7 @@
 -- What the lists of schedules, records and tablets show, each by number.
-use Rattle.std.specs.Prelude.{ℕ, List, [], map, reverse, nat_lt, unwrap_or}
-use Rattle.row_values.specs.Ids.{Id}
-use Rattle.model.specs.Catalog.{name_of}
-use Rattle.model.specs.Activity.{Interval}
-use Rattle.model.specs.Records.{Schedule, SnapshotRecord, RestorationRecord, CloneRecord, snapshot_state, restoration_state, clone_state, point_of}
-use Rattle.model.specs.Acts.{ScheduleLine, SnapshotLine, RestorationLine, CloneLine, TabletLine}
-use Rattle.model.specs.Parts.{Master}
+use Rattle.model.specs.Words.{ℕ, List, [], map, reverse, nat_lt, unwrap_or, Id, in_order}
+use Rattle.model.specs.Cluster.{name_of, Interval, Schedule, SnapshotRecord, RestorationRecord, CloneRecord, snapshot_state, restoration_state, clone_state, point_of, ScheduleLine, SnapshotLine, RestorationLine, CloneLine, TabletLine, Master}
 use Rattle.model.specs.Schedules.{low}
-use Rattle.row_values.specs.Elements.{in_order}
 use Rattle.model.specs.Lists.{once, intervals_in}
 
 -- schedules, with the low ends of their windows at the stamp

@@ -1,20 +1,8 @@
 -- What the looks at the master answer: the plan of a command, the place of keys or of a table, the slots that hold a
 -- tablet. What a look or a command names is found here.
-use Rattle.std.specs.Prelude.{ℕ, zero, suc, ◌+◌, Bool, not, ◌&&◌, ◌||◌, List, [], ◌∷◌, map, length, take, is_some, if◌then◌else◌, nat_le, ◌==◌, Option, Some, None, option_map, Result, Ok, Err, false}
-use Rattle.std.specs.List.{filter, find}
-use Rattle.std.specs.Option.{option_or, option_to_list, ok_or}
-use Rattle.row_values.specs.Codes.{code_of}
-use Rattle.row_values.specs.declared.value.Value.{Value}
-use Rattle.row_values.specs.Ids.{Id, same}
-use Rattle.row_values.specs.Slots.{has, rising}
-use Rattle.model.specs.Times.{is_open, time_of, is_future, is_below}
-use Rattle.row_values.specs.Ranges.{in_range}
-use Rattle.row_values.specs.Schema.{Column, column_named, is_of_kind}
-use Rattle.model.specs.Catalog.{kept_from, TableRecord, namespace_named, table_named, current_named, current_table}
-use Rattle.model.specs.Activity.{Interval}
-use Rattle.model.specs.Records.{TabletPair, CloneRecord, is_cloned}
-use Rattle.model.specs.Acts.{Command, CreateNamespace, DropNamespace, CreateTable, AddColumn, DropColumn, RenameTable, DropTable, Split, CreateSchedule, EditSchedule, DeleteSchedule, TakeSnapshot, Restore, CloneNamespace, ListSchedules, ListSnapshots, ListRestorations, ListClones, ListTablets, NamedCell, NamedOp, NamedUpsert, NamedDelete, NamedItem, Refusal, UnknownNamespace, UnknownTable, UnknownColumn, WrongKind, Future, CrossTablet, SlotsFull, TooOld, Place, Planned, Placed, Present}
-use Rattle.model.specs.Parts.{Master, Outcome, If, Fault, checked, and_found, decided, answered}
+use Rattle.model.specs.Words.{ℕ, zero, suc, ◌+◌, Bool, not, ◌&&◌, ◌||◌, List, [], ◌∷◌, map, length, take, is_some, if◌then◌else◌, nat_le, ◌==◌, Option, Some, None, option_map, Result, Ok, Err, false, filter, find, option_or, option_to_list, ok_or, code_of, Value, Id, same, has, rising, in_range, Column, column_named, is_of_kind}
+use Rattle.model.specs.Cluster.{is_open, time_of, is_future, is_below, kept_from, TableRecord, namespace_named, table_named, current_named, current_table, Interval, TabletPair, CloneRecord, is_cloned, CreateNamespace, DropNamespace, CreateTable, AddColumn, DropColumn, RenameTable, DropTable, Split, CreateSchedule, EditSchedule, DeleteSchedule, TakeSnapshot, Restore, CloneNamespace, ListSchedules, ListSnapshots, ListRestorations, ListClones, ListTablets, NamedCell, NamedOp, NamedUpsert, NamedDelete, NamedItem, Refusal, UnknownNamespace, UnknownTable, UnknownColumn, WrongKind, Future, CrossTablet, SlotsFull, TooOld, Place, Planned, Placed, Present, Master, Outcome, If, Fault, checked, and_found, decided, answered}
+use Rattle.model.specs.Acts.{Command}
 use Rattle.model.specs.Lists.{by_range}
 
 -- whether a target tablet is in the slot

@@ -1,17 +1,12 @@
 -- How the records of snapshots, restorations and clones move from state to state. A move waits for the listed tablets,
 -- and some for a snapshot. It clears the acks and the sent marks of its record.
-use Rattle.std.specs.Prelude.{ℕ, Bool, true, false, List, [], ◌++◌, Option, Some, None, ◌&&◌, ◌+◌, is_some, map, if◌then◌else◌}
-use Rattle.std.specs.Option.{unwrap_or, option_map, option_map_or}
-use Rattle.std.specs.List.{list_any, filter}
-use Rattle.row_values.specs.Ids.{Id, Kind, Namespace, Table, Tablet, Schedule as ScheduleKind, Snapshot, Restoration, Clone, same}
-use Rattle.model.specs.Tablets.{Body, Fence, Freeze, RestoreFrom, Hide, Copy, Release, Command}
-use Rattle.model.specs.Records.{Listed, Schedule, ScheduledNamespace, SnapshotRecord, RestorationRecord, CloneRecord, TabletPair, RestorationState, Fencing, Snapshotting, Switching, Restoring, Releasing, Restored, CloneState, Accepted, CloneSnapshot, Copying, CloneReleasing, CloneComplete, State, IsComplete, IsSnapshot, IsSwitching, IsRestoring, IsReleasing, IsRestored, IsCopying, first_unacked, unacked, unsent, schedule_of, unfinished_of}
-use Rattle.model.specs.Acts.{NotPending, Waiting, Advanced}
-use Rattle.model.specs.Parts.{Master, Parts, Outcome, Moves, refused}
+use Rattle.model.specs.Words.{ℕ, Bool, true, false, List, [], ◌++◌, Option, Some, None, ◌&&◌, ◌+◌, is_some, map, if◌then◌else◌, unwrap_or, option_map, option_map_or, list_any, filter, Id, Kind, Namespace, Table, Tablet, Schedule as ScheduleKind, Snapshot, Restoration, Clone, same}
+use Rattle.model.specs.Cluster.{Body, Fence, Freeze, RestoreFrom, Hide, Copy, Release, Listed, Schedule, ScheduledNamespace, SnapshotRecord, RestorationRecord, CloneRecord, TabletPair, RestorationState, Fencing, Snapshotting, Switching, Restoring, Releasing, Restored, CloneState, Accepted, CloneSnapshot, Copying, CloneReleasing, CloneComplete, State, IsComplete, first_unacked, unacked, unsent, schedule_of, unfinished_of, NotPending, Waiting, Advanced, Master, Parts, Outcome, Moves, refused, restoration_state, clone_state}
+use Rattle.model.specs.Tablets.{Command}
 use Rattle.model.specs.Schedules.{serving}
 use Rattle.model.specs.Lists.{next_snapshot, with_snapshot}
-use Rattle.model.specs.Restored.{restored_tables, restored_activity, switch_list, with_clone, cloned_activity}
 use Rattle.model.specs.Coordination.{command_for, unfinished_snapshot, unfinished_restoration, unfinished_clone}
+use Rattle.model.specs.Restored.{restored_tables, restored_activity, switch_list, with_clone, cloned_activity}
 
 -- What a record asks of its tablets, and waits for
 
@@ -78,23 +73,6 @@ clone_next (CloneComplete serving copied_at) g = CloneComplete serving copied_at
 abbrev pub clone_advanced : CloneState → Given → CloneRecord → CloneRecord
 clone_advanced state g r = record r { state = clone_next state g; listed = g.listed }
 
--- the state that a move enters, as it is printed
-
-abbrev pub after_restoration : RestorationState → State
-after_restoration Fencing = IsSnapshot
-after_restoration (Snapshotting point own) = IsSwitching
-after_restoration (Switching point serving) = IsRestoring
-after_restoration (Restoring point serving) = IsReleasing
-after_restoration (Releasing point serving) = IsRestored
-after_restoration (Restored point serving) = IsRestored
-
-abbrev pub after_clone : CloneState → Bool → State
-after_clone Accepted served = if served then IsCopying else IsSnapshot
-after_clone (CloneSnapshot own) served = IsCopying
-after_clone (Copying serving copied_at) served = IsReleasing
-after_clone (CloneReleasing serving copied_at) served = IsComplete
-after_clone (CloneComplete serving copied_at) served = IsComplete
-
 -- What the master finds for a move
 
 abbrev pub is_complete : List SnapshotRecord → Id → Bool
@@ -132,17 +110,18 @@ abbrev pub released : ℕ → List Listed → List Listed
 released cutoff ls =
     map (λ l. record { tablet = l.tablet; slot = l.slot; body = Release cutoff; acked = false }) ls
 
-abbrev pub is_restoring : Body → Bool
-is_restoring (RestoreFrom snapshot to point version) = true
-is_restoring Fence = false
-is_restoring (Freeze snapshot at) = false
-is_restoring (Hide ended) = false
-is_restoring (Copy source snapshot to stamp table low high version) = false
-is_restoring (Release cutoff) = false
+-- whether a tablet takes back its rows
+abbrev pub is_restore : Body → Bool
+is_restore (RestoreFrom snapshot to point version) = true
+is_restore Fence = false
+is_restore (Freeze snapshot at) = false
+is_restore (Hide ended) = false
+is_restore (Copy source snapshot to stamp table low high version) = false
+is_restore (Release cutoff) = false
 
 -- the tablets that took back their rows
 abbrev pub brought_back : List Listed → List Listed
-brought_back ls = filter (λ l. is_restoring l.body) ls
+brought_back ls = filter (λ l. is_restore l.body) ls
 
 -- the target tablets are to copy their sources' rows
 abbrev pub copies : Id → ℕ → ℕ → List TabletPair → List Listed
@@ -191,6 +170,15 @@ given_clone state serving r n m = record {
   listed = clone_lists state serving r n;
 }
 
+-- the states that the next moves of records enter, as they are printed
+
+abbrev pub after_restoration : Master → RestorationRecord → State
+after_restoration m r = restoration_state (restoration_next r.state (given_restoration r.state r m.clock m))
+
+abbrev pub after_clone : Master → CloneRecord → State
+after_clone m r =
+    clone_state (clone_next r.state (given_clone r.state (id_of_snapshot (serving_clone m r)) r m.clock m))
+
 -- An advance
 
 -- how far an unfinished record is: the tablets that it lists, the unfinished snapshot that its next move has to wait
@@ -209,7 +197,7 @@ restoration_progress m r = record {
   id = r.id;
   listed = r.listed;
   awaited = awaited_by_restoration r.state m r;
-  next = after_restoration r.state;
+  next = after_restoration m r;
 }
 
 abbrev pub clone_progress : Master → CloneRecord → Progress
@@ -217,7 +205,7 @@ clone_progress m r = record {
   id = r.id;
   listed = r.listed;
   awaited = awaited_by_clone r.state m r;
-  next = after_clone r.state (is_some (serving_clone m r));
+  next = after_clone m r;
 }
 
 -- of the unfinished record of an id

@@ -1,40 +1,25 @@
 -- What comes once over a whole history, however often a coordinator repeats its steps and whatever a restart loses:
 -- the restore of an accepted command to restore, the clone of an accepted command to clone, and each command of a
 -- tablet.
-use Rattle.std.specs.Prelude.{◌≡◌, ℕ, ◌+◌, ◌-◌, Bool, false, List, [], ◌∷◌, ◌++◌, Option, Some, None, map, unwrap_or, if◌then◌else◌}
-use Rattle.std.specs.List.{list_any}
-use Rattle.std.specs.Option.{option_map}
-use Rattle.row_values.specs.Ids.{Id, same}
-use Rattle.row_values.specs.Elements.{In}
-use Rattle.model.specs.Catalog.{namespace_named}
-use Rattle.model.specs.Tablets.{BodyKind}
-use Rattle.model.specs.Records.{Schedule, RestorationRecord, RestorationState, Fencing, Snapshotting, Switching, Restoring, Releasing, Restored, CloneRecord, CloneState, Accepted, CloneSnapshot, Copying, CloneReleasing, CloneComplete, IdPair, IsSnapshot, IsReleasing, point_of, schedule_with}
+use Rattle.model.specs.Words.{◌≡◌, ℕ, ◌+◌, ◌-◌, Bool, false, List, [], ◌∷◌, ◌++◌, Option, Some, None, map, unwrap_or, if◌then◌else◌, list_any, option_map, Id, same, In}
+use Rattle.model.specs.Cluster.{namespace_named, BodyKind, Schedule, RestorationRecord, RestorationState, Fencing, Snapshotting, Switching, Restoring, Releasing, Restored, CloneRecord, CloneState, Accepted, CloneSnapshot, Copying, CloneReleasing, CloneComplete, IdPair, IsSnapshot, IsReleasing, point_of, schedule_with, Act, Reply, Master, Parts, deed_of, Commands, Advances, Obeys, NoDeed, success_of, Makes, Enters, Does, NoSuccess, making_of, ANamespace, ATable, TwoTablets, ASchedule, ASnapshot, ARestoration, AClone, Nothing, Making}
 use Rattle.model.specs.Journal as made
 use Rattle.model.specs.Journal.{NamespaceRestored, NamespaceCloned, is_in, table_at}
-use Rattle.model.specs.Acts.{Act, Look, Change, Write, Read, Cutoff, Compact, Send, Process, Ack, Advance, Remove, Prune, Restart, Stats, Command, CreateNamespace, DropNamespace, CreateTable, AddColumn, DropColumn, RenameTable, DropTable, Split, CreateSchedule, EditSchedule, DeleteSchedule, TakeSnapshot, Restore, CloneNamespace, ListSchedules, ListSnapshots, ListRestorations, ListClones, ListTablets, Reply, Ok, Planned, Placed, Work, Removable, Present, Rows, CutoffAt, Compacted, SentTo, Done, Acked, Advanced, Removed, Pruned, Counts, NoTablet, Schedules, Snapshots, Restorations, Clones, Tablets, Refused}
-use Rattle.model.specs.Parts.{Master, Parts}
 use Rattle.model.specs.Entries.{Entry}
 use Rattle.model.specs.History.{replay, journal_of, with_changes_of}
-use Rattle.model.specs.Drawn.{made_by}
+use Rattle.model.specs.Drawn.{ids_made}
 use Rattle.model.specs.Entering.{Entering, entered}
 
 -- Accepted commands
 
-abbrev pub command_of : Act → Option Command
-command_of (Change command slots) = Some command
-command_of (Look ask) = None
-command_of (Write place version batch) = None
-command_of (Read places version key at columns) = None
-command_of (Cutoff slot) = None
-command_of (Compact slot) = None
-command_of (Send operation slot) = None
-command_of (Process slot other) = None
-command_of (Ack operation slot) = None
-command_of (Advance operation) = None
-command_of (Remove target slots) = None
-command_of Prune = None
-command_of (Restart slot) = None
-command_of (Stats slot) = None
+-- what a command makes, where an act is one
+abbrev pub asked_by : Act → Making
+asked_by act = elim (deed_of act) [
+  | Commands command ↦ making_of command
+  | Advances operation ↦ Nothing
+  | Obeys slot ↦ Nothing
+  | NoDeed ↦ Nothing
+]
 
 -- a command to restore that was accepted: the restoration that it made, its schedule and that schedule's namespace,
 -- and the time that it named
@@ -54,8 +39,8 @@ pub record CloneAsked : Type 0 where
   pub before : List made.Change
 
 -- the restorations of a command, if it is one to restore
-abbrev pub restores_in : Option Command → List Id → Master → List RestoreAsked
-restores_in (Some (Restore schedule to)) made m = map
+abbrev pub restores_in : Making → List Id → Master → List RestoreAsked
+restores_in (ARestoration schedule to) made m = map
     (λ id. record {
       operation = id;
       schedule = schedule;
@@ -63,29 +48,17 @@ restores_in (Some (Restore schedule to)) made m = map
       to = to;
     })
     made
-restores_in None made m = []
-restores_in (Some (CreateNamespace name)) made m = []
-restores_in (Some (DropNamespace name)) made m = []
-restores_in (Some (CreateTable namespace table tablets columns)) made m = []
-restores_in (Some (AddColumn namespace table name kind)) made m = []
-restores_in (Some (DropColumn namespace table name)) made m = []
-restores_in (Some (RenameTable namespace table name)) made m = []
-restores_in (Some (DropTable namespace table)) made m = []
-restores_in (Some (Split namespace table code)) made m = []
-restores_in (Some (CreateSchedule interval retention namespace)) made m = []
-restores_in (Some (EditSchedule schedule interval retention)) made m = []
-restores_in (Some (DeleteSchedule schedule)) made m = []
-restores_in (Some (TakeSnapshot schedule)) made m = []
-restores_in (Some (CloneNamespace source target to)) made m = []
-restores_in (Some ListSchedules) made m = []
-restores_in (Some ListSnapshots) made m = []
-restores_in (Some ListRestorations) made m = []
-restores_in (Some ListClones) made m = []
-restores_in (Some (ListTablets namespace)) made m = []
+restores_in ANamespace made m = []
+restores_in (ATable tablets) made m = []
+restores_in TwoTablets made m = []
+restores_in ASchedule made m = []
+restores_in ASnapshot made m = []
+restores_in (AClone source target to) made m = []
+restores_in Nothing made m = []
 
 -- the clones of a command, if it is one to clone. Without a time it goes to just before its own stamp
-abbrev pub clones_in : Option Command → List Id → ℕ → Master → List made.Change → List CloneAsked
-clones_in (Some (CloneNamespace source target to)) made n m changes = map
+abbrev pub clones_in : Making → List Id → ℕ → Master → List made.Change → List CloneAsked
+clones_in (AClone source target to) made n m changes = map
     (λ id. record {
       operation = id;
       source = namespace_named m.catalog.namespaces source;
@@ -94,58 +67,38 @@ clones_in (Some (CloneNamespace source target to)) made n m changes = map
       before = changes;
     })
     made
-clones_in None made n m changes = []
-clones_in (Some (CreateNamespace name)) made n m changes = []
-clones_in (Some (DropNamespace name)) made n m changes = []
-clones_in (Some (CreateTable namespace table tablets columns)) made n m changes = []
-clones_in (Some (AddColumn namespace table name kind)) made n m changes = []
-clones_in (Some (DropColumn namespace table name)) made n m changes = []
-clones_in (Some (RenameTable namespace table name)) made n m changes = []
-clones_in (Some (DropTable namespace table)) made n m changes = []
-clones_in (Some (Split namespace table code)) made n m changes = []
-clones_in (Some (CreateSchedule interval retention namespace)) made n m changes = []
-clones_in (Some (EditSchedule schedule interval retention)) made n m changes = []
-clones_in (Some (DeleteSchedule schedule)) made n m changes = []
-clones_in (Some (TakeSnapshot schedule)) made n m changes = []
-clones_in (Some (Restore schedule to)) made n m changes = []
-clones_in (Some ListSchedules) made n m changes = []
-clones_in (Some ListSnapshots) made n m changes = []
-clones_in (Some ListRestorations) made n m changes = []
-clones_in (Some ListClones) made n m changes = []
-clones_in (Some (ListTablets namespace)) made n m changes = []
+clones_in ANamespace made n m changes = []
+clones_in (ATable tablets) made n m changes = []
+clones_in TwoTablets made n m changes = []
+clones_in ASchedule made n m changes = []
+clones_in ASnapshot made n m changes = []
+clones_in (ARestoration schedule to) made n m changes = []
+clones_in Nothing made n m changes = []
 
 -- all that a history accepted, the newest first
 
 unfoldable pub restores_asked : ℕ → List Entry → List RestoreAsked
 restores_asked slots [] = []
 restores_asked slots (e ∷ earlier) =
-    restores_in (command_of e.event.act) (made_by e.reply) (replay slots earlier).master ++ restores_asked slots earlier
+    restores_in (asked_by e.event.act) (ids_made e.reply) (replay slots earlier).master ++ restores_asked slots earlier
 
 unfoldable pub clones_asked : ℕ → List Entry → List CloneAsked
 clones_asked slots [] = []
 clones_asked slots (e ∷ earlier) =
     clones_in
-    (command_of e.event.act) (made_by e.reply) e.stamp (replay slots earlier).master (journal_of slots earlier)
+    (asked_by e.event.act) (ids_made e.reply) e.stamp (replay slots earlier).master (journal_of slots earlier)
     ++ clones_asked slots earlier
 
 -- The changes of an operation
 
 -- whether an act is a move of the operation's record
 abbrev pub is_move_of : Id → Act → Bool
-is_move_of operation (Advance moved) = same moved operation
-is_move_of operation (Look ask) = false
-is_move_of operation (Change command slots) = false
-is_move_of operation (Write place version batch) = false
-is_move_of operation (Read places version key at columns) = false
-is_move_of operation (Cutoff slot) = false
-is_move_of operation (Compact slot) = false
-is_move_of operation (Send sent slot) = false
-is_move_of operation (Process slot other) = false
-is_move_of operation (Ack acked slot) = false
-is_move_of operation (Remove target slots) = false
-is_move_of operation Prune = false
-is_move_of operation (Restart slot) = false
-is_move_of operation (Stats slot) = false
+is_move_of operation act = elim (deed_of act) [
+  | Advances moved ↦ same moved operation
+  | Commands command ↦ false
+  | Obeys slot ↦ false
+  | NoDeed ↦ false
+]
 
 -- the changes of the journal that the moves of an operation's record made
 unfoldable pub changes_by : ℕ → Id → List Entry → List made.Change
@@ -244,51 +197,26 @@ pub record Obeyed : Type 0 where
 
 -- what a reply says that the tablet did
 abbrev pub done_by : Reply → Id → List Obeyed
-done_by (Done operation kind) tablet = record { operation = operation; kind = kind; tablet = tablet } ∷ []
-done_by (Ok made) tablet = []
-done_by (Planned slots) tablet = []
-done_by (Placed places version columns) tablet = []
-done_by (Work item) tablet = []
-done_by (Removable targets) tablet = []
-done_by (Present slots) tablet = []
-done_by (Rows rows) tablet = []
-done_by (CutoffAt cutoff) tablet = []
-done_by (Compacted before after) tablet = []
-done_by SentTo tablet = []
-done_by Acked tablet = []
-done_by (Advanced state) tablet = []
-done_by Removed tablet = []
-done_by (Pruned count) tablet = []
-done_by (Counts cutoff versions frozen inbox) tablet = []
-done_by NoTablet tablet = []
-done_by (Schedules lines) tablet = []
-done_by (Snapshots lines) tablet = []
-done_by (Restorations lines) tablet = []
-done_by (Clones lines) tablet = []
-done_by (Tablets lines) tablet = []
-done_by (Refused why) tablet = []
+done_by reply tablet = elim (success_of reply) [
+  | Does operation kind ↦ record { operation = operation; kind = kind; tablet = tablet } ∷ []
+  | Makes made ↦ []
+  | Enters state ↦ []
+  | NoSuccess ↦ []
+]
 
 -- the tablet is the one that is in the slot after the event: a copy puts it there
 abbrev pub obeyed_by : Act → Reply → Parts → List Obeyed
-obeyed_by (Process slot other) reply after = done_by reply (after.tablet slot).tablet
-obeyed_by (Look ask) reply after = []
-obeyed_by (Change command slots) reply after = []
-obeyed_by (Write place version batch) reply after = []
-obeyed_by (Read places version key at columns) reply after = []
-obeyed_by (Cutoff slot) reply after = []
-obeyed_by (Compact slot) reply after = []
-obeyed_by (Send operation slot) reply after = []
-obeyed_by (Ack operation slot) reply after = []
-obeyed_by (Advance operation) reply after = []
-obeyed_by (Remove target slots) reply after = []
-obeyed_by Prune reply after = []
-obeyed_by (Restart slot) reply after = []
-obeyed_by (Stats slot) reply after = []
+obeyed_by act reply after = elim (deed_of act) [
+  | Obeys slot ↦ done_by reply (after.tablet slot).tablet
+  | Commands command ↦ []
+  | Advances operation ↦ []
+  | NoDeed ↦ []
+]
 
 -- all commands that tablets did, the newest first
-unfoldable pub obeyed : ℕ → List Entry → List Obeyed
-obeyed slots [] = []
-obeyed slots (e ∷ earlier) = obeyed_by e.event.act e.reply (replay slots (e ∷ earlier)) ++ obeyed slots earlier
+unfoldable pub commands_done : ℕ → List Entry → List Obeyed
+commands_done slots [] = []
+commands_done slots (e ∷ earlier) = obeyed_by e.event.act e.reply (replay slots (e ∷ earlier)) ++ commands_done slots earlier
 
 -- no tablet did a command of an operation twice
 abbrev pub NoneAgain : List Obeyed → Type 0
@@ -306,4 +234,4 @@ pub record Once (slots : ℕ) (history : List Entry) : Type 0 where
   pub clones_of : (c : made.Change) (source target : Id) (name : List ℕ) (to : ℕ) (tables : List IdPair)
       → In c (journal_of slots history)
       → c.act ≡ NamespaceCloned source target name to tables → IsCloneAsked slots history c
-  pub commands : NoneAgain (obeyed slots history)
+  pub commands : NoneAgain (commands_done slots history)

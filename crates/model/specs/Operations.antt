@@ -1,26 +1,19 @@
 -- The unfinished operation of a namespace: a restoration of it, or a clone. It holds the namespace that it restores or
 -- makes; it uses the namespace that it holds, and a clone its source too.
-use Rattle.std.specs.Prelude.{ℕ, not, ◌&&◌, ◌||◌, List, [], ◌∷◌, if◌then◌else◌, Option, Some, None, option_map}
-use Rattle.std.specs.Option.{option_or}
-use Rattle.row_values.specs.Ids.{Id, same}
-use Rattle.model.specs.Records.{RestorationRecord, CloneRecord, is_restored, is_cloned}
-use Rattle.model.specs.Parts.{Master}
+use Rattle.model.specs.Words.{ℕ, not, ◌&&◌, ◌||◌, List, Option, option_map, option_or, Id, same, find}
+use Rattle.model.specs.Cluster.{RestorationRecord, CloneRecord, is_restored, is_cloned, Master}
 
 -- the unfinished restoration of a namespace
 abbrev pub restoration_of : List RestorationRecord → Id → Option RestorationRecord
-restoration_of [] ns = None
-restoration_of (r ∷ rs) ns = if same r.namespace ns && not (is_restored r.state) then Some r else restoration_of rs ns
+restoration_of rs ns = find (λ r. same r.namespace ns && not (is_restored r.state)) rs
 
 -- the unfinished clone that makes the namespace
 abbrev pub clone_to : List CloneRecord → Id → Option CloneRecord
-clone_to [] ns = None
-clone_to (r ∷ rs) ns = if same r.target_id ns && not (is_cloned r.state) then Some r else clone_to rs ns
+clone_to rs ns = find (λ r. same r.target_id ns && not (is_cloned r.state)) rs
 
 -- the unfinished clone that makes the namespace, or has it as its source
 abbrev pub clone_with : List CloneRecord → Id → Option CloneRecord
-clone_with [] ns = None
-clone_with (r ∷ rs) ns =
-    if (same r.target_id ns || same r.source ns) && not (is_cloned r.state) then Some r else clone_with rs ns
+clone_with rs ns = find (λ r. (same r.target_id ns || same r.source ns) && not (is_cloned r.state)) rs
 
 -- the operation that holds a namespace
 abbrev pub holder : Master → Id → Option Id

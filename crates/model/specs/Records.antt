@@ -1,8 +1,6 @@
 -- The master's records of snapshots, restorations and clones, and of schedules. Each record lists the tablets that are
 -- yet to do a command of its state.
-use Rattle.std.specs.Prelude.{ℕ, Bool, true, false, List, [], ◌∷◌, Option, Some, None, ◌==◌, ◌&&◌, ◌||◌, not, map, if◌then◌else◌}
-use Rattle.std.specs.List.{list_any, filter}
-use Rattle.row_values.specs.Ids.{Id, same}
+use Rattle.model.specs.Words.{ℕ, Bool, true, false, List, [], ◌∷◌, Option, Some, None, ◌==◌, ◌&&◌, ◌||◌, not, map, if◌then◌else◌, list_any, filter, Id, same, find}
 use Rattle.model.specs.Tablets.{Body}
 
 pub record Listed : Type 0 where
@@ -129,6 +127,19 @@ clone_state (Copying serving copied_at) = IsCopying
 clone_state (CloneReleasing serving copied_at) = IsReleasing
 clone_state (CloneComplete serving copied_at) = IsComplete
 
+-- whether an operation has a snapshot made for it there
+abbrev pub is_snapshotting : State → Bool
+is_snapshotting IsSnapshot = true
+is_snapshotting IsCreating = false
+is_snapshotting IsComplete = false
+is_snapshotting IsFencing = false
+is_snapshotting IsSwitching = false
+is_snapshotting IsRestoring = false
+is_snapshotting IsReleasing = false
+is_snapshotting IsRestored = false
+is_snapshotting IsAccepted = false
+is_snapshotting IsCopying = false
+
 abbrev pub point_of : RestorationState → Option ℕ
 point_of Fencing = None
 point_of (Snapshotting point own) = Some point
@@ -190,8 +201,7 @@ first_unacked ls = first_listed (unacked ls)
 
 -- the listed tablet of a slot without ack
 abbrev pub unacked_at : List Listed → ℕ → Option Listed
-unacked_at [] slot = None
-unacked_at (l ∷ ls) slot = if (l.slot == slot) && not l.acked then Some l else unacked_at ls slot
+unacked_at ls slot = find (λ l. (l.slot == slot) && not l.acked) ls
 
 -- the tablet of the slot is acked
 abbrev pub acked_at : ℕ → List Listed → List Listed
@@ -211,21 +221,17 @@ abbrev pub unsent_at : Id → ℕ → List Sent → List Sent
 unsent_at operation slot sent = filter (λ s. not (same s.operation operation && (s.slot == slot))) sent
 
 abbrev pub schedule_with : List Schedule → Id → Option Schedule
-schedule_with [] id = None
-schedule_with (s ∷ ss) id = if same s.id id then Some s else schedule_with ss id
+schedule_with ss id = find (λ s. same s.id id) ss
 
 -- the schedule of a namespace that has the least number: schedules stand in the order of their numbers
 abbrev pub schedule_of : List Schedule → Id → Option Schedule
-schedule_of [] ns = None
-schedule_of (s ∷ ss) ns = if same s.namespace ns then Some s else schedule_of ss ns
+schedule_of ss ns = find (λ s. same s.namespace ns) ss
 
 abbrev pub scheduled_in : List ScheduledNamespace → Id → Option ScheduledNamespace
-scheduled_in [] ns = None
-scheduled_in (k ∷ ks) ns = if same k.namespace ns then Some k else scheduled_in ks ns
+scheduled_in ks ns = find (λ k. same k.namespace ns) ks
 
 abbrev pub snapshot_with : List SnapshotRecord → Id → Option SnapshotRecord
-snapshot_with [] id = None
-snapshot_with (r ∷ rs) id = if same r.id id then Some r else snapshot_with rs id
+snapshot_with rs id = find (λ r. same r.id id) rs
 
 -- the unfinished snapshot of a namespace
 abbrev pub unfinished_of : List SnapshotRecord → Id → Option Id

@@ -1,17 +1,12 @@
 -- Right histories: each reply is that of one list of stamped changes, and no change comes too late for a restore or a clone.
-use Rattle.std.specs.Prelude.{◌≡◌, ℕ, ◌≤◌, ◌<◌, List, [], ◌∷◌, Option, Some, None, ◌-◌, unwrap_or}
-use Rattle.model.specs.Times.{time_of}
-use Rattle.model.specs.Catalog.{namespace_named}
-use Rattle.model.specs.Records.{Schedule, schedule_with}
-use Rattle.model.specs.Acts.{Restore, CloneNamespace, AskKeys, AskTable, Act, Look, Change, Read, NameTaken, TooMany, TooEarly, Future, SlotsFull, StalePlan, Reply, Ok, Rows, Refused}
-use Rattle.model.specs.Parts.{Master, Parts}
-use Rattle.model.specs.Schedules.{low, least_low, IsInWindow}
-use Rattle.model.specs.Changes.{CloneSource, source_from}
-use Rattle.model.specs.Operations.{user}
-use Rattle.std.specs.Option.{option_and_then}
+use Rattle.model.specs.Words.{◌≡◌, ℕ, ◌≤◌, ◌<◌, List, [], ◌∷◌, Option, Some, None, ◌-◌, unwrap_or, option_and_then}
+use Rattle.model.specs.Cluster.{time_of, namespace_named, Schedule, schedule_with, Restore, CloneNamespace, AskKeys, AskTable, Act, Look, Change, Read, NameTaken, TooMany, TooEarly, Future, SlotsFull, StalePlan, Reply, Ok, Rows, Refused, Master, Parts}
 use Rattle.model.specs.Journal as made
-use Rattle.model.specs.Entries.{Entry}
+use Rattle.model.specs.Schedules.{low, least_low, IsInWindow}
+use Rattle.model.specs.Operations.{user}
+use Rattle.model.specs.Changes.{CloneSource, source_from}
 use Rattle.model.specs.Right.{RowsRight, LookReplyRight, LookPlacesRight, NothingLate}
+use Rattle.model.specs.Entries.{Entry}
 use Rattle.model.specs.History.{replay, journal_of}
 
 -- a restore by a schedule whose namespace no operation uses is refused exactly outside the window, once its plan is right

@@ -1,14 +1,7 @@
 -- What a restoration brings back and a clone takes over of the catalog and of the tablets of a time. A column that the
 -- table gets later never takes an id that was given before, not even one that the time doesn't show.
-use Rattle.std.specs.Prelude.{ℕ, false, List, [], ◌∷◌, ◌++◌, Option, Some, None, ◌&&◌, ◌+◌, map, if◌then◌else◌}
-use Rattle.std.specs.Option.{unwrap_or, option_map_or}
-use Rattle.row_values.specs.Ids.{Id, same}
-use Rattle.model.specs.Times.{holds_at, ended}
-use Rattle.row_values.specs.Schema.{Schema}
-use Rattle.model.specs.Catalog.{Catalog, TableRecord, Owner, tables_at, latest, current_table, end_tables, owns, set_kept_from}
-use Rattle.model.specs.Activity.{Interval, active_at}
-use Rattle.model.specs.Tablets.{RestoreFrom, Hide}
-use Rattle.model.specs.Records.{Listed, IdPair, TabletPair, CloneRecord}
+use Rattle.model.specs.Words.{ℕ, false, List, [], ◌∷◌, ◌++◌, Option, None, ◌&&◌, ◌+◌, map, if◌then◌else◌, unwrap_or, option_map_or, Id, same, Schema, find}
+use Rattle.model.specs.Cluster.{holds_at, ended, Catalog, TableRecord, Owner, tables_at, latest, current_table, end_tables, owns, set_kept_from, Interval, active_at, RestoreFrom, Hide, Listed, IdPair, TabletPair, CloneRecord}
 use Rattle.model.specs.Lists.{by_table_and_number, by_table_and_range, once, active_tablets, tablets_active_at}
 
 -- the newest kept schema of the table of a record
@@ -80,8 +73,7 @@ clone_map c activity ns to = record {
 
 -- the record of a table at a time
 abbrev pub record_at : List TableRecord → Id → ℕ → Option TableRecord
-record_at [] table x = None
-record_at (r ∷ rs) table x = if holds_at x r.from r.to && same r.id table then Some r else record_at rs table x
+record_at rs table x = find (λ r. holds_at x r.from r.to && same r.id table) rs
 
 -- a table as it was, under another id in another namespace
 abbrev pub cloned : List TableRecord → Id → Id → ℕ → TableRecord → TableRecord

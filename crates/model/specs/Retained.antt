@@ -1,16 +1,8 @@
 -- What retention keeps: while a time is retained, nothing removes a version, a frozen set, a tablet or a catalog record
 -- that it needs.
-use Rattle.std.specs.Prelude.{nat_lt, ◌-◌, ◌<◌, ◌≡◌, ℕ, ◌≤◌, true, false, List, [], ◌∷◌, Option, Some, None, ◌&&◌, ◌+◌, max, not, nat_le, unwrap_or, if◌then◌else◌}
-use Rattle.row_values.specs.Ids.{Id, same}
-use Rattle.std.specs.Option.{option_map}
-use Rattle.row_values.specs.Elements.{In}
-use Rattle.row_values.specs.Store.{Version}
-use Rattle.model.specs.Catalog.{owns, kept_from}
-use Rattle.model.specs.Activity.{Interval, active_at, last_of}
-use Rattle.model.specs.Tablets.{Tablet, FrozenSet, set_of, is_empty}
-use Rattle.model.specs.Records.{Schedule, ScheduledNamespace, Listed, SnapshotRecord, RestorationRecord, CloneRecord, TabletPair, is_restored, is_cloned, lists_tablet}
-use Rattle.model.specs.Schedules.{low, low, complete_to, serving}
-use Rattle.model.specs.Parts.{Master, Parts}
+use Rattle.model.specs.Words.{nat_lt, ◌-◌, ◌<◌, ◌≡◌, ℕ, ◌≤◌, true, false, List, [], ◌∷◌, Option, Some, None, ◌&&◌, ◌+◌, max, not, nat_le, unwrap_or, if◌then◌else◌, Id, same, option_map, In, Version, find}
+use Rattle.model.specs.Cluster.{owns, kept_from, Interval, active_at, last_of, Tablet, FrozenSet, set_of, is_empty, Schedule, ScheduledNamespace, Listed, SnapshotRecord, RestorationRecord, CloneRecord, TabletPair, is_restored, is_cloned, lists_tablet, Master, Parts}
+use Rattle.model.specs.Schedules.{low, complete_to, serving}
 use Rattle.model.specs.Cleanup.{floor_of}
 
 -- a tablet is present: its slot's part holds it
@@ -20,8 +12,7 @@ pub record IsPresent (ps : Parts) (slot : ℕ) (tablet : Id) : Type 0 where
 
 -- the namespace's unfinished snapshot
 abbrev pub unfinished : List SnapshotRecord → Id → Option SnapshotRecord
-unfinished [] ns = None
-unfinished (r ∷ rs) ns = if same r.namespace ns && not r.complete then Some r else unfinished rs ns
+unfinished rs ns = find (λ r. same r.namespace ns && not r.complete) rs
 
 -- a store from which a tablet's rows are had, and how far back it goes
 pub record Source : Type 0 where

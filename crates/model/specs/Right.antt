@@ -1,21 +1,8 @@
 -- When an entry is right: its reply is that of one list of stamped changes, the journal of the entries before it.
-use Rattle.std.specs.Prelude.{◌≡◌, ℕ, ◌<◌, Bool, true, false, List, [], ◌∷◌, ◌++◌, Option, Some, None, ◌==◌, ◌&&◌, ◌||◌, if◌then◌else◌}
-use Rattle.std.specs.List.{list_all}
-use Rattle.std.specs.Option.{is_some}
-use Rattle.std.specs.Str.{bytes_eq}
-use Rattle.row_values.specs.Rows.{cut_to}
-use Rattle.row_values.specs.Codes.{code_of}
-use Rattle.row_values.specs.declared.rows.KeyedRow.{KeyedRow}
-use Rattle.row_values.specs.Ids.{Id, same}
-use Rattle.row_values.specs.Elements.{In}
-use Rattle.row_values.specs.Store.{present, InOrder, of_key}
-use Rattle.row_values.specs.Ranges.{in_range}
-use Rattle.row_values.specs.Schema.{Column}
-use Rattle.model.specs.Activity.{Interval, active_at}
-use Rattle.model.specs.Journal.{Change, ChangeAct, NamespaceMade, NamespaceDropped, TableMade, TableRenamed, TableDropped, ColumnAdded, ColumnDropped, RowChanged, NamespaceRestored, NamespaceCloned, TableView, is_in, namespace_at, table_at, row_at, shown_at}
-use Rattle.model.specs.Tablets.{Tablet}
+use Rattle.model.specs.Words.{◌≡◌, ℕ, ◌<◌, Bool, true, false, List, [], ◌∷◌, ◌++◌, Option, Some, None, ◌==◌, ◌&&◌, ◌||◌, if◌then◌else◌, list_all, is_some, bytes_eq, cut_to, code_of, KeyedRow, Id, same, In, present, InOrder, of_key, in_range, Column}
+use Rattle.model.specs.Cluster.{Interval, active_at, Tablet, NamedItem, Place, At, Refusal, UnknownNamespace, UnknownTable, UnknownColumn, WrongKind, CrossTablet, Future, TooOld, Reply, Placed, Refused}
 use Rattle.model.specs.Looks.{batch_fault, place_of}
-use Rattle.model.specs.Acts.{NamedItem, Place, At, Refusal, UnknownNamespace, UnknownTable, UnknownColumn, WrongKind, CrossTablet, Future, TooOld, Reply, Placed, Refused}
+use Rattle.model.specs.Journal.{Change, ChangeAct, NamespaceMade, NamespaceDropped, TableMade, TableRenamed, TableDropped, ColumnAdded, ColumnDropped, RowChanged, NamespaceRestored, NamespaceCloned, TableView, is_in, namespace_at, table_at, row_at, shown_at}
 
 -- Rows in order over several places
 

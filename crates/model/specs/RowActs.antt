@@ -1,23 +1,8 @@
 -- What acts on tablets do: writes and reads of rows, cutoffs, compactions, restarts and counts.
-use Rattle.std.specs.Prelude.{ℕ, ◌+◌, max, Bool, true, false, not, ◌&&◌, ◌||◌, List, [], ◌∷◌, ◌++◌, map, length, if◌then◌else◌, ◌==◌, Option, Some, None}
-use Rattle.std.specs.List.{filter, list_all}
-use Rattle.std.specs.Option.{option_or, option_map, option_and_then}
-use Rattle.row_values.specs.Codes.{code_of}
-use Rattle.row_values.specs.Rows.{cut_to}
-use Rattle.row_values.specs.declared.rows.KeyedRow.{KeyedRow}
-use Rattle.row_values.specs.declared.value.Item.{Item}
-use Rattle.row_values.specs.Ids.{Id}
-use Rattle.model.specs.Times.{time_of, is_future, is_below}
-use Rattle.row_values.specs.Store.{Version, precedes, read_of, kept, present, rows_at}
-use Rattle.row_values.specs.Ranges.{in_range}
-use Rattle.model.specs.Catalog.{owner_of}
-use Rattle.model.specs.Activity.{Interval}
-use Rattle.model.specs.Tablets.{Tablet, FrozenSet, standing, is_empty, serves, RaiseCutoff, Write as WriteRows, Compact as CompactRows, Restart as RestartTablet}
-use Rattle.model.specs.Records.{ScheduledNamespace, scheduled_in}
-use Rattle.model.specs.Acts.{At, Refusal, Future, Fenced, Moved, StaleSchema, TooOld, Ok, Rows, CutoffAt, Compacted, Counts, NoTablet}
-use Rattle.model.specs.Parts.{Master, Parts, Ticks, Restarts, Outcome, If, Names, Fault, judged, answered}
+use Rattle.model.specs.Words.{ℕ, ◌+◌, max, Bool, true, false, not, ◌&&◌, ◌||◌, List, [], ◌∷◌, ◌++◌, map, length, if◌then◌else◌, ◌==◌, Option, Some, None, filter, list_all, option_or, option_map, option_and_then, code_of, cut_to, KeyedRow, Item, Id, Version, precedes, read_of, kept, present, rows_at, in_range, in_order}
+use Rattle.model.specs.Cluster.{time_of, is_future, is_below, owner_of, Interval, Tablet, FrozenSet, standing, is_empty, serves, RaiseCutoff, ScheduledNamespace, scheduled_in, At, Refusal, Future, Fenced, Moved, StaleSchema, TooOld, Ok, Rows, CutoffAt, Compacted, Counts, NoTablet, Master, Parts, Ticks, Restarts, Outcome, If, Names, Fault, judged, answered}
+use Rattle.model.specs.Tablets.{Write as WriteRows, Compact as CompactRows, Restart as RestartTablet}
 use Rattle.model.specs.Schedules.{allowed_cutoff}
-use Rattle.row_values.specs.Elements.{in_order}
 
 -- the slot's part doesn't have what is wanted of it
 abbrev pub has_moved : ℕ → Tablet → Refusal

@@ -1,9 +1,7 @@
 -- Schedules: the window to which a database may be taken back, when a snapshot is due, how far the history may be cut,
 -- and what retention still needs. Times in ticks, periods in minutes.
-use Rattle.std.specs.Prelude.{ℕ, ◌≤◌, ◌<◌, Bool, List, [], ◌∷◌, Option, Some, None, ◌+◌, ◌-◌, ◌*◌, max, min, nat_le, nat_lt, ◌&&◌, if◌then◌else◌}
-use Rattle.row_values.specs.Ids.{Id, same}
-use Rattle.model.specs.Times.{minute, second, end_of_time}
-use Rattle.model.specs.Records.{Schedule, ScheduledNamespace, SnapshotRecord}
+use Rattle.model.specs.Words.{ℕ, ◌≤◌, ◌<◌, Bool, List, [], ◌∷◌, Option, Some, None, ◌+◌, ◌-◌, ◌*◌, max, min, nat_le, nat_lt, ◌&&◌, if◌then◌else◌, Id, same, find}
+use Rattle.model.specs.Cluster.{minute, second, end_of_time, Schedule, ScheduledNamespace, SnapshotRecord}
 
 -- the retention of a namespace without a schedule, and of catalog records: 900 seconds
 abbrev pub history_retention : ℕ
@@ -77,6 +75,4 @@ floor (Some least) unfinished_to now = least_with unfinished_to least
 -- the snapshot that serves a time: the namespace's first complete, kept one at or after it. Records stand in order of
 -- time
 abbrev pub serving : List SnapshotRecord → Id → ℕ → Option SnapshotRecord
-serving [] ns to = None
-serving (r ∷ rs) ns to =
-    if (same r.namespace ns && r.complete) && nat_le to r.at then Some r else serving rs ns to
+serving rs ns to = find (λ r. (same r.namespace ns && r.complete) && nat_le to r.at) rs

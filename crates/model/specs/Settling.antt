@@ -1,14 +1,35 @@
 -- Settling: a coordinator performs the event that comes next, under one reading, until no record is unfinished. Each
 -- act is performed as that of an entry is: by the stamp rule, and by what the touched parts are told.
-use Rattle.std.specs.Prelude.{◌≡◌, ℕ, zero, suc, ◌≤◌, List, [], ◌∷◌, length, Option, None}
-use Rattle.std.specs.Option.{option_map, option_map_or}
-use Rattle.row_values.specs.Ids.{Id}
-use Rattle.model.specs.Acts.{Act, Ack, Event, Refusal, NotDone, Reply, Refused}
-use Rattle.model.specs.Parts.{Master, Parts}
+use Rattle.model.specs.Words.{◌≡◌, ℕ, zero, suc, List, [], ◌∷◌, length, Option, None, option_map, option_map_or, Id, ◌+◌, ◌*◌, ◌-◌, not, filter}
+use Rattle.model.specs.Cluster.{Act, Ack, Event, Refusal, NotDone, Reply, Refused, Master, Parts, is_restored, is_cloned}
+use Rattle.model.specs.Looks.{free_slots}
+use Rattle.model.specs.Work.{next_work, next_act, unfinished_records}
 use Rattle.model.specs.Entries.{stamp_of}
 use Rattle.model.specs.History.{outcome, told}
-use Rattle.model.specs.Work.{next_work, next_act, unfinished_records}
-use Rattle.model.specs.Left.{left}
+
+-- How many coordinator events are left at the most, until no record is unfinished
+
+abbrev pub unfinished_snapshots : Master → ℕ
+unfinished_snapshots m = length (filter (λ r. not r.complete) m.snapshots)
+
+abbrev pub unfinished_restorations : Master → ℕ
+unfinished_restorations m = length (filter (λ r. not (is_restored r.state)) m.restorations)
+
+abbrev pub unfinished_clones : Master → ℕ
+unfinished_clones m = length (filter (λ c. not (is_cloned c.state)) m.clones)
+
+abbrev pub taken_slots : Master → ℕ
+taken_slots m = m.slots - length (free_slots m)
+
+-- each listed tablet costs at most an ack too early, a send, a process and an ack. A snapshot has one round over its
+-- tablets and one move; a restoration four rounds and six moves, a clone three rounds and five moves, where a snapshot
+-- of their own is counted
+abbrev pub left : Master → ℕ
+left m =
+    4 * taken_slots m * (unfinished_snapshots m + 4 * unfinished_restorations m + 3 * unfinished_clones m)
+    + unfinished_snapshots m + 6 * unfinished_restorations m + 5 * unfinished_clones m
+
+-- The events
 
 -- an event of the caller 0
 abbrev pub event_of : ℕ → Act → Event
@@ -64,10 +85,9 @@ EachGoesOn [] replies = Unit {0}
 EachGoesOn (act ∷ acts) [] = ⊥
 EachGoesOn (act ∷ acts) (reply ∷ replies) = GoesOn act reply × EachGoesOn acts replies
 
--- settling goes on to its end, at which no record is unfinished
+-- settling, which has at most so many acts, goes on to its end: no record is unfinished behind it
 pub record Settles (reading : ℕ) (ps : Parts) : Type 0 where
   pub each : EachGoesOn (settle reading ps) (replies_under reading (settle reading ps) ps)
-  pub at_most : length (settle reading ps) ≤ left ps.master
   pub finished : unfinished_records (after_acts reading (settle reading ps) ps).master ≡ []
 
 -- as long as a record is unfinished, something comes next

@@ -1,31 +1,12 @@
 -- What holds of the parts of a cluster against its journal after each entry: tablets stand for the journal, ranges
 -- cover the codes, and a record's state says what its tablets have done.
-use Rattle.std.specs.Prelude.{◌≡◌, ◌≢◌, ℕ, ◌≤◌, ◌<◌, Bool, true, false, List, [], ◌∷◌, Option, Some, None, ◌==◌, ◌&&◌, ◌||◌, ◌⊎◌, ◌+◌, not, nat_lt, if◌then◌else◌}
-use Rattle.std.specs.List.{list_any, filter}
-use Rattle.std.specs.Option.{is_some}
-use Rattle.row_values.specs.Codes.{code_of}
-use Rattle.row_values.specs.Ids.{Id, same}
-use Rattle.row_values.specs.Elements.{In}
-use Rattle.model.specs.Times.{before_end, is_open}
-use Rattle.row_values.specs.Store.{Version, read_of, AreRows}
-use Rattle.row_values.specs.Ranges.{in_range}
-use Rattle.model.specs.Catalog.{owns}
-use Rattle.model.specs.Activity.{Interval, active_at, last_of}
-use Rattle.row_values.specs.declared.value.RowOp.{RowOp}
+use Rattle.model.specs.Words.{◌≡◌, ◌≢◌, ℕ, ◌≤◌, ◌<◌, Bool, true, false, List, [], ◌∷◌, Option, Some, None, ◌==◌, ◌&&◌, ◌||◌, ◌⊎◌, ◌+◌, not, nat_lt, if◌then◌else◌, list_any, filter, is_some, code_of, Id, same, In, Version, read_of, AreRows, in_range, RowOp}
+use Rattle.model.specs.Cluster.{before_end, is_open, owns, Interval, active_at, last_of, Tablet, Release, BodyKind, FenceKind, FreezeKind, RestoreFromKind, HideKind, CopyKind, ReleaseKind, kind_of, Mark, FrozenSet, is_empty, is_serving, is_done, holds_command, set_of, Listed, SnapshotRecord, RestorationRecord, RestorationState, Fencing, Snapshotting, Switching, Restoring, Releasing, Restored, CloneRecord, CloneState, Accepted, CloneSnapshot, Copying, CloneReleasing, CloneComplete, is_restored, is_cloned, point_of, TabletPair, Parts}
+use Rattle.model.specs.Tablets.{Command}
+pub use Rattle.model.specs.Moves.{is_restore}
 use Rattle.model.specs.Journal.{Change, NamespaceMade, NamespaceDropped, TableMade, TableRenamed, TableDropped, ColumnAdded, ColumnDropped, RowChanged, NamespaceRestored, NamespaceCloned, source_of, table_at, row_at}
-use Rattle.model.specs.Tablets.{Tablet, Body, Fence, Freeze, RestoreFrom, Hide, Copy, Release, BodyKind, FenceKind, FreezeKind, RestoreFromKind, HideKind, CopyKind, ReleaseKind, kind_of, Command, Mark, FrozenSet, is_empty, is_serving, is_done, holds_command, set_of}
-use Rattle.model.specs.Records.{Listed, SnapshotRecord, RestorationRecord, RestorationState, Fencing, Snapshotting, Switching, Restoring, Releasing, Restored, CloneRecord, CloneState, Accepted, CloneSnapshot, Copying, CloneReleasing, CloneComplete, is_restored, is_cloned, point_of, TabletPair}
-use Rattle.model.specs.Parts.{Parts}
 
 -- Tablets stand for the journal
-
-abbrev pub is_restore : Body → Bool
-is_restore (RestoreFrom snapshot to point version) = true
-is_restore Fence = false
-is_restore (Freeze snapshot at) = false
-is_restore (Hide ended) = false
-is_restore (Copy source snapshot to stamp table low high version) = false
-is_restore (Release cutoff) = false
 
 abbrev pub first_of_two : Option ℕ → Option ℕ → Option ℕ
 first_of_two None later = later
@@ -106,7 +87,7 @@ abbrev pub AreRowsAt : List Version → ℕ → ℕ → ℕ → List Change → 
 AreRowsAt versions low high stamp changes to table = AreRows versions low high stamp (row_at changes to table)
 
 -- the tablet holds the frozen set of the snapshot, of versions at or before its time. What can be read of it
--- `FrozenStands` says
+-- `FrozenStands` says, and how far back it goes `ReachesBack`
 pub record HoldsFrozen (snapshot : Id) (at : ℕ) (t : Tablet) : Type 0 where
   pub set : FrozenSet
   pub held : set_of t.frozen snapshot ≡ Some set

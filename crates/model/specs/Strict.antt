@@ -1,26 +1,19 @@
 -- Strictly right histories: each reply is one that its act can have, and where it speaks of the past it has its cause;
 -- what a restore or a clone fixed, its namespace at the time that it goes to, stays as it was, and no change of the
 -- namespace comes too late for it.
-use Rattle.std.specs.Prelude.{◌≡◌, ◌≢◌, ◌⊎◌, ℕ, ◌≤◌, ◌<◌, true, Bool, List, [], ◌∷◌, Option}
-use Rattle.row_values.specs.Ids.{Id, same}
-use Rattle.row_values.specs.Elements.{In}
-use Rattle.row_values.specs.Ranges.{IsRange}
-use Rattle.model.specs.Catalog.{is_owned_by}
-use Rattle.model.specs.Activity.{Interval}
-use Rattle.model.specs.Tablets.{Standing, BodyKind}
-use Rattle.model.specs.Records.{State}
-use Rattle.model.specs.Acts.{Command, CreateNamespace, DropNamespace, CreateTable, AddColumn, DropColumn, RenameTable, DropTable, Split, CreateSchedule, EditSchedule, DeleteSchedule, TakeSnapshot, Restore, CloneNamespace, ListSchedules, ListSnapshots, ListRestorations, ListClones, ListTablets, Ask, AskPlan, AskKeys, AskTable, AskWork, AskRemovable, AskPresent, Act, Look, Change, Write, Read, Cutoff, Compact, Send, Process, Ack, Advance, Remove, Prune, Restart, Stats, Refusal, UnknownNamespace, UnknownTable, UnknownColumn, UnknownSchedule, UnknownSnapshot, BadPeriod, NameTaken, NotEmpty, UnderSchedule, TooMany, SlotsFull, Busy, Fenced, Moved, StaleSchema, StalePlan, TooNarrow, NotDue, NotPending, Idle, OtherSlot, NotDone, Waiting, InWindow, IsListed, WorkItem, Removal, ScheduleLine, SnapshotLine, RestorationLine, CloneLine, TabletLine, Reply, Ok, Planned, Work, Removable, Present, CutoffAt, Compacted, SentTo, Done, Acked, Advanced, Removed, Pruned, Counts, NoTablet, Schedules, Snapshots, Restorations, Clones, Tablets, Refused}
-use Rattle.model.specs.Parts.{Parts}
+use Rattle.model.specs.Words.{◌≡◌, ◌≢◌, ◌⊎◌, ℕ, ◌≤◌, ◌<◌, true, Bool, List, [], ◌∷◌, Option, Id, same, In, IsRange}
+use Rattle.model.specs.Cluster.{is_owned_by, Interval, Standing, BodyKind, State, CreateNamespace, DropNamespace, CreateTable, AddColumn, DropColumn, RenameTable, DropTable, Split, CreateSchedule, EditSchedule, DeleteSchedule, TakeSnapshot, Restore, CloneNamespace, ListSchedules, ListSnapshots, ListRestorations, ListClones, ListTablets, Ask, AskPlan, AskKeys, AskTable, AskWork, AskRemovable, AskPresent, Act, Look, Change, Read, Cutoff, Send, Process, Ack, Advance, Remove, Prune, Stats, Refusal, UnknownNamespace, UnknownTable, UnknownColumn, UnknownSchedule, UnknownSnapshot, BadPeriod, NameTaken, NotEmpty, UnderSchedule, TooMany, SlotsFull, Busy, Fenced, Moved, StaleSchema, StalePlan, TooNarrow, NotDue, NotPending, Idle, OtherSlot, NotDone, Waiting, InWindow, IsListed, WorkItem, Removal, ScheduleLine, SnapshotLine, RestorationLine, CloneLine, TabletLine, Reply, Ok, Planned, Work, Removable, Present, CutoffAt, Compacted, SentTo, Done, Acked, Advanced, Removed, Pruned, Counts, NoTablet, Schedules, Snapshots, Restorations, Clones, Tablets, Refused, Parts}
 use Rattle.model.specs.Journal as made
-use Rattle.model.specs.Journal.{ChangeAct, NamespaceMade, NamespaceDropped, TableMade, TableRenamed, TableDropped, ColumnAdded, ColumnDropped, RowChanged, NamespaceRestored, NamespaceCloned, owner_in}
+use Rattle.model.specs.Acts.{Command, Write, Compact, Restart}
 use Rattle.model.specs.Looks.{plan_of}
 use Rattle.model.specs.Changes.{most_namespaces, most_tables, most_columns, most_schedules}
-use Rattle.model.specs.Entries.{Entry}
+use Rattle.model.specs.Journal.{ChangeAct, NamespaceMade, NamespaceDropped, TableMade, TableRenamed, TableDropped, ColumnAdded, ColumnDropped, RowChanged, NamespaceRestored, NamespaceCloned, owner_in}
 use Rattle.model.specs.Right.{is_fixed, StillSame}
-use Rattle.model.specs.Stands.{Cover}
+use Rattle.model.specs.Entries.{Entry}
 use Rattle.model.specs.History.{replay, journal_of}
 use Rattle.model.specs.Answers.{TableLook, TableAnswer, KeysAnswer, ReadAnswer}
 use Rattle.model.specs.Windows.{RestoreAnswer, CloneAnswer}
+use Rattle.model.specs.Stands.{Cover}
 
 -- What was fixed stays
 

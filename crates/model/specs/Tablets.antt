@@ -1,10 +1,5 @@
 -- A tablet's part, and what it is told to do.
-use Rattle.std.specs.Prelude.{ℕ, Bool, true, false, List, [], ◌∷◌, ◌++◌, Option, Some, None, ◌==◌, ◌&&◌, ◌||◌, not, max, if◌then◌else◌}
-use Rattle.std.specs.List.{list_any, filter}
-use Rattle.row_values.specs.declared.value.Item.{Item}
-use Rattle.row_values.specs.declared.rows.KeyedRow.{KeyedRow}
-use Rattle.row_values.specs.Ids.{Id, Tablet as TabletKind, Table as TableKind, same}
-use Rattle.row_values.specs.Store.{Version, written, kept, frozen, rows_at, of_rows}
+use Rattle.model.specs.Words.{ℕ, Bool, true, false, List, [], ◌∷◌, ◌++◌, Option, Some, None, ◌==◌, ◌&&◌, ◌||◌, not, max, if◌then◌else◌, list_any, filter, Item, KeyedRow, Id, Tablet as TabletKind, Table as TableKind, same, Version, written, kept, frozen, rows_at, of_rows, find}
 
 -- what a coordinator has a tablet do
 pub data Body : Type 0 where
@@ -98,8 +93,7 @@ pub record FrozenSet : Type 0 where
   pub cutoff : ℕ
 
 abbrev pub set_of : List FrozenSet → Id → Option FrozenSet
-set_of [] snapshot = None
-set_of (f ∷ fs) snapshot = if same f.snapshot snapshot then Some f else set_of fs snapshot
+set_of fs snapshot = find (λ f. same f.snapshot snapshot) fs
 
 -- the rows at a time of the frozen set of a snapshot; none where there is no such set
 abbrev pub rows_of_set : Option FrozenSet → ℕ → List KeyedRow
@@ -205,8 +199,7 @@ ticked n t = record t { clock = n }
 
 -- an empty part gets a tablet with these versions
 abbrev pub placed : Id → Id → ℕ → ℕ → ℕ → List Version → ℕ → ℕ → Tablet → Tablet
-placed tablet table low high version versions cutoff n t = record {
-  clock = n;
+placed tablet table low high version versions cutoff n t = record (emptied n) {
   presence = ServingPart;
   tablet = tablet;
   table = table;
@@ -215,10 +208,6 @@ placed tablet table low high version versions cutoff n t = record {
   version = version;
   versions = versions;
   cutoff = cutoff;
-  frozen = [];
-  fence = None;
-  inbox = [];
-  done = [];
 }
 
 abbrev pub versioned : ℕ → ℕ → Tablet → Tablet

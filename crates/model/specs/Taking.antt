@@ -1,20 +1,7 @@
 -- What an act may take away: nothing that a time needs, from the floor of its namespace on. It is said of the parts
 -- before and after any act, a step at a time.
-use Rattle.std.specs.Prelude.{◌≡◌, ℕ, ◌≤◌, true, List, Option, Some, None, ◌&&◌, ◌-◌, max, min, map}
-use Rattle.std.specs.Option.{option_map, option_and_then}
-use Rattle.std.specs.List.{filter}
-use Rattle.row_values.specs.Ids.{Id, same}
-use Rattle.row_values.specs.Elements.{In}
-use Rattle.row_values.specs.Rows.{absent_row}
-use Rattle.row_values.specs.Store.{read_of}
-use Rattle.row_values.specs.declared.rows.Row.{Row}
-use Rattle.model.specs.Times.{holds_at, before_end}
-use Rattle.model.specs.Catalog.{NamespaceRecord, TableRecord, Catalog, tables_at, kept_from, owns}
-use Rattle.model.specs.Activity.{Interval, active_at, route}
-use Rattle.model.specs.Tablets.{set_of}
-use Rattle.model.specs.Records.{ScheduledNamespace, SnapshotRecord, point_of}
-use Rattle.model.specs.Acts.{Act, Look, Change, Write, Read, Cutoff, Compact, Send, Process, Ack, Advance, Remove, Prune, Restart, Stats}
-use Rattle.model.specs.Parts.{Master, Parts}
+use Rattle.model.specs.Words.{◌≡◌, ℕ, ◌≤◌, true, List, Option, Some, None, ◌&&◌, ◌-◌, max, min, map, option_map, option_and_then, filter, Id, same, In, absent_row, read_of, Row}
+use Rattle.model.specs.Cluster.{holds_at, before_end, NamespaceRecord, TableRecord, Catalog, tables_at, kept_from, owns, Interval, active_at, route, set_of, ScheduledNamespace, SnapshotRecord, point_of, Act, Master, Parts, deed_of, Commands, Advances, Obeys, NoDeed}
 use Rattle.model.specs.Schedules.{history_retention, serving}
 use Rattle.model.specs.Operations.{restoration_of}
 use Rattle.model.specs.Looks.{place_of}
@@ -89,20 +76,12 @@ point_in m ns = option_and_then (λ r. point_of r.state) (restoration_of m.resto
 -- from when on an act may put other tables and rows in place: a move, or what a tablet does of a command, may be part
 -- of a restoration, which does so from its point on. No other act does at any time
 abbrev pub replaced_from : Act → Master → Id → Option ℕ
-replaced_from (Look ask) m ns = None
-replaced_from (Change command slots) m ns = None
-replaced_from (Write place version batch) m ns = None
-replaced_from (Read places version key at columns) m ns = None
-replaced_from (Cutoff slot) m ns = None
-replaced_from (Compact slot) m ns = None
-replaced_from (Send operation slot) m ns = None
-replaced_from (Process slot other) m ns = point_in m ns
-replaced_from (Ack operation slot) m ns = None
-replaced_from (Advance operation) m ns = point_in m ns
-replaced_from (Remove target slots) m ns = None
-replaced_from Prune m ns = None
-replaced_from (Restart slot) m ns = None
-replaced_from (Stats slot) m ns = None
+replaced_from act m ns = elim (deed_of act) [
+  | Advances operation ↦ point_in m ns
+  | Obeys slot ↦ point_in m ns
+  | Commands command ↦ None
+  | NoDeed ↦ None
+]
 
 -- an act takes nothing that a time needs, from the floor of a scheduled namespace up to the master's clock
 abbrev pub TakesNothingNeeded : Act → Parts → Parts → Type 0

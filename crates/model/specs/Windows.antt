@@ -1,14 +1,8 @@
 -- How restores by a schedule and clones are answered: each refusal exactly where its cause holds and no earlier one
 -- does, with its values, and else acceptance. What a journal doesn't have is the master's: schedules, unfinished
 -- operations, and free slots.
-use Rattle.std.specs.Prelude.{◌≡◌, ◌≢◌, ℕ, ◌≤◌, ◌<◌, ◌+◌, ◌-◌, false, not, ◌&&◌, ◌⊎◌, List, [], ◌∷◌, Option, Some, None, length, unwrap_or}
-use Rattle.std.specs.List.{filter}
-use Rattle.row_values.specs.Ids.{Id}
-use Rattle.row_values.specs.Elements.{In}
-use Rattle.model.specs.Activity.{Interval, active_at}
-use Rattle.model.specs.Records.{Schedule, CloneRecord, is_visible, schedule_with}
-use Rattle.model.specs.Acts.{UnknownNamespace, UnknownSchedule, NameTaken, NoSchedule, TooMany, SlotsFull, TooEarly, Future, Busy, Reply, Ok, Refused}
-use Rattle.model.specs.Parts.{Master}
+use Rattle.model.specs.Words.{◌≡◌, ◌≢◌, ℕ, ◌≤◌, ◌<◌, ◌+◌, ◌-◌, false, not, ◌&&◌, ◌⊎◌, List, [], ◌∷◌, Option, Some, None, length, unwrap_or, filter, Id, In}
+use Rattle.model.specs.Cluster.{Interval, active_at, Schedule, CloneRecord, is_visible, schedule_with, UnknownNamespace, UnknownSchedule, NameTaken, NoSchedule, TooMany, SlotsFull, TooEarly, Future, Busy, Reply, Ok, Refused, Master}
 use Rattle.model.specs.Schedules.{low, least_low, IsInWindow}
 use Rattle.model.specs.Operations.{user}
 use Rattle.model.specs.Looks.{free_slots}

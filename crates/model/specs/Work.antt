@@ -1,13 +1,8 @@
 -- What a coordinator does next: for the first unfinished record that no snapshot holds up, it goes on with the first
 -- listed tablet that isn't done, or moves the record.
-use Rattle.std.specs.Prelude.{ℕ, List, [], ◌∷◌, ◌++◌, Option, Some, None, not, map, if◌then◌else◌}
-use Rattle.std.specs.Option.{option_or, option_map}
-use Rattle.std.specs.List.{filter}
-use Rattle.row_values.specs.Ids.{Id}
+use Rattle.model.specs.Words.{ℕ, List, [], ◌∷◌, ◌++◌, Option, Some, None, not, map, if◌then◌else◌, option_or, option_map, filter, Id}
+use Rattle.model.specs.Cluster.{Listed, Sent, is_restored, is_cloned, first_unacked, is_sent, Act, Send, Process, Ack, Advance, WorkItem, SendWork, CollectWork, AdvanceWork, Master, Parts}
 use Rattle.model.specs.Tablets.{Command}
-use Rattle.model.specs.Records.{Listed, Sent, is_restored, is_cloned, first_unacked, is_sent}
-use Rattle.model.specs.Acts.{Act, Send, Process, Ack, Advance, WorkItem, SendWork, CollectWork, AdvanceWork}
-use Rattle.model.specs.Parts.{Master, Parts}
 use Rattle.model.specs.Coordination.{source_slot}
 use Rattle.model.specs.Moves.{Progress, snapshot_progress, restoration_progress, clone_progress}
 

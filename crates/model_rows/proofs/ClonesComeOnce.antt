@@ -9,7 +9,7 @@ use Rattle.model.specs.Drawn.{DrawsInTurn}
 use Rattle.model.specs.Entering.{Entering, entered}
 use Rattle.model.specs.History.{replay, journal_of}
 use Rattle.model.specs.Journal.{Change, NamespaceCloned, is_in, table_at}
-use Rattle.model.specs.Once.{CloneAsked, ClonesOnce, IsCloneAsked, NoneAgain, Once, restores_asked, clones_asked, changes_by, obeyed, is_paired}
+use Rattle.model.specs.Once.{CloneAsked, ClonesOnce, IsCloneAsked, NoneAgain, Once, restores_asked, clones_asked, changes_by, commands_done, is_paired}
 use Rattle.model.specs.Records.{CloneRecord, CloneComplete, IsReleasing}
 use Rattle.model_rows.proofs.RightClones.{been_read, one_row}
 use Rattle.model_rows.proofs.Turns.{drawn_in_turn, none_done_again, passes_in, at_place, in_at}
@@ -21,9 +21,9 @@ in_turn : DrawsInTurn 64 been_read.entries
 unfolding the_book
 in_turn = drawn_in_turn been_read.entries 64 refl
 
-none_twice : NoneAgain (obeyed 64 been_read.entries)
+none_twice : NoneAgain (commands_done 64 been_read.entries)
 unfolding the_book
-none_twice = none_done_again (obeyed 64 been_read.entries) refl
+none_twice = none_done_again (commands_done 64 been_read.entries) refl
 
 abbrev pub asked : CloneAsked
 asked = record { operation = K 1; source = Some (N 1); target = b; to = early 4; before = one_row }

@@ -8,7 +8,7 @@ use Rattle.model.specs.Entering.{Entering, entered, states_of, EntersOnce, state
 use Rattle.model.specs.History.{replay, journal_of, snapshots_taken}
 use Rattle.std.specs.List.{filter}
 use Rattle.model.specs.Journal.{Change}
-use Rattle.model.specs.Once.{RestoreAsked, RestoresOnce, IsRestoreAsked, NoneAgain, Once, restores_asked, clones_asked, changes_by, obeyed}
+use Rattle.model.specs.Once.{RestoreAsked, RestoresOnce, IsRestoreAsked, NoneAgain, Once, restores_asked, clones_asked, changes_by, commands_done}
 use Rattle.model.specs.Catalog.{TableRecord, latest}
 use Rattle.row_values.specs.Schema.{Schema}
 use Rattle.std.proofs.lemmas.Bool.{cases_Bool}
@@ -25,9 +25,9 @@ in_turn : DrawsInTurn 64 been_read.entries
 unfolding the_book
 in_turn = drawn_in_turn been_read.entries 64 refl
 
-none_twice : NoneAgain (obeyed 64 been_read.entries)
+none_twice : NoneAgain (commands_done 64 been_read.entries)
 unfolding the_book
-none_twice = none_done_again (obeyed 64 been_read.entries) refl
+none_twice = none_done_again (commands_done 64 been_read.entries) refl
 
 -- Restores
 

@@ -10,7 +10,7 @@ use Rattle.model.specs.Entering.{Entering, GivenAfter, entered, states_of, state
 use Rattle.model.specs.History.{replay}
 use Rattle.model.specs.Journal as made
 use Rattle.model.specs.Journal.{ColumnAdded, ColumnDropped, NamespaceCloned, is_in}
-use Rattle.model.specs.Once.{CloneAsked, ClonesOnce, IsRestoreAsked, NoneAgain, Obeyed, RestoresOnce, obeyed, is_paired, restores_asked}
+use Rattle.model.specs.Once.{CloneAsked, ClonesOnce, IsRestoreAsked, NoneAgain, Obeyed, RestoresOnce, commands_done, is_paired, restores_asked}
 use Rattle.model.specs.Parts.{Master, Parts}
 use Rattle.model.specs.Records.{CloneRecord, IsFencing, IsSnapshot, IsSwitching, RestorationRecord, SnapshotRecord, Snapshotting, State}
 use Rattle.model.specs.Stands.{was_given}
@@ -33,11 +33,11 @@ again = done (Process 1 1) (coordinated 2 restoring)
 abbrev fenced : Obeyed
 fenced = record { operation = R 1; kind = FenceKind; tablet = B 1 }
 
-its_commands : obeyed 64 (answered (Done (R 1) FenceKind) again.entries) ≡ fenced ∷ fenced ∷ []
+its_commands : commands_done 64 (answered (Done (R 1) FenceKind) again.entries) ≡ fenced ∷ fenced ∷ []
 unfolding the_book
 its_commands = refl
 
-done_again : NoneAgain (obeyed 64 (answered (Done (R 1) FenceKind) again.entries)) → ⊥
+done_again : NoneAgain (commands_done 64 (answered (Done (R 1) FenceKind) again.entries)) → ⊥
 done_again once = (subst NoneAgain its_commands once).1 (inl refl)
 
 -- Numbers

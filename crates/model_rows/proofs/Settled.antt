@@ -6,9 +6,8 @@ use Rattle.model.specs.Tablets.{FrozenSet, ReleaseKind, RestoreFromKind}
 use Rattle.model.specs.Records.{IsReleasing, IsRestored}
 use Rattle.model.specs.Acts.{Act, Ack, Acked, Advance, Advanced, CreateTable, Done, Gone, NotDone, Process, Refusal, Refused, Reply, Send, SentTo}
 use Rattle.model.specs.Parts.{Parts}
-use Rattle.model.specs.Left.{left}
+use Rattle.model.specs.Settling.{left, EachGoesOn, GoesOn, Settles, after_acts, coordinated, replies_under, settle as settle_acts}
 use Rattle.model.specs.Work.{next_act, unfinished_records}
-use Rattle.model.specs.Settling.{EachGoesOn, GoesOn, Settles, after_acts, coordinated, replies_under, settle as settle_acts}
 use Rattle.model_rows.specs.Computed.{the_book}
 use Rattle.model_rows.specs.Runs.{Run, after, begun}
 use Rattle.model_rows.specs.Scripts.{P, R, a, coordinate, create_namespace, create_schedule, early, home, new_int, planned_change, put, ready, restart, restore, t, take_snapshot, tick, v, v_is, x}
@@ -103,10 +102,6 @@ lost_finished : unfinished_records (after_acts 1000000 lost_acts lost).master �
 unfolding the_book
 lost_finished = refl
 
-lost_at_most : nat_le (length lost_acts) (left lost.master) ≡ true
-unfolding the_book
-lost_at_most = refl
-
 accepted : (act : Act) (reply : Reply) → ((why : Refusal) → reply ≡ Refused why → ⊥) → GoesOn act reply
 accepted act reply never why is = absurd (never why is)
 
@@ -136,7 +131,6 @@ lost_settles = record {
   each =
       subst (λ acts. EachGoesOn acts (replies_under 1000000 acts lost)) (sym lost_acts_are)
       (subst (λ replies. EachGoesOn lost_acts replies) (sym lost_replies_are) lost_goes_on);
-  at_most = subst (λ acts. length acts ≤ left lost.master) (sym lost_acts_are) (leb-true _ _ lost_at_most);
   finished = subst (λ acts. unfinished_records (after_acts 1000000 acts lost).master ≡ []) (sym lost_acts_are) lost_finished;
 }
 

@@ -9,7 +9,7 @@ use Rattle.model.specs.Acts.{Act, Reply}
 use Rattle.model.specs.Parts.{Master}
 use Rattle.model.specs.Entries.{Entry}
 use Rattle.model.specs.Lists.{numbered_as}
-use Rattle.model.specs.Drawn.{AreNext, DrawsNext, DrawsInTurn, drawn_of, drawn_by, given_of, given_by}
+use Rattle.model.specs.Drawn.{AreNext, DrawsNext, DrawsInTurn, drawn_of, drawn_by, given_by}
 use Rattle.model.specs.Once.{Obeyed, NoneAgain}
 use Rattle.model_rows.specs.Turns.{are_next, draws_next, all_kinds, all_draw_next, draw_in_turn, differ, none_again}
 
@@ -44,8 +44,8 @@ next_in_turn (id ∷ ids) kind drawn e =
 abbrev DrawsKind : Act → Reply → ℕ → Master → Master → Kind → Type 0
 DrawsKind act reply n before after kind =
     (drawn_of kind after.drawn ≡ drawn_of kind before.drawn + drawn_of kind (drawn_by act reply n before))
-    × (length (given_of kind (given_by act reply after)) ≡ drawn_of kind (drawn_by act reply n before))
-    × AreNext kind (drawn_of kind before.drawn) (given_of kind (given_by act reply after))
+    × (length (given_by act reply after kind) ≡ drawn_of kind (drawn_by act reply n before))
+    × AreNext kind (drawn_of kind before.drawn) (given_by act reply after kind)
 
 draws_kind : (act : Act) (reply : Reply) (n : ℕ) (before after : Master) (kind : Kind) → draws_next act reply n before after kind ≡ true
     → DrawsKind act reply n before after kind

@@ -7,7 +7,7 @@ use Rattle.model.specs.Acts.{Act, Reply}
 use Rattle.model.specs.Parts.{Master}
 use Rattle.model.specs.Entries.{Entry}
 use Rattle.model.specs.History.{replay}
-use Rattle.model.specs.Drawn.{drawn_of, drawn_by, given_of, given_by}
+use Rattle.model.specs.Drawn.{drawn_of, drawn_by, given_by}
 use Rattle.model.specs.Journal.{Change, ChangeAct, NamespaceMade, NamespaceDropped, TableMade, TableRenamed, TableDropped, ColumnAdded, ColumnDropped, RowChanged, NamespaceRestored, NamespaceCloned}
 use Rattle.model.specs.Once.{Obeyed}
 
@@ -21,7 +21,7 @@ are_next kind drawn (id ∷ ids) =
 abbrev pub draws_next : Act → Reply → ℕ → Master → Master → Kind → Bool
 draws_next act reply n before after kind =
     let drawn = drawn_of kind (drawn_by act reply n before) in
-    let given = given_of kind (given_by act reply after) in
+    let given = given_by act reply after kind in
     (drawn_of kind after.drawn == drawn_of kind before.drawn + drawn)
     && ((length given == drawn) && are_next kind (drawn_of kind before.drawn) given)
 

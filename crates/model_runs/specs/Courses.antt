@@ -87,13 +87,13 @@ write_into batch (FoundRows rows) = []
 write_into batch FoundNothing = []
 
 -- a read of a key, or of all rows, shows all columns
-abbrev pub read_from : Option (List ℕ) → Option ℕ → Found → List Act
-read_from key at (FoundSlots slots) = []
-read_from key at (FoundPlaces places version columns) =
+abbrev pub read_places : Option (List ℕ) → Option ℕ → Found → List Act
+read_places key at (FoundSlots slots) = []
+read_places key at (FoundPlaces places version columns) =
     Read (map at_place places) version key at (column_ids columns) ∷ []
-read_from key at (FoundTargets targets) = []
-read_from key at (FoundRows rows) = []
-read_from key at FoundNothing = []
+read_places key at (FoundTargets targets) = []
+read_places key at (FoundRows rows) = []
+read_places key at FoundNothing = []
 
 -- an act for each slot
 abbrev pub at_each : (ℕ → Act) → Found → List Act
@@ -131,8 +131,8 @@ pub data Course : Type 0 where
   ShowEntries : Course
 
 -- the master is told a command that touches no tablet
-abbrev pub tell : Command → Course
-tell command = Perform (Change command [])
+abbrev pub tell_alone : Command → Course
+tell_alone command = Perform (Change command [])
 
 -- the master is told a command under the plan that a look finds
 abbrev pub plan_and_tell : Command → Course
@@ -146,35 +146,35 @@ key_alone key = record { key = key; op = NamedUpsert [] } ∷ []
 abbrev pub course_of : ℕ → ScriptCommand → Course
 course_of reading (Tick micros) = SetReading micros
 course_of reading (Lag slot micros) = SetLag slot micros
-course_of reading (CreateNamespace name) = tell (acts.CreateNamespace name)
-course_of reading (DropNamespace name) = tell (acts.DropNamespace name)
+course_of reading (CreateNamespace name) = tell_alone (acts.CreateNamespace name)
+course_of reading (DropNamespace name) = tell_alone (acts.DropNamespace name)
 course_of reading (CreateTable namespace table tablets columns) =
     plan_and_tell (acts.CreateTable namespace table tablets columns)
 course_of reading (AddColumn namespace table name kind) = plan_and_tell (acts.AddColumn namespace table name kind)
 course_of reading (DropColumn namespace table name) = plan_and_tell (acts.DropColumn namespace table name)
-course_of reading (RenameTable namespace table name) = tell (acts.RenameTable namespace table name)
+course_of reading (RenameTable namespace table name) = tell_alone (acts.RenameTable namespace table name)
 course_of reading (DropTable namespace table) = plan_and_tell (acts.DropTable namespace table)
 course_of reading (WriteRows namespace table batch) =
     LookFor (AskKeys namespace table batch None) (write_into batch) ShowReply
 course_of reading (ReadRow namespace table key at) =
     let at = asked_at reading at in
-    LookFor (AskKeys namespace table (key_alone key) at) (read_from (Some key) at) ShowRow
+    LookFor (AskKeys namespace table (key_alone key) at) (read_places (Some key) at) ShowRow
 course_of reading (ReadTable namespace table at) =
-    let at = asked_at reading at in LookFor (AskTable namespace table at) (read_from None at) ShowTable
+    let at = asked_at reading at in LookFor (AskTable namespace table at) (read_places None at) ShowTable
 course_of reading (Split namespace table code) = plan_and_tell (acts.Split namespace table code)
 course_of reading (CreateSchedule interval retention namespace) =
-    tell (acts.CreateSchedule interval retention namespace)
+    tell_alone (acts.CreateSchedule interval retention namespace)
 course_of reading (EditSchedule schedule interval retention) =
-    tell (acts.EditSchedule schedule interval retention)
-course_of reading (DeleteSchedule schedule) = tell (acts.DeleteSchedule schedule)
-course_of reading (TakeSnapshot schedule) = tell (acts.TakeSnapshot schedule)
-course_of reading (Restore schedule to) = tell (acts.Restore schedule (time_at reading to))
-course_of reading (CloneNamespace source target to) = tell (acts.CloneNamespace source target (asked_at reading to))
-course_of reading ListSchedules = tell acts.ListSchedules
-course_of reading ListSnapshots = tell acts.ListSnapshots
-course_of reading ListRestorations = tell acts.ListRestorations
-course_of reading ListClones = tell acts.ListClones
-course_of reading (ListTablets namespace) = tell (acts.ListTablets namespace)
+    tell_alone (acts.EditSchedule schedule interval retention)
+course_of reading (DeleteSchedule schedule) = tell_alone (acts.DeleteSchedule schedule)
+course_of reading (TakeSnapshot schedule) = tell_alone (acts.TakeSnapshot schedule)
+course_of reading (Restore schedule to) = tell_alone (acts.Restore schedule (time_at reading to))
+course_of reading (CloneNamespace source target to) = tell_alone (acts.CloneNamespace source target (asked_at reading to))
+course_of reading ListSchedules = tell_alone acts.ListSchedules
+course_of reading ListSnapshots = tell_alone acts.ListSnapshots
+course_of reading ListRestorations = tell_alone acts.ListRestorations
+course_of reading ListClones = tell_alone acts.ListClones
+course_of reading (ListTablets namespace) = tell_alone (acts.ListTablets namespace)
 course_of reading RaiseCutoffs = LookFor AskPresent (at_each Cutoff) ShowCount
 course_of reading CompactTablets = LookFor AskPresent (at_each Compact) ShowCount
 course_of reading CleanUp = LookFor AskRemovable remove_each ShowCount

@@ -12,7 +12,7 @@ use Rattle.row_values.specs.Stamps as rule
 use Rattle.model_runs.specs.Running.{Run, made_by, ran, with_text, text_of as text_told, performed, performed_all, followed, read_text, columns_before, columns_in}
 use Rattle.model.specs.Scripts as scripts
 use Rattle.model.specs.Scripts.{Time, asked_at}
-use Rattle.model_runs.specs.Courses.{found_by, change_under, write_into, read_from, key_alone}
+use Rattle.model_runs.specs.Courses.{found_by, change_under, write_into, read_places, key_alone}
 use Rattle.model.specs.Tablets.{Tablet, emptied}
 use Rattle.yb_script.specs.Runs.{State, Catalog, done, named, tabled, looked, wrote, read, got, keyed, keys_ask, keys_answer, read_answer, placed, is_placed, at_tablet, number_batch, number_cell, master_stamp, tablet_stamp, table_command}
 use Rattle.yb_script.specs.Texts as texts
@@ -251,10 +251,10 @@ reading_of s key time = scripts.ReadRow s.catalog.namespace s.catalog.table key 
 
 -- the read begins with its look
 begins_read : (s : State) (key : List ℕ) (time : Option Time) (at : Option ℕ) (r : Run) → ((reading : ℕ) → asked_at reading time ≡ at)
-    → made_by slot_count (reading_of s key time) r ≡ followed slot_count (read_from (Some key) at) (performed slot_count (acts.Look (ask_of (keys_ask s.catalog key [] at))) r)
+    → made_by slot_count (reading_of s key time) r ≡ followed slot_count (read_places (Some key) at) (performed slot_count (acts.Look (ask_of (keys_ask s.catalog key [] at))) r)
 unfolding made_by
 begins_read s key time at r is =
-    ap (λ asked. followed slot_count (read_from (Some key) asked) (performed slot_count (acts.Look (acts.AskKeys s.catalog.namespace s.catalog.table (key_alone key) asked)) r)) (is r.reading)
+    ap (λ asked. followed slot_count (read_places (Some key) asked) (performed slot_count (acts.Look (acts.AskKeys s.catalog.namespace s.catalog.table (key_alone key) asked)) r)) (is r.reading)
 
 -- what a read tells, by the state that it leaves
 abbrev last_of : ℕ → State → List ℕ
@@ -274,8 +274,8 @@ goes_refused line key time at s r why is answer h few =
     goes line c (texts.last_text line s.catalog.column (s.entries ++ look ∷ [])) (tabled_at n s.catalog) (serving_at s.clocks.tablet s.catalog.made_at s.versions) s.clocks.reading
     (s.entries ++ look ∷ []) r between h.going
     (begins_read s key time at r is
-    ∙ ap (followed slot_count (read_from (Some key) at)) (performs_keys s key [] at r refl h (omega (arith, few)))
-    ∙ ap (λ reply. performed_all slot_count (read_from (Some key) at (found_by (reply_of reply))) between) answer)
+    ∙ ap (followed slot_count (read_places (Some key) at)) (performs_keys s key [] at r refl h (omega (arith, few)))
+    ∙ ap (λ reply. performed_all slot_count (read_places (Some key) at (found_by (reply_of reply))) between) answer)
     (shows_keys s key [] at r refl h)
     refl refl (newest_line line s.catalog.column s.entries look _ text) (omega arith)
 
@@ -303,8 +303,8 @@ goes_read line key time at s r is answer h made few =
     ∙ read_shown next key at n s.catalog.column in
     goes line c (texts.last_text line s.catalog.column (s.entries ++ look ∷ [] ++ x ∷ [])) m next_t reading (s.entries ++ look ∷ [] ++ x ∷ []) r (with_newest (entry_of x) between) h.going
     (begins_read s key time at r is
-    ∙ ap (followed slot_count (read_from (Some key) at)) (performs_keys s key [] at r refl h (omega (arith, few)))
-    ∙ ap (λ reply. performed_all slot_count (read_from (Some key) at (found_by (reply_of reply))) between) answer
+    ∙ ap (followed slot_count (read_places (Some key) at)) (performs_keys s key [] at r refl h (omega (arith, few)))
+    ∙ ap (λ reply. performed_all slot_count (read_places (Some key) at (found_by (reply_of reply))) between) answer
     ∙ performs act n m m t next_t reading (s.entries ++ look ∷ []) reply between after_look does (omega (arith, few)))
     (shows_next act n m m t next_t reading (s.entries ++ look ∷ []) reply between after_look does)
     refl refl (newest_line line s.catalog.column (s.entries ++ look ∷ []) x _ text) (omega arith)

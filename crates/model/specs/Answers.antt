@@ -98,7 +98,8 @@ pub data KeysAnswer (q : TableLook) (batch : List NamedItem) : Reply → Type 0 
       (outside : code_outside home.interval batch ≡ Some other) → KeysAnswer q batch (Refused (CrossTablet first other))
   KeysPlaced : (places : List Place) (version : ℕ) (columns : List Column) (table : Reached q)
       (sound : batch_fault table.found.view.columns batch ≡ None) (shown : IsTableThen q table.found version columns)
-      (home : HomeOf q.activity q.now table.found.id (first_code batch)) (inside : code_outside home.interval batch ≡ None)
+      (home : HomeOf q.activity q.now table.found.id (first_code batch))
+      (inside : code_outside home.interval batch ≡ None)
       (placed : places ≡ place_of home.interval ∷ []) → KeysAnswer q batch (Placed places version columns)
 
 -- Reads

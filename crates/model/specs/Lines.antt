@@ -46,4 +46,5 @@ abbrev pub tablet_lines : Master → Id → List TabletLine
 tablet_lines m ns =
     map {A = Interval}
     (λ i. record { tablet = i.tablet; table = i.table; slot = i.slot; low = i.low; high = i.high; ended = i.to })
-    (in_order (λ i j. nat_lt i.tablet.number j.tablet.number) (once (reverse (intervals_in m.catalog.owners m.activity ns))))
+    (in_order (λ i j. nat_lt i.tablet.number j.tablet.number)
+    (once (reverse (intervals_in m.catalog.owners m.activity ns))))

@@ -216,7 +216,8 @@ obeyed_by act reply after = elim (deed_of act) [
 -- all commands that tablets did, the newest first
 unfoldable pub commands_done : ℕ → List Entry → List Obeyed
 commands_done slots [] = []
-commands_done slots (e ∷ earlier) = obeyed_by e.event.act e.reply (replay slots (e ∷ earlier)) ++ commands_done slots earlier
+commands_done slots (e ∷ earlier) =
+    obeyed_by e.event.act e.reply (replay slots (e ∷ earlier)) ++ commands_done slots earlier
 
 -- no tablet did a command of an operation twice
 abbrev pub NoneAgain : List Obeyed → Type 0

@@ -1,4 +1,5 @@
--- Right histories: each reply is that of one list of stamped changes, and no change comes too late for a restore or a clone.
+-- Right histories: each reply is that of one list of stamped changes, and no change comes too late for a restore or a
+-- clone.
 use Rattle.model.specs.Words.{◌≡◌, ℕ, ◌≤◌, ◌<◌, List, [], ◌∷◌, Option, Some, None, ◌-◌, unwrap_or, option_and_then}
 use Rattle.model.specs.Cluster.{time_of, namespace_named, Schedule, schedule_with, Restore, CloneNamespace, AskKeys, AskTable, Act, Look, Change, Read, NameTaken, TooMany, TooEarly, Future, SlotsFull, StalePlan, Reply, Ok, Rows, Refused, Master, Parts}
 use Rattle.model.specs.Journal as made
@@ -9,7 +10,8 @@ use Rattle.model.specs.Right.{RowsRight, LookReplyRight, LookPlacesRight, Nothin
 use Rattle.model.specs.Entries.{Entry}
 use Rattle.model.specs.History.{replay, journal_of}
 
--- a restore by a schedule whose namespace no operation uses is refused exactly outside the window, once its plan is right
+-- a restore by a schedule whose namespace no operation uses is refused exactly outside the window, once its plan is
+-- right
 abbrev pub WindowRight : Reply → ℕ → ℕ → ℕ → Type 0
 WindowRight (Refused (StalePlan kept)) least n to = Unit {0}
 WindowRight (Refused (TooEarly from)) least n to = (from ≡ least) × (to < from)
@@ -44,11 +46,15 @@ source_named m name n =
 -- the reply of an entry is right, against the journal of the entries before it
 abbrev pub ReplyRight : Act → Reply → ℕ → Parts → List made.Change → Type 0
 ReplyRight (Look (AskKeys namespace table batch at)) reply n ps changes =
-    LookReplyRight reply changes (time_of at n) n namespace table batch × LookPlacesRight reply changes (time_of at n) n namespace table batch ps.master.activity
+    LookReplyRight reply changes (time_of at n) n namespace table batch
+    × LookPlacesRight reply changes (time_of at n) n namespace table batch ps.master.activity
 ReplyRight (Look (AskTable namespace table at)) reply n ps changes =
-    LookReplyRight reply changes (time_of at n) n namespace table [] × LookPlacesRight reply changes (time_of at n) n namespace table [] ps.master.activity
-ReplyRight (Read places version key at columns) (Rows rows) n ps changes = RowsRight changes (time_of at n) key columns ps.tablet places rows
-ReplyRight (Change (Restore schedule to) slots) reply n ps changes = RestoreRight (schedule_with ps.master.schedules schedule) reply ps.master n to
+    LookReplyRight reply changes (time_of at n) n namespace table []
+    × LookPlacesRight reply changes (time_of at n) n namespace table [] ps.master.activity
+ReplyRight (Read places version key at columns) (Rows rows) n ps changes =
+    RowsRight changes (time_of at n) key columns ps.tablet places rows
+ReplyRight (Change (Restore schedule to) slots) reply n ps changes =
+    RestoreRight (schedule_with ps.master.schedules schedule) reply ps.master n to
 ReplyRight (Change (CloneNamespace source target to) slots) reply n ps changes =
     CloneRight (source_named ps.master source n) reply ps.master n (unwrap_or to (n - 1))
 ReplyRight _ reply n ps changes = Unit {0}
@@ -57,4 +63,5 @@ ReplyRight _ reply n ps changes = Unit {0}
 abbrev pub Right : ℕ → List Entry → Type 0
 Right slots [] = Unit {0}
 Right slots (e ∷ earlier) = Right slots earlier
-    × (ReplyRight e.event.act e.reply e.stamp (replay slots earlier) (journal_of slots earlier) × NothingLate (journal_of slots (e ∷ earlier)))
+    × (ReplyRight e.event.act e.reply e.stamp (replay slots earlier) (journal_of slots earlier)
+    × NothingLate (journal_of slots (e ∷ earlier)))

@@ -22,7 +22,8 @@ row_wanted changes x asked columns t key =
 abbrev pub rows_wanted : List Change → ℕ → Option (List ℕ) → List ℕ → (ℕ → Tablet) → List At → List ℕ → List KeyedRow
 rows_wanted changes x asked columns tablets [] key = []
 rows_wanted changes x asked columns tablets (place ∷ places) key =
-    row_wanted changes x asked columns (tablets place.slot) key ++ rows_wanted changes x asked columns tablets places key
+    row_wanted changes x asked columns (tablets place.slot) key
+    ++ rows_wanted changes x asked columns tablets places key
 
 -- a read gives the rows of the view at x: in order of key, those of one key in the order of the places
 pub record RowsRight (changes : List Change) (x : ℕ) (asked : Option (List ℕ)) (columns : List ℕ)

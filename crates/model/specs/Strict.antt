@@ -114,7 +114,8 @@ CommandAnswer (TakeSnapshot schedule) reply n ps changes =
     ⊎ RefusedAs (λ why. IsScheduleClosed why ⊎ ((next_due : ℕ) × ((why ≡ NotDue next_due) × (n < next_due)))) reply
 CommandAnswer (Restore schedule to) reply n ps changes = RestoreAnswer schedule to n ps.master reply
 CommandAnswer (CloneNamespace source target at) reply n ps changes =
-    CloneAnswer (record { source = source; target = target; at = at; now = n; changes = changes; master = ps.master }) reply
+    CloneAnswer
+    (record { source = source; target = target; at = at; now = n; changes = changes; master = ps.master }) reply
 CommandAnswer ListSchedules reply n ps changes = (lines : List ScheduleLine) × (reply ≡ Schedules lines)
 CommandAnswer ListSnapshots reply n ps changes = (lines : List SnapshotLine) × (reply ≡ Snapshots lines)
 CommandAnswer ListRestorations reply n ps changes = (lines : List RestorationLine) × (reply ≡ Restorations lines)

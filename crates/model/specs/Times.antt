@@ -1,4 +1,4 @@
--- Times are numbers: microseconds times 4096, and a logical counter. An interval `[from, to)` goes on where `to` is none.
+-- Times are numbers: microseconds times 4096, and a logical counter. `[from, to)` goes on where `to` is none.
 use Rattle.model.specs.Words.{ℕ, Bool, true, false, Option, Some, None, nat_le, nat_lt, ◌&&◌, ◌*◌, ◌^◌}
 
 -- the ticks of a minute and of a second

@@ -1,5 +1,6 @@
 -- In which intervals each tablet was active: took its table's rows in its range, in its slot.
-use Rattle.model.specs.Words.{ℕ, Bool, List, [], ◌∷◌, Option, Some, None, ◌&&◌, ◌+◌, nat_le, not, map, if◌then◌else◌, filter, Id, same, in_range}
+use Rattle.std.specs.Prelude.{ℕ, Bool, List, [], ◌∷◌, Option, Some, None, ◌&&◌, ◌+◌, nat_le, not, map, if◌then◌else◌, filter}
+use Rattle.model.specs.Words.{Id, same, in_range}
 use Rattle.model.specs.Times.{holds_at, ended, before_end}
 
 pub record Interval : Type 0 where

@@ -1,5 +1,6 @@
 -- What may be asked of a cluster, and what it answers.
-use Rattle.model.specs.Words.{ℕ, List, Option, Value, Item, KeyedRow, Id, Column, ColumnKind, NewColumn}
+use Rattle.std.specs.Prelude.{ℕ, List, Option}
+use Rattle.model.specs.Words.{Value, Item, KeyedRow, Id, Column, ColumnKind, NewColumn}
 use Rattle.model.specs.Tablets.{Standing, BodyKind}
 use Rattle.model.specs.Records.{State}
 

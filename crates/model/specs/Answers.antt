@@ -1,8 +1,8 @@
 -- How looks at a table and reads are answered: each reply with its cause, by the views at the stamp and at the asked
 -- time. What a journal doesn't have is the master's: how far the catalog of a namespace is kept, and which tablets are
 -- active.
-use Rattle.model.specs.Words.{◌≡◌, ℕ, ◌<◌, true, false, List, [], ◌∷◌, Option, Some, None, nat_le, if◌then◌else◌, ◌⊎◌, ◌≢◌, code_of, KeyedRow, Id, In, AllOf, in_range, Column}
-use Rattle.model.specs.Cluster.{time_of, is_future, is_below, KeptFrom, kept_from, Interval, active_at, Tablet, Standing, serves, standing, NamedItem, Place, At, Refusal, UnknownNamespace, UnknownTable, Future, TooOld, CrossTablet, Fenced, Moved, StaleSchema, Reply, Placed, Rows, Refused}
+use Rattle.std.specs.Prelude.{◌≡◌, ℕ, ◌<◌, true, false, List, [], ◌∷◌, Option, Some, None, nat_le, if◌then◌else◌, ◌⊎◌, ◌≢◌}
+use Rattle.model.specs.Cluster.{code_of, KeyedRow, Id, In, AllOf, in_range, Column, time_of, is_future, is_below, KeptFrom, kept_from, Interval, active_at, Tablet, Standing, serves, standing, NamedItem, Place, At, Refusal, UnknownNamespace, UnknownTable, Future, TooOld, CrossTablet, Fenced, Moved, StaleSchema, Reply, Placed, Rows, Refused}
 use Rattle.model.specs.Looks.{batch_fault, first_code, code_outside, place_of}
 use Rattle.model.specs.Journal.{Change, table_at}
 use Rattle.model.specs.Right.{NamespaceFound, TableFound, IsActivePlace, RowsRight}

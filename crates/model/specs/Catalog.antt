@@ -1,6 +1,7 @@
 -- The master's catalog: records of namespaces and of tables, each with the interval in which it held, the oldest first.
 -- A record is current where its interval is open.
-use Rattle.model.specs.Words.{ℕ, Bool, false, List, [], ◌∷◌, ◌++◌, Option, Some, None, ◌&&◌, nat_lt, max, map, if◌then◌else◌, filter, bytes_eq, Id, same, Schema, find}
+use Rattle.std.specs.Prelude.{ℕ, Bool, false, List, [], ◌∷◌, ◌++◌, Option, Some, None, ◌&&◌, nat_lt, max, map, if◌then◌else◌, filter, bytes_eq, find}
+use Rattle.model.specs.Words.{Id, same, Schema}
 use Rattle.model.specs.Times.{is_open, holds_at, ended}
 
 pub record NamespaceRecord : Type 0 where

@@ -1,7 +1,7 @@
 -- What an accepted command makes of the master: names and schemas, tablets' activity, schedules and records. Each
 -- function sets the clock to the stamp, besides what it says. Identifiers are the next ones of their kind.
-use Rattle.model.specs.Words.{ℕ, ◌+◌, ◌-◌, not, List, [], ◌∷◌, ◌++◌, map, length, if◌then◌else◌, Option, Some, None, is_some, unwrap_or, filter, share_from, Id, same, Namespace as NamespaceKind, Table as TableKind, Tablet as TabletKind, Schedule as ScheduleKind, Restoration as RestorationKind, Clone as CloneKind, NewColumn, Schema, first_schema}
-use Rattle.model.specs.Cluster.{TableRecord, Owner, namespace_added, namespace_ended, table_added, table_ended, table_replaced, Interval, end_tablet, end_table_tablets, Fence, Schedule, ScheduledNamespace, scheduled_in, schedule_of, Fencing, Accepted, IdPair, TabletPair, CloneRecord, Master}
+use Rattle.std.specs.Prelude.{ℕ, ◌+◌, ◌-◌, not, List, [], ◌∷◌, ◌++◌, map, length, if◌then◌else◌, Option, Some, None, is_some, unwrap_or, filter}
+use Rattle.model.specs.Cluster.{first_schema, Schema, NewColumn, CloneKind, RestorationKind, ScheduleKind, TabletKind, TableKind, NamespaceKind, same, Id, share_from, TableRecord, Owner, namespace_added, namespace_ended, table_added, table_ended, table_replaced, Interval, end_tablet, end_table_tablets, Fence, Schedule, ScheduledNamespace, scheduled_in, schedule_of, Fencing, Accepted, IdPair, TabletPair, CloneRecord, Master}
 use Rattle.model.specs.Schedules.{edited}
 use Rattle.model.specs.Lists.{active_tablets, listing, numbered_as, with_snapshot}
 use Rattle.model.specs.Looks.{free_slots}

@@ -1,6 +1,7 @@
 -- What retention doesn't need any more: hidden tablets and complete snapshots below the floor of their namespace, and
 -- records of the catalog.
-use Rattle.model.specs.Words.{ℕ, Bool, true, false, List, [], ◌∷◌, ◌++◌, Option, Some, None, ◌==◌, ◌&&◌, ◌||◌, ◌+◌, ◌-◌, not, max, min, nat_le, nat_lt, length, is_some, is_none, map, if◌then◌else◌, option_or, option_map, option_map_or, list_any, filter, Id, Kind, Namespace, Table, Tablet, Schedule, Snapshot, Restoration, Clone, same, same_slots, rising}
+use Rattle.std.specs.Prelude.{ℕ, Bool, true, false, List, [], ◌∷◌, ◌++◌, Option, Some, None, ◌==◌, ◌&&◌, ◌||◌, ◌+◌, ◌-◌, not, max, min, nat_le, nat_lt, length, is_some, is_none, map, if◌then◌else◌, option_map, filter}
+use Rattle.model.specs.Words.{option_or, option_map_or, list_any, Id, Kind, Namespace, Table, Tablet, Schedule, Snapshot, Restoration, Clone, same, same_slots, rising}
 use Rattle.model.specs.Cluster.{ended_by, NamespaceRecord, TableRecord, KeptFrom, Catalog, owner_of, Interval, last_of, forget, Tablet as TabletPart, Presence, EmptyPart, ServingPart, HiddenPart, Empty, Clear, DropFrozen, standing, is_hidden, Listed, SnapshotRecord, RestorationRecord, CloneRecord, named_by_restoration, named_by_clone, is_restored, is_cloned, lists_tablet, snapshot_with, Refusal, UnknownSnapshot, Moved, StalePlan, InWindow, IsListed, Removal, Removed, Pruned, Master, Parts, Outcome, If, Fault, Removes, Prunes, judged, refused}
 use Rattle.model.specs.Schedules.{floor, least_low, history_retention}
 use Rattle.model.specs.Operations.{time_of_user}

@@ -1,4 +1,5 @@
 -- What there is in a cluster, and what may be asked of it, passed on from one place. Declares nothing.
+pub use Rattle.model.specs.Words.{first_schema, Namespace, Table, share_from, AllOf, AreRows, Clone, Column, ColumnKind, Id, In, InOrder, IsRange, Item, KeyedRow, Kind, NewColumn, Restoration, Row, RowOp, Schema, Snapshot, Value, Version, absent_row, applied, code_of, column_ids, column_named, cut_to, has, in_order, in_range, is_of_kind, kept, list_all, list_any, numbered, of_key, option_map_or, option_or, part_of, precedes, present, read_of, rising, rows_at, same, same_slots, with_column, without_column, Schedule as ScheduleKind, Tablet as TabletKind, Clone as CloneKind, Restoration as RestorationKind, Table as TableKind, Namespace as NamespaceKind}
 pub use Rattle.model.specs.Times.{before_end, end_of_time, ended, ended_by, holds_at, is_below, is_future, is_open, minute, second, time_of}
 pub use Rattle.model.specs.Catalog.{Catalog, KeptFrom, NamespaceRecord, Owner, TableRecord, by_id, current_named, current_table, current_tables, end_tables, is_owned_by, kept_from, latest, name_of, namespace_added, namespace_ended, namespace_named, owner_of, owns, set_kept_from, table_added, table_ended, table_named, table_replaced, tables_at}
 pub use Rattle.model.specs.Activity.{Interval, active_at, active_within, end_table_tablets, end_tablet, forget, last_of, route}

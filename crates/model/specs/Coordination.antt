@@ -1,6 +1,7 @@
 -- A coordinator brings a record's commands to the listed tablets: it sends one, has the tablet do it, and tells the
 -- master that it is done.
-use Rattle.model.specs.Words.{ℕ, List, [], ◌∷◌, ◌++◌, Option, Some, None, ◌==◌, ◌&&◌, not, nat_lt, map, if◌then◌else◌, option_and_then, KeyedRow, Id, Kind, Namespace, Table, Tablet, Schedule, Snapshot, Restoration, Clone, same, find}
+use Rattle.std.specs.Prelude.{ℕ, List, [], ◌∷◌, ◌++◌, Option, Some, None, ◌==◌, ◌&&◌, not, nat_lt, map, if◌then◌else◌, option_and_then, find}
+use Rattle.model.specs.Words.{KeyedRow, Id, Kind, Namespace, Table, Tablet, Schedule, Snapshot, Restoration, Clone, same}
 use Rattle.model.specs.Cluster.{Tablet as TabletPart, FrozenSet, Body, Fence, Freeze, RestoreFrom, Hide, Copy, Release, Offer, set_of, rows_of_set, cutoff_of_set, kind_of, is_done, Listed, SnapshotRecord, RestorationRecord, CloneRecord, unacked_at, acked_at, is_restored, is_cloned, is_sent, unsent_at, NotPending, Idle, OtherSlot, NotDone, Gone, SentTo, Done, Acked, Refused, Master, Parts, Outcome, Check, If, Ticks, Sends, Acks, Unsends, judged, refused}
 use Rattle.model.specs.Tablets as tell
 use Rattle.model.specs.Tablets.{Command}

@@ -1,6 +1,7 @@
 -- Numbers that are drawn once, over the whole history, whatever is restored: identifiers, the ids of a table's
 -- columns, and the versions of its schema.
-use Rattle.model.specs.Words.{◌≡◌, ℕ, ◌≤◌, ◌<◌, Bool, List, [], ◌∷◌, ◌++◌, Option, Some, None, ◌+◌, ◌*◌, ◌==◌, ◌||◌, ◌&&◌, nat_lt, max, fold, map, length, if◌then◌else◌, unwrap_or, ◌-◌, filter, list_any, option_map_or, Id, Kind, Namespace, Table, Tablet, Schedule, Snapshot, Restoration, Clone, id_bound, same, In, in_order, Column, Schema, option_to_list, same_kind}
+use Rattle.std.specs.Prelude.{◌≡◌, ℕ, ◌≤◌, ◌<◌, Bool, List, [], ◌∷◌, ◌++◌, Option, Some, None, ◌+◌, ◌*◌, ◌==◌, ◌||◌, ◌&&◌, nat_lt, max, fold, map, length, if◌then◌else◌, unwrap_or, ◌-◌, filter, option_to_list}
+use Rattle.model.specs.Words.{list_any, option_map_or, Id, Kind, Namespace, Table, Tablet, Schedule, Snapshot, Restoration, Clone, id_bound, same, In, in_order, Column, Schema, same_kind}
 use Rattle.model.specs.Cluster.{namespace_named, tables_at, latest, Interval, SnapshotRecord, CloneRecord, IdPair, TabletPair, State, Act, Reply, Drawn, Master, none_drawn, deed_of, Commands, Advances, Obeys, NoDeed, success_of, Makes, Enters, Does, NoSuccess, making_of, ANamespace, ATable, TwoTablets, ASchedule, ASnapshot, ARestoration, AClone, Nothing, is_snapshotting, named_by_restoration, named_by_clone}
 use Rattle.model.specs.Journal as made
 use Rattle.model.specs.Acts.{Command}

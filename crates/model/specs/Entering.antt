@@ -1,8 +1,8 @@
 -- When each record entered its states, read off a history: a snapshot, a restoration and a clone enters each of its
 -- states once, in order, and a tablet that was given a command has a clock above the stamp at which the record entered
 -- the state that gives it.
-use Rattle.model.specs.Words.{◌≡◌, ℕ, ◌<◌, Bool, true, false, List, [], ◌∷◌, ◌++◌, ◌⊎◌, map, filter, Id, same, In, Kind, Snapshot, Restoration, Clone}
-use Rattle.model.specs.Cluster.{BodyKind, FenceKind, FreezeKind, RestoreFromKind, HideKind, CopyKind, ReleaseKind, SnapshotRecord, RestorationRecord, RestorationState, Fencing, Snapshotting, Switching, Restoring, Releasing, Restored, CloneRecord, CloneState, Accepted, CloneSnapshot, Copying, CloneReleasing, CloneComplete, State, IsCreating, IsComplete, IsFencing, IsSnapshot, IsSwitching, IsRestoring, IsReleasing, IsRestored, IsAccepted, IsCopying, Act, Reply, Parts, deed_of, Commands, Advances, Obeys, NoDeed}
+use Rattle.std.specs.Prelude.{◌≡◌, ℕ, ◌<◌, Bool, true, false, List, [], ◌∷◌, ◌++◌, ◌⊎◌, map, filter}
+use Rattle.model.specs.Cluster.{Id, same, In, Kind, Snapshot, Restoration, Clone, BodyKind, FenceKind, FreezeKind, RestoreFromKind, HideKind, CopyKind, ReleaseKind, SnapshotRecord, RestorationRecord, RestorationState, Fencing, Snapshotting, Switching, Restoring, Releasing, Restored, CloneRecord, CloneState, Accepted, CloneSnapshot, Copying, CloneReleasing, CloneComplete, State, IsCreating, IsComplete, IsFencing, IsSnapshot, IsSwitching, IsRestoring, IsReleasing, IsRestored, IsAccepted, IsCopying, Act, Reply, Parts, deed_of, Commands, Advances, Obeys, NoDeed}
 use Rattle.model.specs.Entries.{Entry}
 use Rattle.model.specs.History.{replay}
 use Rattle.model.specs.Drawn.{entered_by, given_by}

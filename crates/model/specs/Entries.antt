@@ -1,5 +1,6 @@
 -- Entries of a history, what an event touches, and what it must meet.
-use Rattle.model.specs.Words.{◌≡◌, ℕ, ◌≤◌, ◌<◌, false, List, [], ◌∷◌, Option, Some, None, ◌==◌, ◌^◌, min, fold, map, length, if◌then◌else◌, bytes_eq, Kind, Namespace, Table, Tablet, Schedule, Snapshot, Restoration, Clone, rising, NewColumn, AllOf, IsKey, IsValue, IsBatch}
+use Rattle.std.specs.Prelude.{◌≡◌, ℕ, ◌≤◌, ◌<◌, false, List, [], ◌∷◌, Option, Some, None, ◌==◌, ◌^◌, min, fold, map, length, if◌then◌else◌, bytes_eq}
+use Rattle.model.specs.Words.{Kind, Namespace, Table, Tablet, Schedule, Snapshot, Restoration, Clone, rising, NewColumn, AllOf, IsKey, IsValue, IsBatch}
 use Rattle.model.specs.Cluster.{end_of_time, NamedOp, NamedUpsert, NamedDelete, NamedItem, CreateNamespace, DropNamespace, CreateTable, AddColumn, DropColumn, RenameTable, DropTable, Split, CreateSchedule, EditSchedule, DeleteSchedule, TakeSnapshot, Restore, CloneNamespace, ListSchedules, ListSnapshots, ListRestorations, ListClones, ListTablets, Ask, AskPlan, AskKeys, AskTable, AskWork, AskRemovable, AskPresent, Act, Look, Change, Read, Cutoff, Send, Process, Ack, Advance, Remove, Prune, Stats, Event, Reply, Parts}
 use Rattle.row_values.specs.Stamps as rule
 use Rattle.model.specs.Acts.{Command, Write, Compact, Restart}

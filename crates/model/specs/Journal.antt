@@ -1,7 +1,7 @@
 -- The journal: the changes that a history made, the newest first, and the view of it at a time. The view is told
 -- pointwise: the name of a namespace, the namespace, name and columns of a table, the row of a key.
-use Rattle.model.specs.Words.{ℕ, Bool, false, List, [], ◌∷◌, ◌++◌, Option, Some, None, nat_le, ◌==◌, ◌&&◌, not, length, if◌then◌else◌, filter, is_some, option_or, bytes_eq, applied, absent_row, cut_to, Row, RowOp, Id, same, Column, column_ids}
-use Rattle.model.specs.Cluster.{IdPair}
+use Rattle.std.specs.Prelude.{ℕ, Bool, false, List, [], ◌∷◌, ◌++◌, Option, Some, None, nat_le, ◌==◌, ◌&&◌, not, length, if◌then◌else◌, filter, is_some, bytes_eq}
+use Rattle.model.specs.Cluster.{option_or, applied, absent_row, cut_to, Row, RowOp, Id, same, Column, column_ids, IdPair}
 
 -- a change of the catalog, of a row, or of a whole namespace
 pub data ChangeAct : Type 0 where

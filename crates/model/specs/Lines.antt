@@ -1,6 +1,6 @@
 -- What the lists of schedules, records and tablets show, each by number.
-use Rattle.model.specs.Words.{ℕ, List, [], map, reverse, nat_lt, unwrap_or, Id, in_order}
-use Rattle.model.specs.Cluster.{name_of, Interval, Schedule, SnapshotRecord, RestorationRecord, CloneRecord, snapshot_state, restoration_state, clone_state, point_of, ScheduleLine, SnapshotLine, RestorationLine, CloneLine, TabletLine, Master}
+use Rattle.std.specs.Prelude.{ℕ, List, [], map, reverse, nat_lt, unwrap_or}
+use Rattle.model.specs.Cluster.{Id, in_order, name_of, Interval, Schedule, SnapshotRecord, RestorationRecord, CloneRecord, snapshot_state, restoration_state, clone_state, point_of, ScheduleLine, SnapshotLine, RestorationLine, CloneLine, TabletLine, Master}
 use Rattle.model.specs.Schedules.{low}
 use Rattle.model.specs.Lists.{once, intervals_in}
 

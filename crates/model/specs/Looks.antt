@@ -1,7 +1,7 @@
 -- What the looks at the master answer: the plan of a command, the place of keys or of a table, the slots that hold a
 -- tablet. What a look or a command names is found here.
-use Rattle.model.specs.Words.{ℕ, zero, suc, ◌+◌, Bool, not, ◌&&◌, ◌||◌, List, [], ◌∷◌, map, length, take, is_some, if◌then◌else◌, nat_le, ◌==◌, Option, Some, None, option_map, Result, Ok, Err, false, filter, find, option_or, option_to_list, ok_or, code_of, Value, Id, same, has, rising, in_range, Column, column_named, is_of_kind}
-use Rattle.model.specs.Cluster.{is_open, time_of, is_future, is_below, kept_from, TableRecord, namespace_named, table_named, current_named, current_table, Interval, TabletPair, CloneRecord, is_cloned, CreateNamespace, DropNamespace, CreateTable, AddColumn, DropColumn, RenameTable, DropTable, Split, CreateSchedule, EditSchedule, DeleteSchedule, TakeSnapshot, Restore, CloneNamespace, ListSchedules, ListSnapshots, ListRestorations, ListClones, ListTablets, NamedCell, NamedOp, NamedUpsert, NamedDelete, NamedItem, Refusal, UnknownNamespace, UnknownTable, UnknownColumn, WrongKind, Future, CrossTablet, SlotsFull, TooOld, Place, Planned, Placed, Present, Master, Outcome, If, Fault, checked, and_found, decided, answered}
+use Rattle.std.specs.Prelude.{ℕ, zero, suc, ◌+◌, Bool, not, ◌&&◌, ◌||◌, List, [], ◌∷◌, map, length, take, is_some, if◌then◌else◌, nat_le, ◌==◌, Option, Some, None, option_map, Result, Ok, Err, false, filter, find, option_to_list, ok_or}
+use Rattle.model.specs.Cluster.{option_or, code_of, Value, Id, same, has, rising, in_range, Column, column_named, is_of_kind, is_open, time_of, is_future, is_below, kept_from, TableRecord, namespace_named, table_named, current_named, current_table, Interval, TabletPair, CloneRecord, is_cloned, CreateNamespace, DropNamespace, CreateTable, AddColumn, DropColumn, RenameTable, DropTable, Split, CreateSchedule, EditSchedule, DeleteSchedule, TakeSnapshot, Restore, CloneNamespace, ListSchedules, ListSnapshots, ListRestorations, ListClones, ListTablets, NamedCell, NamedOp, NamedUpsert, NamedDelete, NamedItem, Refusal, UnknownNamespace, UnknownTable, UnknownColumn, WrongKind, Future, CrossTablet, SlotsFull, TooOld, Place, Planned, Placed, Present, Master, Outcome, If, Fault, checked, and_found, decided, answered}
 use Rattle.model.specs.Acts.{Command}
 use Rattle.model.specs.Lists.{by_range}
 

@@ -1,7 +1,7 @@
 -- How the records of snapshots, restorations and clones move from state to state. A move waits for the listed tablets,
 -- and some for a snapshot. It clears the acks and the sent marks of its record.
-use Rattle.model.specs.Words.{ℕ, Bool, true, false, List, [], ◌++◌, Option, Some, None, ◌&&◌, ◌+◌, is_some, map, if◌then◌else◌, unwrap_or, option_map, option_map_or, list_any, filter, Id, Kind, Namespace, Table, Tablet, Schedule as ScheduleKind, Snapshot, Restoration, Clone, same}
-use Rattle.model.specs.Cluster.{Body, Fence, Freeze, RestoreFrom, Hide, Copy, Release, Listed, Schedule, ScheduledNamespace, SnapshotRecord, RestorationRecord, CloneRecord, TabletPair, RestorationState, Fencing, Snapshotting, Switching, Restoring, Releasing, Restored, CloneState, Accepted, CloneSnapshot, Copying, CloneReleasing, CloneComplete, State, IsComplete, first_unacked, unacked, unsent, schedule_of, unfinished_of, NotPending, Waiting, Advanced, Master, Parts, Outcome, Moves, refused, restoration_state, clone_state}
+use Rattle.std.specs.Prelude.{ℕ, Bool, true, false, List, [], ◌++◌, Option, Some, None, ◌&&◌, ◌+◌, is_some, map, if◌then◌else◌, unwrap_or, option_map, filter}
+use Rattle.model.specs.Cluster.{same, Clone, Restoration, Snapshot, ScheduleKind, TabletKind as Tablet, Table, Namespace, Kind, Id, list_any, option_map_or, Body, Fence, Freeze, RestoreFrom, Hide, Copy, Release, Listed, Schedule, ScheduledNamespace, SnapshotRecord, RestorationRecord, CloneRecord, TabletPair, RestorationState, Fencing, Snapshotting, Switching, Restoring, Releasing, Restored, CloneState, Accepted, CloneSnapshot, Copying, CloneReleasing, CloneComplete, State, IsComplete, first_unacked, unacked, unsent, schedule_of, unfinished_of, NotPending, Waiting, Advanced, Master, Parts, Outcome, Moves, refused, restoration_state, clone_state}
 use Rattle.model.specs.Tablets.{Command}
 use Rattle.model.specs.Schedules.{serving}
 use Rattle.model.specs.Lists.{next_snapshot, with_snapshot}

@@ -1,8 +1,8 @@
 -- What comes once over a whole history, however often a coordinator repeats its steps and whatever a restart loses:
 -- the restore of an accepted command to restore, the clone of an accepted command to clone, and each command of a
 -- tablet.
-use Rattle.model.specs.Words.{◌≡◌, ℕ, ◌+◌, ◌-◌, Bool, false, List, [], ◌∷◌, ◌++◌, Option, Some, None, map, unwrap_or, if◌then◌else◌, list_any, option_map, Id, same, In}
-use Rattle.model.specs.Cluster.{namespace_named, BodyKind, Schedule, RestorationRecord, RestorationState, Fencing, Snapshotting, Switching, Restoring, Releasing, Restored, CloneRecord, CloneState, Accepted, CloneSnapshot, Copying, CloneReleasing, CloneComplete, IdPair, IsSnapshot, IsReleasing, point_of, schedule_with, Act, Reply, Master, Parts, deed_of, Commands, Advances, Obeys, NoDeed, success_of, Makes, Enters, Does, NoSuccess, making_of, ANamespace, ATable, TwoTablets, ASchedule, ASnapshot, ARestoration, AClone, Nothing, Making}
+use Rattle.std.specs.Prelude.{◌≡◌, ℕ, ◌+◌, ◌-◌, Bool, false, List, [], ◌∷◌, ◌++◌, Option, Some, None, map, unwrap_or, if◌then◌else◌, option_map}
+use Rattle.model.specs.Cluster.{list_any, Id, same, In, namespace_named, BodyKind, Schedule, RestorationRecord, RestorationState, Fencing, Snapshotting, Switching, Restoring, Releasing, Restored, CloneRecord, CloneState, Accepted, CloneSnapshot, Copying, CloneReleasing, CloneComplete, IdPair, IsSnapshot, IsReleasing, point_of, schedule_with, Act, Reply, Master, Parts, deed_of, Commands, Advances, Obeys, NoDeed, success_of, Makes, Enters, Does, NoSuccess, making_of, ANamespace, ATable, TwoTablets, ASchedule, ASnapshot, ARestoration, AClone, Nothing, Making}
 use Rattle.model.specs.Journal as made
 use Rattle.model.specs.Journal.{NamespaceRestored, NamespaceCloned, is_in, table_at}
 use Rattle.model.specs.Entries.{Entry}

@@ -1,7 +1,7 @@
 -- The unfinished operation of a namespace: a restoration of it, or a clone. It holds the namespace that it restores or
 -- makes; it uses the namespace that it holds, and a clone its source too.
-use Rattle.model.specs.Words.{ℕ, not, ◌&&◌, ◌||◌, List, Option, option_map, option_or, Id, same, find}
-use Rattle.model.specs.Cluster.{RestorationRecord, CloneRecord, is_restored, is_cloned, Master}
+use Rattle.std.specs.Prelude.{ℕ, not, ◌&&◌, ◌||◌, List, Option, option_map, find}
+use Rattle.model.specs.Cluster.{option_or, Id, same, RestorationRecord, CloneRecord, is_restored, is_cloned, Master}
 
 -- the unfinished restoration of a namespace
 abbrev pub restoration_of : List RestorationRecord → Id → Option RestorationRecord

@@ -1,6 +1,7 @@
 -- The parts of a cluster: the master, and a tablet's part in each slot from 1 on. What an act does is told as plain
 -- data: its refusals in order, and else what each touched part is told, and the reply.
-use Rattle.model.specs.Words.{ℕ, Bool, List, [], ◌∷◌, Option, Some, None, Result, Ok, Err, if◌then◌else◌, option_or, option_map, ok_or, Id, Column, ColumnKind, NewColumn}
+use Rattle.std.specs.Prelude.{ℕ, Bool, List, [], ◌∷◌, Option, Some, None, Result, Ok, Err, if◌then◌else◌, option_map, ok_or}
+use Rattle.model.specs.Words.{option_or, Id, Column, ColumnKind, NewColumn}
 use Rattle.model.specs.Catalog.{TableRecord, Catalog, empty_catalog}
 use Rattle.model.specs.Activity.{Interval}
 use Rattle.model.specs.Tablets.{Tablet as TabletPart, Told, emptied}

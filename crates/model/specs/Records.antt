@@ -1,6 +1,7 @@
 -- The master's records of snapshots, restorations and clones, and of schedules. Each record lists the tablets that are
 -- yet to do a command of its state.
-use Rattle.model.specs.Words.{ℕ, Bool, true, false, List, [], ◌∷◌, Option, Some, None, ◌==◌, ◌&&◌, ◌||◌, not, map, if◌then◌else◌, list_any, filter, Id, same, find}
+use Rattle.std.specs.Prelude.{ℕ, Bool, true, false, List, [], ◌∷◌, Option, Some, None, ◌==◌, ◌&&◌, ◌||◌, not, map, if◌then◌else◌, filter, find}
+use Rattle.model.specs.Words.{list_any, Id, same}
 use Rattle.model.specs.Tablets.{Body}
 
 pub record Listed : Type 0 where

@@ -1,6 +1,6 @@
 -- Right histories: each reply is that of one list of stamped changes, and no change comes too late for a restore or a
 -- clone.
-use Rattle.model.specs.Words.{◌≡◌, ℕ, ◌≤◌, ◌<◌, List, [], ◌∷◌, Option, Some, None, ◌-◌, unwrap_or, option_and_then}
+use Rattle.std.specs.Prelude.{◌≡◌, ℕ, ◌≤◌, ◌<◌, List, [], ◌∷◌, Option, Some, None, ◌-◌, unwrap_or, option_and_then}
 use Rattle.model.specs.Cluster.{time_of, namespace_named, Schedule, schedule_with, Restore, CloneNamespace, AskKeys, AskTable, Act, Look, Change, Read, NameTaken, TooMany, TooEarly, Future, SlotsFull, StalePlan, Reply, Ok, Rows, Refused, Master, Parts}
 use Rattle.model.specs.Journal as made
 use Rattle.model.specs.Schedules.{low, least_low, IsInWindow}

@@ -1,7 +1,7 @@
 -- What a restoration brings back and a clone takes over of the catalog and of the tablets of a time. A column that the
 -- table gets later never takes an id that was given before, not even one that the time doesn't show.
-use Rattle.model.specs.Words.{ℕ, false, List, [], ◌∷◌, ◌++◌, Option, None, ◌&&◌, ◌+◌, map, if◌then◌else◌, unwrap_or, option_map_or, Id, same, Schema, find}
-use Rattle.model.specs.Cluster.{holds_at, ended, Catalog, TableRecord, Owner, tables_at, latest, current_table, end_tables, owns, set_kept_from, Interval, active_at, RestoreFrom, Hide, Listed, IdPair, TabletPair, CloneRecord}
+use Rattle.std.specs.Prelude.{ℕ, false, List, [], ◌∷◌, ◌++◌, Option, None, ◌&&◌, ◌+◌, map, if◌then◌else◌, unwrap_or, find}
+use Rattle.model.specs.Cluster.{option_map_or, Id, same, Schema, holds_at, ended, Catalog, TableRecord, Owner, tables_at, latest, current_table, end_tables, owns, set_kept_from, Interval, active_at, RestoreFrom, Hide, Listed, IdPair, TabletPair, CloneRecord}
 use Rattle.model.specs.Lists.{by_table_and_number, by_table_and_range, once, active_tablets, tablets_active_at}
 
 -- the newest kept schema of the table of a record

@@ -1,7 +1,7 @@
 -- What retention keeps: while a time is retained, nothing removes a version, a frozen set, a tablet or a catalog record
 -- that it needs.
-use Rattle.model.specs.Words.{nat_lt, ◌-◌, ◌<◌, ◌≡◌, ℕ, ◌≤◌, true, false, List, [], ◌∷◌, Option, Some, None, ◌&&◌, ◌+◌, max, not, nat_le, unwrap_or, if◌then◌else◌, Id, same, option_map, In, Version, find}
-use Rattle.model.specs.Cluster.{owns, kept_from, Interval, active_at, last_of, Tablet, FrozenSet, set_of, is_empty, Schedule, ScheduledNamespace, Listed, SnapshotRecord, RestorationRecord, CloneRecord, TabletPair, is_restored, is_cloned, lists_tablet, Master, Parts}
+use Rattle.std.specs.Prelude.{nat_lt, ◌-◌, ◌<◌, ◌≡◌, ℕ, ◌≤◌, true, false, List, [], ◌∷◌, Option, Some, None, ◌&&◌, ◌+◌, max, not, nat_le, unwrap_or, if◌then◌else◌, option_map, find}
+use Rattle.model.specs.Cluster.{Id, same, In, Version, owns, kept_from, Interval, active_at, last_of, Tablet, FrozenSet, set_of, is_empty, Schedule, ScheduledNamespace, Listed, SnapshotRecord, RestorationRecord, CloneRecord, TabletPair, is_restored, is_cloned, lists_tablet, Master, Parts}
 use Rattle.model.specs.Schedules.{low, complete_to, serving}
 use Rattle.model.specs.Cleanup.{floor_of}
 

@@ -1,6 +1,6 @@
 -- When an entry is right: its reply is that of one list of stamped changes, the journal of the entries before it.
-use Rattle.model.specs.Words.{◌≡◌, ℕ, ◌<◌, Bool, true, false, List, [], ◌∷◌, ◌++◌, Option, Some, None, ◌==◌, ◌&&◌, ◌||◌, if◌then◌else◌, list_all, is_some, bytes_eq, cut_to, code_of, KeyedRow, Id, same, In, present, InOrder, of_key, in_range, Column}
-use Rattle.model.specs.Cluster.{Interval, active_at, Tablet, NamedItem, Place, At, Refusal, UnknownNamespace, UnknownTable, UnknownColumn, WrongKind, CrossTablet, Future, TooOld, Reply, Placed, Refused}
+use Rattle.std.specs.Prelude.{◌≡◌, ℕ, ◌<◌, Bool, true, false, List, [], ◌∷◌, ◌++◌, Option, Some, None, ◌==◌, ◌&&◌, ◌||◌, if◌then◌else◌, is_some, bytes_eq}
+use Rattle.model.specs.Cluster.{list_all, cut_to, code_of, KeyedRow, Id, same, In, present, InOrder, of_key, in_range, Column, Interval, active_at, Tablet, NamedItem, Place, At, Refusal, UnknownNamespace, UnknownTable, UnknownColumn, WrongKind, CrossTablet, Future, TooOld, Reply, Placed, Refused}
 use Rattle.model.specs.Looks.{batch_fault, place_of}
 use Rattle.model.specs.Journal.{Change, ChangeAct, NamespaceMade, NamespaceDropped, TableMade, TableRenamed, TableDropped, ColumnAdded, ColumnDropped, RowChanged, NamespaceRestored, NamespaceCloned, TableView, is_in, namespace_at, table_at, row_at, shown_at}
 

@@ -1,6 +1,6 @@
 -- What acts on tablets do: writes and reads of rows, cutoffs, compactions, restarts and counts.
-use Rattle.model.specs.Words.{ℕ, ◌+◌, max, Bool, true, false, not, ◌&&◌, ◌||◌, List, [], ◌∷◌, ◌++◌, map, length, if◌then◌else◌, ◌==◌, Option, Some, None, filter, list_all, option_or, option_map, option_and_then, code_of, cut_to, KeyedRow, Item, Id, Version, precedes, read_of, kept, present, rows_at, in_range, in_order}
-use Rattle.model.specs.Cluster.{time_of, is_future, is_below, owner_of, Interval, Tablet, FrozenSet, standing, is_empty, serves, RaiseCutoff, ScheduledNamespace, scheduled_in, At, Refusal, Future, Fenced, Moved, StaleSchema, TooOld, Ok, Rows, CutoffAt, Compacted, Counts, NoTablet, Master, Parts, Ticks, Restarts, Outcome, If, Names, Fault, judged, answered}
+use Rattle.std.specs.Prelude.{ℕ, ◌+◌, max, Bool, true, false, not, ◌&&◌, ◌||◌, List, [], ◌∷◌, ◌++◌, map, length, if◌then◌else◌, ◌==◌, Option, Some, None, filter, option_map, option_and_then}
+use Rattle.model.specs.Cluster.{list_all, option_or, code_of, cut_to, KeyedRow, Item, Id, Version, precedes, read_of, kept, present, rows_at, in_range, in_order, time_of, is_future, is_below, owner_of, Interval, Tablet, FrozenSet, standing, is_empty, serves, RaiseCutoff, ScheduledNamespace, scheduled_in, At, Refusal, Future, Fenced, Moved, StaleSchema, TooOld, Ok, Rows, CutoffAt, Compacted, Counts, NoTablet, Master, Parts, Ticks, Restarts, Outcome, If, Names, Fault, judged, answered}
 use Rattle.model.specs.Tablets.{Write as WriteRows, Compact as CompactRows, Restart as RestartTablet}
 use Rattle.model.specs.Schedules.{allowed_cutoff}
 

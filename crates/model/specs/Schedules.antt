@@ -1,7 +1,7 @@
 -- Schedules: the window to which a database may be taken back, when a snapshot is due, how far the history may be cut,
 -- and what retention still needs. Times in ticks, periods in minutes.
-use Rattle.model.specs.Words.{ℕ, ◌≤◌, ◌<◌, Bool, List, [], ◌∷◌, Option, Some, None, ◌+◌, ◌-◌, ◌*◌, max, min, nat_le, nat_lt, ◌&&◌, if◌then◌else◌, Id, same, find}
-use Rattle.model.specs.Cluster.{minute, second, end_of_time, Schedule, ScheduledNamespace, SnapshotRecord}
+use Rattle.std.specs.Prelude.{ℕ, ◌≤◌, ◌<◌, Bool, List, [], ◌∷◌, Option, Some, None, ◌+◌, ◌-◌, ◌*◌, max, min, nat_le, nat_lt, ◌&&◌, if◌then◌else◌, find}
+use Rattle.model.specs.Cluster.{Id, same, minute, second, end_of_time, Schedule, ScheduledNamespace, SnapshotRecord}
 
 -- the retention of a namespace without a schedule, and of catalog records: 900 seconds
 abbrev pub history_retention : ℕ

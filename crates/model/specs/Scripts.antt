@@ -1,6 +1,6 @@
 -- What a script may say: its commands, and the times that they name.
-use Rattle.model.specs.Words.{ℕ, ◌*◌, ◌-◌, List, Option, option_map, Id, ColumnKind, NewColumn}
-use Rattle.model.specs.Cluster.{NamedItem}
+use Rattle.std.specs.Prelude.{ℕ, ◌*◌, ◌-◌, List, Option, option_map}
+use Rattle.model.specs.Cluster.{Id, ColumnKind, NewColumn, NamedItem}
 
 -- a time as a script writes it: microseconds, so much before the script's reading, or a hybrid time
 pub data Time : Type 0 where

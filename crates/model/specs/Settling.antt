@@ -1,7 +1,7 @@
 -- Settling: a coordinator performs the event that comes next, under one reading, until no record is unfinished. Each
 -- act is performed as that of an entry is: by the stamp rule, and by what the touched parts are told.
-use Rattle.model.specs.Words.{◌≡◌, ℕ, zero, suc, List, [], ◌∷◌, length, Option, None, option_map, option_map_or, Id, ◌+◌, ◌*◌, ◌-◌, not, filter}
-use Rattle.model.specs.Cluster.{Act, Ack, Event, Refusal, NotDone, Reply, Refused, Master, Parts, is_restored, is_cloned}
+use Rattle.std.specs.Prelude.{◌≡◌, ℕ, zero, suc, List, [], ◌∷◌, length, Option, None, option_map, ◌+◌, ◌*◌, ◌-◌, not, filter}
+use Rattle.model.specs.Cluster.{option_map_or, Id, Act, Ack, Event, Refusal, NotDone, Reply, Refused, Master, Parts, is_restored, is_cloned}
 use Rattle.model.specs.Looks.{free_slots}
 use Rattle.model.specs.Work.{next_work, next_act, unfinished_records}
 use Rattle.model.specs.Entries.{stamp_of}

@@ -1,7 +1,7 @@
 -- What holds of the parts of a cluster against its journal after each entry: tablets stand for the journal, ranges
 -- cover the codes, and a record's state says what its tablets have done.
-use Rattle.model.specs.Words.{◌≡◌, ◌≢◌, ℕ, ◌≤◌, ◌<◌, Bool, true, false, List, [], ◌∷◌, Option, Some, None, ◌==◌, ◌&&◌, ◌||◌, ◌⊎◌, ◌+◌, not, nat_lt, if◌then◌else◌, list_any, filter, is_some, code_of, Id, same, In, Version, read_of, AreRows, in_range, RowOp}
-use Rattle.model.specs.Cluster.{before_end, is_open, owns, Interval, active_at, last_of, Tablet, Release, BodyKind, FenceKind, FreezeKind, RestoreFromKind, HideKind, CopyKind, ReleaseKind, kind_of, Mark, FrozenSet, is_empty, is_serving, is_done, holds_command, set_of, Listed, SnapshotRecord, RestorationRecord, RestorationState, Fencing, Snapshotting, Switching, Restoring, Releasing, Restored, CloneRecord, CloneState, Accepted, CloneSnapshot, Copying, CloneReleasing, CloneComplete, is_restored, is_cloned, point_of, TabletPair, Parts}
+use Rattle.std.specs.Prelude.{◌≡◌, ◌≢◌, ℕ, ◌≤◌, ◌<◌, Bool, true, false, List, [], ◌∷◌, Option, Some, None, ◌==◌, ◌&&◌, ◌||◌, ◌⊎◌, ◌+◌, not, nat_lt, if◌then◌else◌, filter, is_some}
+use Rattle.model.specs.Cluster.{list_any, code_of, Id, same, In, Version, read_of, AreRows, in_range, RowOp, before_end, is_open, owns, Interval, active_at, last_of, Tablet, Release, BodyKind, FenceKind, FreezeKind, RestoreFromKind, HideKind, CopyKind, ReleaseKind, kind_of, Mark, FrozenSet, is_empty, is_serving, is_done, holds_command, set_of, Listed, SnapshotRecord, RestorationRecord, RestorationState, Fencing, Snapshotting, Switching, Restoring, Releasing, Restored, CloneRecord, CloneState, Accepted, CloneSnapshot, Copying, CloneReleasing, CloneComplete, is_restored, is_cloned, point_of, TabletPair, Parts}
 use Rattle.model.specs.Tablets.{Command}
 pub use Rattle.model.specs.Moves.{is_restore}
 use Rattle.model.specs.Journal.{Change, NamespaceMade, NamespaceDropped, TableMade, TableRenamed, TableDropped, ColumnAdded, ColumnDropped, RowChanged, NamespaceRestored, NamespaceCloned, source_of, table_at, row_at}

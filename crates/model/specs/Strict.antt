@@ -1,8 +1,8 @@
 -- Strictly right histories: each reply is one that its act can have, and where it speaks of the past it has its cause;
 -- what a restore or a clone fixed, its namespace at the time that it goes to, stays as it was, and no change of the
 -- namespace comes too late for it.
-use Rattle.model.specs.Words.{◌≡◌, ◌≢◌, ◌⊎◌, ℕ, ◌≤◌, ◌<◌, true, Bool, List, [], ◌∷◌, Option, Id, same, In, IsRange}
-use Rattle.model.specs.Cluster.{is_owned_by, Interval, Standing, BodyKind, State, CreateNamespace, DropNamespace, CreateTable, AddColumn, DropColumn, RenameTable, DropTable, Split, CreateSchedule, EditSchedule, DeleteSchedule, TakeSnapshot, Restore, CloneNamespace, ListSchedules, ListSnapshots, ListRestorations, ListClones, ListTablets, Ask, AskPlan, AskKeys, AskTable, AskWork, AskRemovable, AskPresent, Act, Look, Change, Read, Cutoff, Send, Process, Ack, Advance, Remove, Prune, Stats, Refusal, UnknownNamespace, UnknownTable, UnknownColumn, UnknownSchedule, UnknownSnapshot, BadPeriod, NameTaken, NotEmpty, UnderSchedule, TooMany, SlotsFull, Busy, Fenced, Moved, StaleSchema, StalePlan, TooNarrow, NotDue, NotPending, Idle, OtherSlot, NotDone, Waiting, InWindow, IsListed, WorkItem, Removal, ScheduleLine, SnapshotLine, RestorationLine, CloneLine, TabletLine, Reply, Ok, Planned, Work, Removable, Present, CutoffAt, Compacted, SentTo, Done, Acked, Advanced, Removed, Pruned, Counts, NoTablet, Schedules, Snapshots, Restorations, Clones, Tablets, Refused, Parts}
+use Rattle.std.specs.Prelude.{◌≡◌, ◌≢◌, ◌⊎◌, ℕ, ◌≤◌, ◌<◌, true, Bool, List, [], ◌∷◌, Option}
+use Rattle.model.specs.Cluster.{Id, same, In, IsRange, is_owned_by, Interval, Standing, BodyKind, State, CreateNamespace, DropNamespace, CreateTable, AddColumn, DropColumn, RenameTable, DropTable, Split, CreateSchedule, EditSchedule, DeleteSchedule, TakeSnapshot, Restore, CloneNamespace, ListSchedules, ListSnapshots, ListRestorations, ListClones, ListTablets, Ask, AskPlan, AskKeys, AskTable, AskWork, AskRemovable, AskPresent, Act, Look, Change, Read, Cutoff, Send, Process, Ack, Advance, Remove, Prune, Stats, Refusal, UnknownNamespace, UnknownTable, UnknownColumn, UnknownSchedule, UnknownSnapshot, BadPeriod, NameTaken, NotEmpty, UnderSchedule, TooMany, SlotsFull, Busy, Fenced, Moved, StaleSchema, StalePlan, TooNarrow, NotDue, NotPending, Idle, OtherSlot, NotDone, Waiting, InWindow, IsListed, WorkItem, Removal, ScheduleLine, SnapshotLine, RestorationLine, CloneLine, TabletLine, Reply, Ok, Planned, Work, Removable, Present, CutoffAt, Compacted, SentTo, Done, Acked, Advanced, Removed, Pruned, Counts, NoTablet, Schedules, Snapshots, Restorations, Clones, Tablets, Refused, Parts}
 use Rattle.model.specs.Journal as made
 use Rattle.model.specs.Acts.{Command, Write, Compact, Restart}
 use Rattle.model.specs.Looks.{plan_of}

@@ -1,5 +1,6 @@
 -- A tablet's part, and what it is told to do.
-use Rattle.model.specs.Words.{ℕ, Bool, true, false, List, [], ◌∷◌, ◌++◌, Option, Some, None, ◌==◌, ◌&&◌, ◌||◌, not, max, if◌then◌else◌, list_any, filter, Item, KeyedRow, Id, Tablet as TabletKind, Table as TableKind, same, Version, written, kept, frozen, rows_at, of_rows, find}
+use Rattle.std.specs.Prelude.{ℕ, Bool, true, false, List, [], ◌∷◌, ◌++◌, Option, Some, None, ◌==◌, ◌&&◌, ◌||◌, not, max, if◌then◌else◌, filter, find}
+use Rattle.model.specs.Words.{list_any, Item, KeyedRow, Id, Tablet as TabletKind, Table as TableKind, same, Version, written, kept, frozen, rows_at, of_rows}
 
 -- what a coordinator has a tablet do
 pub data Body : Type 0 where

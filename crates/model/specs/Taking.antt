@@ -1,7 +1,7 @@
 -- What an act may take away: nothing that a time needs, from the floor of its namespace on. It is said of the parts
 -- before and after any act, a step at a time.
-use Rattle.model.specs.Words.{◌≡◌, ℕ, ◌≤◌, true, List, Option, Some, None, ◌&&◌, ◌-◌, max, min, map, option_map, option_and_then, filter, Id, same, In, absent_row, read_of, Row}
-use Rattle.model.specs.Cluster.{holds_at, before_end, NamespaceRecord, TableRecord, Catalog, tables_at, kept_from, owns, Interval, active_at, route, set_of, ScheduledNamespace, SnapshotRecord, point_of, Act, Master, Parts, deed_of, Commands, Advances, Obeys, NoDeed}
+use Rattle.std.specs.Prelude.{◌≡◌, ℕ, ◌≤◌, true, List, Option, Some, None, ◌&&◌, ◌-◌, max, min, map, option_map, option_and_then, filter}
+use Rattle.model.specs.Cluster.{Id, same, In, absent_row, read_of, Row, holds_at, before_end, NamespaceRecord, TableRecord, Catalog, tables_at, kept_from, owns, Interval, active_at, route, set_of, ScheduledNamespace, SnapshotRecord, point_of, Act, Master, Parts, deed_of, Commands, Advances, Obeys, NoDeed}
 use Rattle.model.specs.Schedules.{history_retention, serving}
 use Rattle.model.specs.Operations.{restoration_of}
 use Rattle.model.specs.Looks.{place_of}

@@ -1,5 +1,5 @@
 -- Times are numbers: microseconds times 4096, and a logical counter. `[from, to)` goes on where `to` is none.
-use Rattle.model.specs.Words.{ℕ, Bool, true, false, Option, Some, None, nat_le, nat_lt, ◌&&◌, ◌*◌, ◌^◌}
+use Rattle.std.specs.Prelude.{ℕ, Bool, true, false, Option, Some, None, nat_le, nat_lt, ◌&&◌, ◌*◌, ◌^◌}
 
 -- the ticks of a minute and of a second
 abbrev pub minute : ℕ

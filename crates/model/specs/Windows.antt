@@ -1,8 +1,8 @@
 -- How restores by a schedule and clones are answered: each refusal exactly where its cause holds and no earlier one
 -- does, with its values, and else acceptance. What a journal doesn't have is the master's: schedules, unfinished
 -- operations, and free slots.
-use Rattle.model.specs.Words.{◌≡◌, ◌≢◌, ℕ, ◌≤◌, ◌<◌, ◌+◌, ◌-◌, false, not, ◌&&◌, ◌⊎◌, List, [], ◌∷◌, Option, Some, None, length, unwrap_or, filter, Id, In}
-use Rattle.model.specs.Cluster.{Interval, active_at, Schedule, CloneRecord, is_visible, schedule_with, UnknownNamespace, UnknownSchedule, NameTaken, NoSchedule, TooMany, SlotsFull, TooEarly, Future, Busy, Reply, Ok, Refused, Master}
+use Rattle.std.specs.Prelude.{◌≡◌, ◌≢◌, ℕ, ◌≤◌, ◌<◌, ◌+◌, ◌-◌, false, not, ◌&&◌, ◌⊎◌, List, [], ◌∷◌, Option, Some, None, length, unwrap_or, filter}
+use Rattle.model.specs.Cluster.{Id, In, Interval, active_at, Schedule, CloneRecord, is_visible, schedule_with, UnknownNamespace, UnknownSchedule, NameTaken, NoSchedule, TooMany, SlotsFull, TooEarly, Future, Busy, Reply, Ok, Refused, Master}
 use Rattle.model.specs.Schedules.{low, least_low, IsInWindow}
 use Rattle.model.specs.Operations.{user}
 use Rattle.model.specs.Looks.{free_slots}

@@ -1,5 +1,4 @@
--- The plain words that the chapters take from below, passed on from one place. Declares nothing.
-pub use Rattle.std.specs.Prelude.{Bool, Err, List, None, Ok, Option, Result, Some, [], bytes_eq, false, filter, find, fold, if◌then◌else◌, is_none, is_some, length, map, max, min, nat_le, nat_lt, not, ok_or, option_and_then, option_map, option_to_list, reverse, suc, take, true, unwrap_or, zero, ℕ, ◌&&◌, ◌*◌, ◌++◌, ◌+◌, ◌-◌, ◌<◌, ◌==◌, ◌^◌, ◌||◌, ◌∷◌, ◌≡◌, ◌≢◌, ◌≤◌, ◌⊎◌}
+-- Words of the crate below that the chapters take, passed on from one place. Declares nothing.
 pub use Rattle.std.specs.List.{list_all, list_any}
 pub use Rattle.std.specs.Option.{option_map_or, option_or}
 pub use Rattle.row_values.specs.Batches.{IsBatch, IsKey, IsValue}

@@ -1,7 +1,7 @@
 -- What a coordinator does next: for the first unfinished record that no snapshot holds up, it goes on with the first
 -- listed tablet that isn't done, or moves the record.
-use Rattle.model.specs.Words.{ℕ, List, [], ◌∷◌, ◌++◌, Option, Some, None, not, map, if◌then◌else◌, option_or, option_map, filter, Id}
-use Rattle.model.specs.Cluster.{Listed, Sent, is_restored, is_cloned, first_unacked, is_sent, Act, Send, Process, Ack, Advance, WorkItem, SendWork, CollectWork, AdvanceWork, Master, Parts}
+use Rattle.std.specs.Prelude.{ℕ, List, [], ◌∷◌, ◌++◌, Option, Some, None, not, map, if◌then◌else◌, option_map, filter}
+use Rattle.model.specs.Cluster.{option_or, Id, Listed, Sent, is_restored, is_cloned, first_unacked, is_sent, Act, Send, Process, Ack, Advance, WorkItem, SendWork, CollectWork, AdvanceWork, Master, Parts}
 use Rattle.model.specs.Tablets.{Command}
 use Rattle.model.specs.Coordination.{source_slot}
 use Rattle.model.specs.Moves.{Progress, snapshot_progress, restoration_progress, clone_progress}

@@ -89,7 +89,20 @@ bad name: cells x:int a=1 B=1
 ok: cells x:int a=1 a=2
 wrong words: time ht 5 5
 bad time: time ht x
-ok: time minus 5m";
+ok: time minus 5m
+ok: database a
+ok: database ysql.a
+wrong words: database
+wrong words: database a b
+bad name: database ysql.
+bad name: database ysql.ysql.a
+bad name: database A
+ok: maybe k
+ok: maybe k minus 5m
+ok: maybe k ht 5
+bad time: maybe k x
+bad key: maybe k! x
+wrong words: maybe k ht 5 5";
 
 fn name_of(cause: Cause) -> &'static str {
     match cause {
@@ -118,6 +131,10 @@ fn behind(alloc: Global, place: Place, words: &[Bytes]) -> Result<&[Bytes], Line
             let (_name, rest) = name_at(alloc, words)?;
             Ok(rest)
         }
+        Place::Database => {
+            let (_name, rest) = database_at(alloc, words)?;
+            Ok(rest)
+        }
         Place::Key => {
             let (_key, rest) = key_at(alloc, words)?;
             Ok(rest)
@@ -141,6 +158,10 @@ fn behind(alloc: Global, place: Place, words: &[Bytes]) -> Result<&[Bytes], Line
         }
         Place::Time => {
             let _time = time(words)?;
+            Ok(none)
+        }
+        Place::MaybeTime => {
+            let _time = maybe_time(words)?;
             Ok(none)
         }
         Place::Cells => {
@@ -192,6 +213,12 @@ fn read(alloc: Global, form: &[u8], words: &[Bytes]) -> Result<(), LineError> {
     if form == b"time".as_slice() {
         return follow(alloc, &[Place::Time], words);
     }
+    if form == b"database".as_slice() {
+        return follow(alloc, &[Place::Database], words);
+    }
+    if form == b"maybe".as_slice() {
+        return follow(alloc, &[Place::Key, Place::MaybeTime], words);
+    }
     let all = [
         Place::Name,
         Place::Key,
@@ -227,7 +254,7 @@ fn each_cause_at_each_kind_of_place(rt: HostRuntime) {
             count = count.saturating_add(1);
         }
     }
-    assert_eq!(rt; count, 83);
+    assert_eq!(rt; count, 96);
 }
 
 // `items` and so many items.

@@ -1,29 +1,29 @@
 -- A new clone has the next numbers of each kind.
-use Rattle.std.proofs.Common.{ℕ, ◌≡◌, ◌≤◌, ◌+◌, List, [], ◌∷◌, ◌++◌, length, map, Option, refl, sym, ap, subst, ◌∙◌, arith, ◌&&◌}
+use Rattle.std.proofs.Common.{ℕ, ◌≡◌, ◌≤◌, ◌+◌, List, [], ◌∷◌, ◌++◌, length, map, Option, refl, sym, ap, subst, ◌∙◌, arith, ◌&&◌, le_refl}
 use Rattle.std.specs.Prelude.{Ok as Granted}
 use Rattle.std.specs.List.{filter}
-use Rattle.std.proofs.lemmas.List.{length-map, append-nil}
+use Rattle.std.proofs.lemmas.List.{length-map, append-nil, append_assoc}
 use Rattle.row_values.specs.Ids.{Id, Kind, Namespace, Table, Tablet, Schedule, Snapshot, Restoration, Clone, same}
 use Rattle.model.specs.Times.{holds_at}
 use Rattle.model.specs.Activity.{Interval}
 use Rattle.model.specs.Catalog.{TableRecord, tables_at}
 use Rattle.model.specs.Journal.{Change as Made}
 use Rattle.model.specs.Lists.{tablets_active_at}
-use Rattle.model.specs.Records.{IdPair, TabletPair}
+use Rattle.model.specs.Records.{CloneRecord, IdPair, TabletPair}
 use Rattle.model.specs.Acts.{Change, CloneNamespace}
 use Rattle.model.specs.Parts.{Master, Parts, BeginsClone}
 use Rattle.model.specs.Looks.{free_slots}
 use Rattle.model.specs.Changed.{next_clone, next_namespace, pair_tablets, sources, clone_time, clone_begun, new_clone}
 use Rattle.model.specs.Changes.{accepts, CloneSource, judge_clone}
-use Rattle.model.specs.Drawn.{AreNext, DrawsNext, drawn_of, drawn_for_clone, given_to_clones, clones_made}
+use Rattle.model.specs.Drawn.{AreNext, DrawsNext, beyond, drawn_of, drawn_for_clone, new_ids, reserved_by, reserved_in}
 use Rattle.law_invariants.specs.Invariant.{Inv}
-use Rattle.law_invariants.proofs.Finding.{not_same, apart_by_number}
 use Rattle.law_moves.proofs.Backing.{then_is}
 use Rattle.law_clones.proofs.Pairing.{tables_then_apart, source_then}
 use Rattle.law_clones.proofs.Accepting.{MayClone, tables_of, tablets_of, source_table}
 use Rattle.law_clones.proofs.Commanding.{may_clone}
 use Rattle.law.proofs.Giving.{accepted_draws, pair_tables_long, order_long}
-use Rattle.law.proofs.Sorted.{order_same, order_chained, by_id_chained, pair_tables_chained, tables_next, tablets_next, by_place, one_way_place, pair_tablets_chained, made_one}
+use Rattle.law.proofs.Numbered.{Numbered, all_numbered, beyond_append, next_beyond, none_new, none_reserved, one_beyond, recorded_none}
+use Rattle.law.proofs.Sorted.{order_same, order_chained, by_id_chained, pair_tables_chained, tables_next, tablets_next, by_place, one_way_place, pair_tablets_chained}
 use Rattle.law.proofs.TabletKinds.{KindsGood}
 
 pair_tablets_long : (is : List Interval) (slots : List ℕ) (drawn : ℕ) (tables : _) → length is ≤ length slots → length (pair_tablets is slots drawn tables) ≡ length is
@@ -71,43 +71,86 @@ begun_turn Restoration m ns to = tt
 begun_turn Clone m ns to = (refl, tt)
 
 -- its tables and tablets stand in order
-begun_given : (kind : Kind) (ps : Parts) (activity : List Interval) (changes : List Made) (ns : Id) (least : ℕ) (source target : List ℕ) (to n : ℕ) → ps.master.clock ≤ n → MayClone ps.master ns least target to n → KindsGood ps.master → Inv ps activity changes
-    → given_to_clones (new_clone ns source target to ps.master ∷ []) kind ≡ begun_ids ps.master ns to kind
-begun_given Namespace ps activity changes ns least source target to n le may kinds inv = refl
-begun_given Table ps activity changes ns least source target to n le may kinds inv =
+begun_reserved : (kind : Kind) (ps : Parts) (activity : List Interval) (changes : List Made) (ns : Id) (least : ℕ) (source target : List ℕ) (to n : ℕ) → ps.master.clock ≤ n → MayClone ps.master ns least target to n → KindsGood ps.master → Inv ps activity changes
+    → (kind ≡ Clone → ⊥) → reserved_in kind (new_clone ns source target to ps.master) ≡ begun_ids ps.master ns to kind
+begun_reserved Namespace ps activity changes ns least source target to n le may kinds inv apart = refl
+begun_reserved Table ps activity changes ns least source target to n le may kinds inv apart =
     let m = ps.master in
     let then_ = filter (λ (r : TableRecord). holds_at to r.from r.to && same r.namespace ns) m.catalog.tables in
-    append-nil _ ∙ append-nil _ ∙ append-nil _ ∙ ap (map {A = IdPair} (λ p. p.target)) (order_same _ (tables_of m ns to) (pair_tables_chained (tables_at m.catalog.tables ns to) m.drawn.tables (by_id_chained then_)))
-begun_given Tablet ps activity changes ns least source target to n le may kinds inv =
+    ap (map {A = IdPair} (λ p. p.target)) (order_same _ (tables_of m ns to) (pair_tables_chained (tables_at m.catalog.tables ns to) m.drawn.tables (by_id_chained then_)))
+begun_reserved Tablet ps activity changes ns least source target to n le may kinds inv apart =
     let m = ps.master in
     let ts = tables_at m.catalog.tables ns to in
     let then_ = filter (λ (r : TableRecord). holds_at to r.from r.to && same r.namespace ns) m.catalog.tables in
-    append-nil _ ∙ append-nil _ ∙ ap (map {A = TabletPair} (λ p. p.target)) (order_same _ (tablets_of m ns to)
+    ap (map {A = TabletPair} (λ p. p.target)) (order_same _ (tablets_of m ns to)
     (pair_tablets_chained (sources m ns to) (free_slots m) m.drawn.tablets m.drawn.tables ts (by_id_chained then_) (tables_then_apart m.catalog.tables ns to inv.master.tables.rise)
     (λ t isin. kinds.tables t (then_is m.catalog.tables ns to t isin).0)
     (λ i isin. let t = source_table ps activity changes ns least target to n i le may inv (source_then m ns to i isin) in (t.0, (t.1.0, t.1.1)))
     (order_chained by_place one_way_place (tablets_active_at m.catalog.owners m.activity ns to))))
-begun_given Schedule ps activity changes ns least source target to n le may kinds inv = refl
-begun_given Snapshot ps activity changes ns least source target to n le may kinds inv = refl
-begun_given Restoration ps activity changes ns least source target to n le may kinds inv = refl
-begun_given Clone ps activity changes ns least source target to n le may kinds inv = refl
+begun_reserved Schedule ps activity changes ns least source target to n le may kinds inv apart = refl
+begun_reserved Snapshot ps activity changes ns least source target to n le may kinds inv apart = refl
+begun_reserved Restoration ps activity changes ns least source target to n le may kinds inv apart = refl
+begun_reserved Clone ps activity changes ns least source target to n le may kinds inv apart = absurd (apart refl)
+
+reserved_append : (cs ds : List CloneRecord) (kind : Kind) → reserved_by (cs ++ ds) kind ≡ reserved_by cs kind ++ reserved_by ds kind
+reserved_append [] ds kind = refl
+reserved_append (c ∷ cs) ds kind = ap (λ ids. reserved_in kind c ++ ids) (reserved_append cs ds kind) ∙ sym (append_assoc (reserved_in kind c) (reserved_by cs kind) (reserved_by ds kind))
+
+-- so these are new
+begun_new : (kind : Kind) (ps : Parts) (activity : List Interval) (changes : List Made) (ns : Id) (least : ℕ) (source target : List ℕ) (to n : ℕ) → ps.master.clock ≤ n → MayClone ps.master ns least target to n → KindsGood ps.master → Inv ps activity changes
+    → (kind ≡ Clone → ⊥) → beyond (drawn_of kind ps.master.drawn) (reserved_by (ps.master.clones ++ new_clone ns source target to ps.master ∷ []) kind) ≡ begun_ids ps.master ns to kind
+begun_new kind ps activity changes ns least source target to n le may kinds inv apart =
+    let m = ps.master in
+    let drawn = drawn_of kind m.drawn in
+    let new = new_clone ns source target to m in
+    ap (beyond drawn) (reserved_append m.clones (new ∷ []) kind)
+    ∙ beyond_append (reserved_by m.clones kind) (reserved_in kind new ++ []) drawn
+    ∙ ap (λ ids. ids ++ beyond drawn (reserved_in kind new ++ [])) (none_reserved kind m (all_numbered ps activity changes inv))
+    ∙ ap (beyond drawn) (append-nil (reserved_in kind new) ∙ begun_reserved kind ps activity changes ns least source target to n le may kinds inv apart)
+    ∙ next_beyond (begun_ids m ns to kind) kind drawn drawn (le_refl drawn) (begun_turn kind m ns to)
+
+begun_given : (kind : Kind) (ps : Parts) (activity : List Interval) (changes : List Made) (ns : Id) (least : ℕ) (source target : List ℕ) (to n : ℕ) → ps.master.clock ≤ n → MayClone ps.master ns least target to n → KindsGood ps.master → Inv ps activity changes
+    → Numbered (clone_begun ns source target to n ps.master) → new_ids ps.master (clone_begun ns source target to n ps.master) kind ≡ begun_ids ps.master ns to kind
+begun_given Namespace ps activity changes ns least source target to n le may kinds inv after =
+    let h = all_numbered ps activity changes inv in
+    ap (λ ids. ids ++ beyond ps.master.drawn.namespaces (reserved_by (ps.master.clones ++ new_clone ns source target to ps.master ∷ []) Namespace)) (recorded_none Namespace ps.master h)
+    ∙ begun_new Namespace ps activity changes ns least source target to n le may kinds inv (λ q. let e = q in grind arith)
+begun_given Table ps activity changes ns least source target to n le may kinds inv after =
+    let h = all_numbered ps activity changes inv in
+    ap (λ ids. ids ++ beyond ps.master.drawn.tables (reserved_by (ps.master.clones ++ new_clone ns source target to ps.master ∷ []) Table)) (recorded_none Table ps.master h)
+    ∙ begun_new Table ps activity changes ns least source target to n le may kinds inv (λ q. let e = q in grind arith)
+begun_given Tablet ps activity changes ns least source target to n le may kinds inv after =
+    let h = all_numbered ps activity changes inv in
+    ap (λ ids. ids ++ beyond ps.master.drawn.tablets (reserved_by (ps.master.clones ++ new_clone ns source target to ps.master ∷ []) Tablet)) (recorded_none Tablet ps.master h)
+    ∙ begun_new Tablet ps activity changes ns least source target to n le may kinds inv (λ q. let e = q in grind arith)
+begun_given Schedule ps activity changes ns least source target to n le may kinds inv after = none_new Schedule ps.master _ after refl
+begun_given Snapshot ps activity changes ns least source target to n le may kinds inv after = none_new Snapshot ps.master _ after refl
+begun_given Restoration ps activity changes ns least source target to n le may kinds inv after = none_new Restoration ps.master _ after refl
+begun_given Clone ps activity changes ns least source target to n le may kinds inv after =
+    let m = ps.master in
+    let h = all_numbered ps activity changes inv in
+    let new = new_clone ns source target to m in
+    ap (λ ids. beyond m.drawn.clones (map {A = CloneRecord} (λ c. c.id) (m.clones ++ new ∷ [])) ++ ids) (none_made (m.clones ++ new ∷ []) m.drawn.clones)
+    ∙ append-nil _ ∙ one_beyond {A = CloneRecord} (λ c. c.id) m.clones new m.drawn.clones h.clones (omega arith)
+  where
+    none_made : (cs : List CloneRecord) (drawn : ℕ) → beyond drawn (reserved_by cs Clone) ≡ []
+    none_made [] drawn = refl
+    none_made (c ∷ cs) drawn = none_made cs drawn
 
 -- an accepted command of a clone draws the next of each kind
 pub begun_next : (ps : Parts) (activity : List Interval) (changes : List Made) (source target : List ℕ) (at : Option ℕ) (slots : List ℕ) (n : ℕ) (s : CloneSource) → ps.master.clock ≤ n → KindsGood ps.master → Inv ps activity changes
-    → judge_clone source target (clone_time at n) n ps.master ≡ Granted s
+    → judge_clone source target (clone_time at n) n ps.master ≡ Granted s → Numbered (clone_begun s.namespace source target (clone_time at n) n ps.master)
     → DrawsNext (Change (CloneNamespace source target at) slots) (accepts (BeginsClone s.namespace source target (clone_time at n)) [] (next_clone ps.master ∷ [])).reply n ps.master (clone_begun s.namespace source target (clone_time at n) n ps.master)
-begun_next ps activity changes source target at slots n s le kinds inv e =
+begun_next ps activity changes source target at slots n s le kinds inv e after =
     let m = ps.master in
     let to = clone_time at n in
     let may = may_clone ps activity changes source target to n s inv e in
-    let new = new_clone s.namespace source target to m in
-    let one : clones_made (next_clone m ∷ []) (m.clones ++ new ∷ []) ≡ new ∷ [] = made_one m.clones new
-    (λ d isin. let by : d.id.number ≤ m.drawn.clones = (inv.operations.clones d isin).drawn in not_same d.id new.id (apart_by_number d.id new.id (omega arith))) in
     let drawn = accepted_draws ps activity changes source target at n s inv e in
-    let given : (kind : Kind) → given_to_clones (clones_made (next_clone m ∷ []) (m.clones ++ new ∷ [])) kind ≡ begun_ids m s.namespace to kind
-    = λ kind. ap (λ cs. given_to_clones cs kind) one ∙ begun_given kind ps activity changes s.namespace _ source target to n le may.1 kinds inv in
+    let given : (kind : Kind) → new_ids m (clone_begun s.namespace source target to n m) kind ≡ begun_ids m s.namespace to kind
+    = λ kind. begun_given kind ps activity changes s.namespace _ source target to n le may.1 kinds inv after in
     record {
       count = λ kind. subst (λ d. drawn_of kind (clone_begun s.namespace source target to n m).drawn ≡ drawn_of kind m.drawn + drawn_of kind d) (sym drawn) (begun_counts kind m s.namespace source target to n may.1.enough);
       given = λ kind. ap length (given kind) ∙ begun_long kind m s.namespace to may.1.enough ∙ sym (ap (drawn_of kind) drawn);
       next = λ kind. subst (AreNext kind (drawn_of kind m.drawn)) (sym (given kind)) (begun_turn kind m s.namespace to);
+      named = sym (given Clone);
     }

@@ -2,7 +2,7 @@
 use Rattle.std.proofs.Common.{sym, subst, ap, ◌∙◌, refl, cond, ◌≡◌, ℕ, ◌≤◌, ◌<◌, ◌+◌, ◌*◌, Bool, true, false, List, [], ◌∷◌, if◌then◌else◌, arith, min, fold, eqb, eqb-true, le_trans, le_of_lt}
 use Rattle.row_values.specs.Ids.{Id, Kind, Namespace, Table, Tablet, Schedule, Snapshot, Restoration, Clone}
 use Rattle.row_values.specs.Slots.{has}
-use Rattle.model.specs.Acts.{Act, Look, Change, Write, Read, Cutoff, Compact, Send, Process, Ack, Advance, Remove, Prune, Restart, Stats, Command, CreateNamespace, DropNamespace, CreateTable, AddColumn, DropColumn, RenameTable, DropTable, Split, CreateSchedule, EditSchedule, DeleteSchedule, TakeSnapshot, Restore, CloneNamespace, ListSchedules, ListSnapshots, ListRestorations, ListClones, ListTablets}
+use Rattle.model.specs.Acts.{Act, Change, Advance, Command, CreateNamespace, DropNamespace, CreateTable, AddColumn, DropColumn, RenameTable, DropTable, Split, CreateSchedule, EditSchedule, DeleteSchedule, TakeSnapshot, Restore, CloneNamespace, ListSchedules, ListSnapshots, ListRestorations, ListClones, ListTablets}
 use Rattle.model.specs.Parts.{Master, Parts, BeginsClone, If, judged, decided}
 use Rattle.model.specs.Entries.{Entry, slots_of, log_of, least, ActAsked, CommandAsked}
 use Rattle.model.specs.History.{outcome, told, master_effect, replay, held, most_entries, Legal}
@@ -23,8 +23,7 @@ use Rattle.law_clones.proofs.Commanding.{may_clone}
 use Rattle.law.proofs.Slots.{replay_slots}
 use Rattle.law.proofs.Law.{legal_holds, stamps_later}
 use Rattle.law.proofs.Giving.{few, none_few, clone_few, CloneDraws, accepted_draws}
-use Rattle.law.proofs.InTurn.{act_next}
-use Rattle.law.proofs.TabletKinds.{replay_kinds}
+use Rattle.law.proofs.InTurn.{entry_next}
 
 -- a clone draws few, where it is known to
 command_few : (command : Command) (n : ℕ) (m : Master) → CommandAsked command
@@ -128,7 +127,7 @@ drawn_within (e ∷ earlier) slots legal most kind =
     let ps = replay slots earlier in
     let before : drawn_of kind ps.master.drawn ≤ most_slots * held 0 earlier = drawn_within earlier slots legal.0 most kind in
     let before_ = legal_holds earlier slots legal.0 in
-    let count : drawn_of kind (told e.event.act (outcome e.event.act e.stamp ps) e.stamp ps).master.drawn ≡ drawn_of kind ps.master.drawn + drawn_of kind (drawn_by e.event.act (outcome e.event.act e.stamp ps).reply e.stamp ps.master) = (act_next e.event.act slots e.stamp ps (activity_of slots earlier) (journal_of slots earlier) legal.1.asked.act (stamps_later e ps legal.1.stamp) (replay_kinds earlier slots) before_.inv).count kind in
+    let count : drawn_of kind (told e.event.act (outcome e.event.act e.stamp ps) e.stamp ps).master.drawn ≡ drawn_of kind ps.master.drawn + drawn_of kind (drawn_by e.event.act (outcome e.event.act e.stamp ps).reply e.stamp ps.master) = (entry_next e earlier slots legal).count kind in
     let grown : drawn_of kind (drawn_by e.event.act (outcome e.event.act e.stamp ps).reply e.stamp ps.master) ≤ most_slots = act_few e.event.act slots e.stamp ps (activity_of slots earlier) (journal_of slots earlier) (stamps_later e ps legal.1.stamp) (subst (λ k. k ≤ most_slots) (sym (replay_slots earlier slots)) most) legal.1.asked.act before_.inv kind in
     either_way (has (slots_of e.event.act) 0)
     (λ touched. let log : eqb (log_of e.event.act) 0 ≡ true = ap (λ k. eqb k 0) (least_zero (slots_of e.event.act) touched) in rw log (omega (arith, count, grown, before)))

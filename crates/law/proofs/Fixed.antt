@@ -13,7 +13,6 @@ use Rattle.model.specs.Tablets.{Told, Tablet, Write as WriteRows, is_serving, se
 use Rattle.model.specs.Records.{RestorationRecord, RestorationState, Switching, CloneRecord, CloneState, Copying, first_unacked}
 use Rattle.std.specs.Prelude.{Result, Ok, Err}
 use Rattle.model.specs.Acts.{ListSchedules, ListSnapshots, ListRestorations, ListClones, ListTablets, Split, CreateSchedule, EditSchedule, DeleteSchedule, TakeSnapshot, Restore, CloneNamespace, StaleSchema, Fenced, At, Command, CreateNamespace, DropNamespace, CreateTable, AddColumn, DropColumn, RenameTable, DropTable, Act, Change, Write, Advance, Ok, Refusal, Ok as ReplyOk}
-use Rattle.model.specs.Journal as made
 use Rattle.model.specs.Journal.{ChangeAct, TableView, table_at}
 use Rattle.model.specs.Parts.{Master, Parts, MasterAct, MakesNamespace, DropsNamespace, MakesTable, AddsColumn, DropsColumn, RenamesTable, DropsTable, Moves, Ticks, Check, If, Names, Fault, Outcome, judged, decided, unless}
 use Rattle.model.specs.Looks.{found_namespace}
@@ -23,19 +22,20 @@ use Rattle.model.specs.Moves.{Progress, progress_of, waits_for, moving, advancin
 use Rattle.model.specs.RowActs.{has_moved, serves_all, write}
 use Rattle.model.specs.Coordination.{unfinished_restoration, unfinished_clone}
 use Rattle.model.specs.Right.{fixes, is_fixed}
-use Rattle.model.specs.Strict.{FixedStays}
+use Rattle.model.specs.Right.{FixedStays}
 use Rattle.model.specs.Entries.{Entry, ActAsked, slots_of}
 use Rattle.model.specs.History.{outcome, replay, journal_of, activity_of, Legal, with, with_rows, rows_made, with_master, with_restoration, with_clone, with_either, with_changes}
-use Rattle.law_cleanup.proofs.Forgetting.{not_false}
 use Rattle.law_invariants.specs.Invariant.{Inv, Later, Passes}
 use Rattle.law_invariants.specs.Operations.{RestorationStateGood}
 use Rattle.law_invariants.proofs.Finding.{both_pass, none_or_some, not_some_is, same_equal}
-use Rattle.law_rows.proofs.Keeping.{clock_before}
-use Rattle.law_moves.proofs.Pending.{unfinished_restoration_is, unfinished_clone_is}
+use Rattle.law_invariants.proofs.Told.{clock_before}
+use Rattle.law_invariants.proofs.Pending.{unfinished_restoration_is, unfinished_clone_is}
 use Rattle.law.proofs.Law.{legal_holds, stamps_later}
 use Rattle.law.proofs.Fixing.{ViewOwned, plain_owned, made_owned, restored_owned, cloned_owned, rows_owned, soon_fixed, later_fixed, rows_fixed, restore_fixed, stays_home}
 use Rattle.row_values.specs.Elements.{In}
 use Rattle.law_clones.proofs.Growing.{Becomes, unmade}
+use Rattle.model.specs.Journal as made
+use Rattle.law_invariants.proofs.Unneeded.{not_false}
 
 -- what holds of a journal
 pub record JournalFixed (changes : List made.Change) : Type 0 where

@@ -14,7 +14,7 @@ use Rattle.row_values.specs.Schema.{Column}
 use Rattle.model.specs.Catalog.{Owner, is_owned_by, owner_of}
 use Rattle.model.specs.Journal.{Change, ChangeAct, NamespaceMade, NamespaceDropped, TableMade, TableRenamed, TableDropped, ColumnAdded, ColumnDropped, RowChanged, NamespaceRestored, NamespaceCloned, TableView, is_in, renamed, with_column, without_column, moved_to, restored_table, restored_row, table_after, namespace_at, table_at, row_at, owner_by, owner_in}
 use Rattle.model.specs.Right.{fixes, is_fixed, SameThen, StillSame}
-use Rattle.model.specs.Strict.{FixedStays}
+use Rattle.model.specs.Right.{FixedStays}
 use Rattle.model.specs.History.{with, rows_made}
 use Rattle.law_store.proofs.Keys.{either_way}
 use Rattle.law_invariants.proofs.Journaling.{made_here, made_others}

@@ -1,16 +1,13 @@
 -- The acts that follow a look are asked: the look's reply has slots of the cluster alone, and for a read at least one.
-use Rattle.std.proofs.Common.{ℕ, ◌≡◌, ◌≤◌, ◌<◌, ◌^◌, List, [], ◌∷◌, ◌++◌, Bool, true, false, cond, not, eqb, ◌⊎◌, ◌&&◌, Option, Some, None, inl, inr, refl, sym, ap, subst, arith, leb, leb-true, map, length, take, ◌∙◌}
-use Rattle.std.proofs.lemmas.Bool.{cond_both}
+use Rattle.std.proofs.Common.{ℕ, ◌≡◌, ◌≤◌, ◌<◌, ◌^◌, List, [], ◌∷◌, ◌++◌, Bool, true, cond, not, eqb, ◌⊎◌, ◌&&◌, Option, Some, None, inl, inr, refl, sym, ap, subst, arith, leb, leb-true, map, length, take, ◌∙◌}
+use Rattle.std.proofs.lemmas.Bool.{cond_both, true≢false}
 use Rattle.std.proofs.lemmas.List.{length-map}
-use Rattle.row_values.specs.Codes.{code_of}
-use Rattle.row_values.specs.declared.value.Item.{Item}
 use Rattle.row_values.specs.Ids.{Id, Kind, Tablet, Snapshot, same}
 use Rattle.row_values.specs.Elements.{In, AllOf}
 use Rattle.row_values.specs.Ranges.{in_range}
 use Rattle.row_values.specs.Schema.{Column}
 use Rattle.model.specs.Activity.{Interval, active_at, last_of}
-use Rattle.model.specs.Journal.{Change as Made}
-use Rattle.model.specs.Acts as acts
+use Rattle.model.specs.Journal.{Change as Made, table_at}
 use Rattle.model.specs.Acts.{NamedOp, NamedUpsert, NamedDelete, NamedItem, Command, Ask, AskPlan, AskKeys, AskTable, AskPresent, AskRemovable, Removal, Remove, Prune, Place, Act, Look, Cutoff, Compact, Reply, Placed, Refusal, SlotsFull}
 use Rattle.model.specs.Parts.{Master, Parts}
 use Rattle.row_values.specs.Slots.{rising}
@@ -19,29 +16,29 @@ use Rattle.model.specs.Entries.{IsSlot, IsRemovable, IsName, IsNamedOp, IsNamedB
 use Rattle.row_values.specs.Batches.{IsKey, IsValue, IsOp, IsBatch}
 use Rattle.model.specs.History.{look}
 use Rattle.model.specs.Settling.{left, coordinated}
-use Rattle.model.specs.Replies.{ReplyRight}
-use Rattle.model.specs.Right.{IsActivePlace, PlacesRight, holds_keys}
+use Rattle.model.specs.Replies.{LookAnswer}
+use Rattle.model.specs.Answers.{TableLook, KeysAnswer, KeysPlaced, TableAnswer, TablePlaced, ArePlaces}
 use Rattle.model.specs.Scripts.{ScriptCommand, Tick, Lag, CreateNamespace, DropNamespace, CreateTable, AddColumn, DropColumn, RenameTable, DropTable, WriteRows, ReadRow, ReadTable, Split, CreateSchedule, DeleteSchedule, TakeSnapshot, Restore, CloneNamespace, ListSchedules, ListSnapshots, ListRestorations, ListClones, ListTablets, RaiseCutoffs, CompactTablets, CleanUp, Coordinate, Settle, RestartMaster, RestartTablet, ShowStats, ShowHistory, time_at, asked_at, EditSchedule}
 use Rattle.model_runs.specs.Courses.{Found, found_by, Course, SetReading, SetLag, Perform, LookFor, WorkOff, ShowEntries, tell_alone, plan_and_tell, course_of, key_alone, at_place, cell_by_id, op_by_id, item_by_id, write_at, write_into, change_under, read_places, at_each, remove_each, CourseAsked}
 use Rattle.law_invariants.specs.Invariant.{Inv}
-use Rattle.law_invariants.proofs.Finding.{none_or_some, both_pass, passes_both, same_equal, in_mapped, filter_in}
-use Rattle.law_invariants.proofs.Overlap.{code_below, holder_there}
+use Rattle.law_invariants.proofs.Finding.{none_or_some, both_pass, same_equal, in_mapped, filter_in}
+use Rattle.law_invariants.proofs.Overlap.{holder_there}
 use Rattle.law_invariants.proofs.Remembering.{still_kept}
 use Rattle.law.proofs.TabletKinds.{KindsGood}
-use Rattle.law_changes.proofs.Plans.{has_in, in_has, rising_has, planned_active}
-use Rattle.law_changes.proofs.Free.{least_free}
+use Rattle.law_invariants.proofs.Plans.{has_in, in_has, rising_has, planned_active}
+use Rattle.law_invariants.proofs.Free.{least_free}
 use Rattle.law_invariants.proofs.Judging.{and_found_is}
 use Rattle.law_splits.proofs.Parents.{parent_found}
 use Rattle.law_splits.proofs.Splitting.{family_is, two_long}
 use Rattle.std.specs.Prelude.{Result, Ok, Err}
 use Rattle.std.specs.List.{filter, list_any}
 use Rattle.std.specs.Option.{is_some}
-use Rattle.std.proofs.lemmas.Bool.{true≢false}
 use Rattle.model.specs.Records.{Listed, SnapshotRecord}
 use Rattle.model.specs.Cleanup.{is_present, slots_where, last_in, is_removable_tablet, removal_in, removals_in, removable_tablets, is_removable_snapshot, removable_snapshots, removable}
 use Rattle.law_store.proofs.Keys.{either_way}
 use Rattle.law_invariants.specs.Operations.{SnapshotGood}
 use Rattle.law_invariants.proofs.Lasting.{last_in as last_tablet}
+use Rattle.model.specs.Acts as acts
 
 -- what an act of a run meets
 pub record IsFit (slots : ℕ) (act : Act) : Type 0 where
@@ -58,7 +55,7 @@ pub record IsAnswer (slots : ℕ) (ask : Ask) (reply : Reply) : Type 0 where
   pub inv : Inv parts activity changes
   pub kinds : KindsGood parts.master
   pub is : reply ≡ (look ask stamp parts.master).reply
-  pub right : ReplyRight (Look ask) reply stamp parts changes
+  pub right : LookAnswer ask reply stamp parts changes
 
 -- the acts that follow a look are fit, whatever it answers
 abbrev pub Follows : ℕ → Ask → (Found → List Act) → Type 0
@@ -145,33 +142,49 @@ plan_to _ m slot all isin = absurd isin
 
 -- The places of a look
 
--- a place is in a slot of the cluster
-place_in : (slots : ℕ) (ps : Parts) (activity : List Interval) (changes : List Made) (n : ℕ) (table : Id) (batch : List NamedItem) (place : Place) → ps.master.slots ≡ slots → Inv ps activity changes
-    → IsActivePlace ps.master.activity n table batch place → IsSlot slots place.slot
-place_in slots ps activity changes n table batch place count inv active =
-    let i = active.interval in
-    let good = (inv.slots i.slot).each i active.listed refl in
-    let is : place.slot ≡ i.slot = ap (λ p. p.slot) active.placed in
-    subst (IsSlot slots) (sym is) (good.slot_from, subst (λ k. i.slot ≤ k) count good.slot_to)
+-- a tablet's place is in a slot of the cluster
+place_in : (slots : ℕ) (ps : Parts) (activity : List Interval) (changes : List Made) (i : Interval) → ps.master.slots ≡ slots → Inv ps activity changes → In i ps.master.activity → IsSlot slots i.slot
+place_in slots ps activity changes i count inv listed =
+    let good = (inv.slots i.slot).each i listed refl in (good.slot_from, subst (λ k. i.slot ≤ k) count good.slot_to)
 
--- a tablet holds the code of each key, and so there is a place
-some_place : (ps : Parts) (activity : List Interval) (changes : List Made) (x n : ℕ) (namespace table : List ℕ) (batch : List NamedItem) (code : ℕ) (places : List Place) → ps.master.clock < n → Inv ps activity changes → code < 65536
-    → ((i : Interval) → in_range i.low i.high code ≡ true → holds_keys i batch ≡ true) → PlacesRight changes x n namespace table batch ps.master.activity places → 1 ≤ length places
-some_place ps activity changes x n namespace table batch code places less inv below keys right =
-    let id = right.found.id in
-    let one = inv.cover.whole id code n below right.found.current in
-    let holder = holder_there activity id code n (omega (arith, one)) in
+-- a look for keys that places them places one active tablet
+record OnePlace (activity : List Interval) (places : List Place) : Type 0 where
+  interval : Interval
+  listed : In interval activity
+  is : places ≡ place_of interval ∷ []
+
+keys_placed : (q : TableLook) (batch : List NamedItem) (places : List Place) (version : ℕ) (columns : List Column) → KeysAnswer q batch (Placed places version columns) → OnePlace q.activity places
+keys_placed q batch places version columns answer = elim answer [
+  | KeysPlaced found_places found_version found_columns table sound shown home inside placed ↦ record { interval = home.interval; listed = home.listed; is = placed }
+]
+
+-- and one for a table places all its active tablets, of which there is one
+record AllPlaces (q : TableLook) (places : List Place) : Type 0 where
+  table : Id
+  current : is_some (table_at q.changes q.now table) ≡ true
+  are : ArePlaces q.activity q.now table places
+
+table_placed : (q : TableLook) (places : List Place) (version : ℕ) (columns : List Column) → TableAnswer q (Placed places version columns) → AllPlaces q places
+table_placed q places version columns answer = elim answer [
+  | TablePlaced found_places found_version found_columns table shown placed ↦ record { table = table.found.id; current = table.found.current; are = placed }
+]
+
+some_place : (ps : Parts) (activity : List Interval) (changes : List Made) (n : ℕ) (table : Id) (places : List Place) → ps.master.clock < n → Inv ps activity changes → is_some (table_at changes n table) ≡ true → ArePlaces ps.master.activity n table places → 1 ≤ length places
+some_place ps activity changes n table places less inv current are =
+    let one = inv.cover.whole table 0 n (omega arith) current in
+    let holder = holder_there activity table 0 n (omega (arith, one)) in
     let i = holder.0 in
-    let outer = both_pass (same i.table id) (active_at n i && in_range i.low i.high code) holder.1.1 in
-    let inner = both_pass (active_at n i) (in_range i.low i.high code) outer.1 in
+    let outer = both_pass (same i.table table) (active_at n i && in_range i.low i.high 0) holder.1.1 in
+    let inner = both_pass (active_at n i) (in_range i.low i.high 0) outer.1 in
     let listed = still_kept ps.master activity i n inv.remembered less holder.1.0 inner.0 in
-    in_some places (place_of i) (right.all i listed (same_equal i.table id outer.0) inner.0 (keys i inner.1))
+    in_some places (place_of i) (are.all i listed (same_equal i.table table outer.0) inner.0)
 
-places_in : (slots : ℕ) (ps : Parts) (activity : List Interval) (changes : List Made) (x n : ℕ) (namespace table : List ℕ) (batch : List NamedItem) (places : List Place) → ps.master.slots ≡ slots → Inv ps activity changes
-    → PlacesRight changes x n namespace table batch ps.master.activity places → AllOf (λ place. IsSlot slots place.slot) (map at_place places)
-places_in slots ps activity changes x n namespace table batch places count inv right =
+places_in : (slots : ℕ) (ps : Parts) (activity : List Interval) (changes : List Made) (n : ℕ) (table : Id) (places : List Place) → ps.master.slots ≡ slots → Inv ps activity changes → ArePlaces ps.master.activity n table places
+    → AllOf (λ place. IsSlot slots place.slot) (map at_place places)
+places_in slots ps activity changes n table places count inv are =
     all_mapped (λ place. IsSlot slots place.slot) (λ place. IsSlot slots place.slot) at_place places (λ place h. h)
-    (all_of (λ place. IsSlot slots place.slot) places (λ place isin. place_in slots ps activity changes n right.found.id batch place count inv (right.each place isin)))
+    (all_of (λ place. IsSlot slots place.slot) places (λ place isin. let active = are.each place isin in
+    subst (IsSlot slots) (sym (ap (λ p. p.slot) active.placed)) (place_in slots ps activity changes active.interval count inv active.listed)))
 
 -- Batches by the ids of columns
 
@@ -205,34 +218,26 @@ plan_follows command slots asked reply a =
       tt,
     )
 
-write_follows : (places : List Place) (slots version : ℕ) (batch : List Item) → IsBatch batch → ((place : Place) → In place places → IsSlot slots place.slot) → AllOf (IsFit slots) (write_at places version batch)
-write_follows [] slots version batch is each = tt
-write_follows (place ∷ places) slots version batch is each = (record { asked = (each place (inl refl), is) }, tt)
-
 rows_follow : (namespace table : List ℕ) (batch : List NamedItem) (slots : ℕ) → IsNamedBatch batch → Follows slots (AskKeys namespace table batch None) (write_into batch)
 rows_follow namespace table batch slots asked (Placed places version columns) a =
-    let right = a.right.1 in
-    write_follows places slots version (map (item_by_id columns) batch) (batch_is columns batch asked)
-    (λ place isin. place_in slots a.parts a.activity a.changes a.stamp right.found.id batch place a.count a.inv (right.each place isin))
+    let one = keys_placed _ batch places version columns a.right in
+    subst (λ k. AllOf (IsFit slots) (write_at k version (map (item_by_id columns) batch))) (sym one.is)
+    (record { asked = (place_in slots a.parts a.activity a.changes one.interval a.count a.inv one.listed, batch_is columns batch asked) }, tt)
 rows_follow namespace table batch slots asked _ a = tt
 
 row_follows : (namespace table key : List ℕ) (at : Option ℕ) (slots : ℕ) → IsKey key → IsTime at → Follows slots (AskKeys namespace table (key_alone key) at) (read_places (Some key) at)
 row_follows namespace table key at slots is time (Placed places version columns) a =
-    let right = a.right.1 in
-    let some = some_place a.parts a.activity a.changes _ a.stamp namespace table (key_alone key) (code_of key) places a.later a.inv (code_below key) (λ i h. passes_both _ _ h refl) right in (
-      record {
-        asked = (subst (λ k. 1 ≤ k) (sym (length-map places at_place)) some, places_in slots a.parts a.activity a.changes _ a.stamp namespace table (key_alone key) places a.count a.inv right, is, time);
-      },
-      tt,
-    )
+    let one = keys_placed _ (key_alone key) places version columns a.right in
+    subst (λ k. AllOf (IsFit slots) (read_places (Some key) at (found_by (Placed k version columns)))) (sym one.is)
+    (record { asked = (omega arith, (place_in slots a.parts a.activity a.changes one.interval a.count a.inv one.listed, tt), is, time) }, tt)
 row_follows namespace table key at slots is time _ a = tt
 
 table_follows : (namespace table : List ℕ) (at : Option ℕ) (slots : ℕ) → IsTime at → Follows slots (AskTable namespace table at) (read_places None at)
 table_follows namespace table at slots time (Placed places version columns) a =
-    let right = a.right.1 in
-    let some = some_place a.parts a.activity a.changes _ a.stamp namespace table [] 0 places a.later a.inv (omega arith) (λ i h. refl) right in (
+    let all = table_placed _ places version columns a.right in
+    let some = some_place a.parts a.activity a.changes a.stamp all.table places a.later a.inv all.current all.are in (
       record {
-        asked = (subst (λ k. 1 ≤ k) (sym (length-map places at_place)) some, places_in slots a.parts a.activity a.changes _ a.stamp namespace table [] places a.count a.inv right, tt, time);
+        asked = (subst (λ k. 1 ≤ k) (sym (length-map places at_place)) some, places_in slots a.parts a.activity a.changes a.stamp all.table places a.count a.inv all.are, tt, time);
       },
       tt,
     )

@@ -20,7 +20,7 @@ use Rattle.model.specs.Drawn.{drawn_of, most_slots, drawn_for, drawn_for_clone, 
 use Rattle.law_invariants.specs.Operations.{PairsApart}
 use Rattle.law_invariants.specs.Invariant.{Inv}
 use Rattle.law_invariants.proofs.Finding.{in_filter, same_self, not_same}
-use Rattle.law_changes.proofs.Free.{RiseFrom}
+use Rattle.law_invariants.proofs.Free.{RiseFrom}
 use Rattle.law_clones.proofs.Pairing.{tables_then_apart, tables_pair_apart, all_free}
 use Rattle.law_clones.proofs.Accepting.{MayClone, tables_of, tablets_of, covers_it}
 use Rattle.law_clones.proofs.Growing.{taker_there}

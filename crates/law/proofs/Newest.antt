@@ -8,7 +8,6 @@ use Rattle.row_values.specs.Elements.{In}
 use Rattle.row_values.specs.Schema.{Schema}
 use Rattle.model.specs.Times.{ended, is_open, ended_by}
 use Rattle.model.specs.Catalog.{Catalog, TableRecord, latest, latest_from, end_table, end_tables, tables_at, kept_from, owner_of}
-use Rattle.model.specs.Journal as made
 use Rattle.model.specs.Journal.{TableView, NamespaceRestored, source_of, is_in, table_at}
 use Rattle.model.specs.Restored.{record_at, back_at, tables_back, restored_tables, newest, cloned, cloned_tables}
 use Rattle.model.specs.Drawn.{given_to, version_by, of_source, first_version}
@@ -16,12 +15,13 @@ use Rattle.law_store.proofs.Keys.{either_way}
 use Rattle.law_invariants.specs.Invariant.{RecordsRise, TablesStand, view_of}
 use Rattle.law_invariants.proofs.Finding.{same_equal, same_self}
 use Rattle.law_invariants.proofs.Records.{record_at_is}
-use Rattle.law_moves.proofs.Advancing.{mapped_some}
+use Rattle.law_invariants.proofs.Advancing.{mapped_some}
 use Rattle.law_moves.proofs.Backing.{then_is, then_has}
 use Rattle.model.specs.Records.{CloneRecord}
 use Rattle.law_clones.proofs.Pairing.{one_target_of}
 use Rattle.law_clones.proofs.Viewing.{clone, source_is, by_source}
 use Rattle.law_clones.proofs.Cataloguing.{MayTake, with_tables, cloned_is}
+use Rattle.model.specs.Journal as made
 
 -- a schema of a table has the version that the journal gives, and its next column an id that no column of it ever had
 pub record IsNewest (changes : List made.Change) (table : Id) (s : Schema) : Type 0 where
@@ -62,7 +62,7 @@ current_latest (r ∷ rs) t found rise (inl e) opened =
 current_latest (r ∷ rs) t found rise (inr isin) opened = current_latest rs t (if same r.id t.id then Some r.schema else found) rise.1 isin opened
 
 -- a table with a record has a newest one
-latest_there : (rs : List TableRecord) (q : TableRecord) (found : Option Schema) → In q rs → (k : Schema) × (latest_from rs q.id found ≡ Some k)
+pub latest_there : (rs : List TableRecord) (q : TableRecord) (found : Option Schema) → In q rs → (k : Schema) × (latest_from rs q.id found ≡ Some k)
 latest_there [] q found isin = absurd isin
 latest_there (r ∷ rs) q found (inl e) =
     let here : same r.id q.id ≡ true = ap (λ k. same k.id q.id) e ∙ same_self q.id in
@@ -158,19 +158,19 @@ back_latest (r ∷ ls) rs point id found s e = elim (back_latest ls rs point id 
 
 -- what stood at the time is what the view has in the namespace
 
-then_in : (c : Catalog) (time drawn : ℕ) (changes : List made.Change) (ns : Id) (to : ℕ) (q : TableRecord) → TablesStand c time drawn changes → kept_from c.kept_from ns ≤ to → In q (tables_at c.tables ns to) → is_in ns (table_at changes to q.id) ≡ true
+pub then_in : (c : Catalog) (time drawn : ℕ) (changes : List made.Change) (ns : Id) (to : ℕ) (q : TableRecord) → TablesStand c time drawn changes → kept_from c.kept_from ns ≤ to → In q (tables_at c.tables ns to) → is_in ns (table_at changes to q.id) ≡ true
 then_in c time drawn changes ns to q h known isin =
     let k = then_is c.tables ns to q isin in
     let owner : owner_of c.owners q.id ≡ Some ns = h.owned q k.0 ∙ ap Some k.1.1 in
     let is : table_at changes to q.id ≡ Some (view_of q) = h.viewed q.id ns to owner known ∙ ap (option_map view_of) (h.found to q k.0 k.1.0) in
     ap (is_in ns) is ∙ ap (λ i. same i ns) k.1.1 ∙ same_self ns
 
-record IsThen (rs : List TableRecord) (ns : Id) (to : ℕ) (id : Id) : Type 0 where
-  was : TableRecord
-  listed : In was (tables_at rs ns to)
-  id_is : was.id ≡ id
+pub record IsThen (rs : List TableRecord) (ns : Id) (to : ℕ) (id : Id) : Type 0 where
+  pub was : TableRecord
+  pub listed : In was (tables_at rs ns to)
+  pub id_is : was.id ≡ id
 
-in_then : (c : Catalog) (time drawn : ℕ) (changes : List made.Change) (ns : Id) (to : ℕ) (id : Id) → TablesStand c time drawn changes → kept_from c.kept_from ns ≤ to → is_in ns (table_at changes to id) ≡ true → IsThen c.tables ns to id
+pub in_then : (c : Catalog) (time drawn : ℕ) (changes : List made.Change) (ns : Id) (to : ℕ) (id : Id) → TablesStand c time drawn changes → kept_from c.kept_from ns ≤ to → is_in ns (table_at changes to id) ≡ true → IsThen c.tables ns to id
 in_then c time drawn changes ns to id h known is = by (table_at changes to id) refl is
   where
     by : (view : Option TableView) → table_at changes to id ≡ view → is_in ns view ≡ true → IsThen c.tables ns to id

@@ -1,5 +1,5 @@
 -- After each entry of a legal history the newest schemas go on from the journal's.
-use Rattle.std.proofs.Common.{◌≡◌, ℕ, ◌≤◌, ◌+◌, List, [], ◌∷◌, Option, Some, None, false, refl, sym, ap, subst, ◌∙◌, arith, not, le_trans}
+use Rattle.std.proofs.Common.{◌≡◌, ℕ, ◌≤◌, ◌<◌, ◌+◌, List, [], ◌∷◌, Option, Some, None, false, refl, sym, ap, subst, ◌∙◌, arith, not, le_trans, le_of_lt}
 use Rattle.std.specs.Prelude.{Result, Ok as Granted, Err as Denied}
 use Rattle.std.specs.Option.{option_map_or}
 use Rattle.std.proofs.lemmas.Bool.{cond_both}
@@ -8,10 +8,9 @@ use Rattle.row_values.specs.Slots.{has, same_slots}
 use Rattle.row_values.specs.Schema.{first_schema}
 use Rattle.model.specs.Activity.{Interval}
 use Rattle.model.specs.Catalog.{TableRecord, kept_from}
-use Rattle.model.specs.Journal as made
-use Rattle.model.specs.Records.{RestorationRecord, RestorationState, Fencing, Snapshotting, Switching, Restoring, Releasing, Restored, SnapshotRecord, CloneRecord, CloneState, Accepted, CloneSnapshot, Copying, CloneReleasing, CloneComplete, Schedule as ScheduleRecord, schedule_of, State, is_restored, first_unacked}
+use Rattle.model.specs.Records.{RestorationRecord, RestorationState, Switching, SnapshotRecord, CloneRecord, CloneState, Accepted, CloneSnapshot, Copying, CloneReleasing, CloneComplete, Schedule as ScheduleRecord, schedule_of, State, is_restored, first_unacked}
 use Rattle.model.specs.Acts.{Act, Look, Change, Write, Read, Cutoff, Compact, Send, Process, Ack, Advance, Remove, Prune, Restart, Stats, Command, CreateNamespace, DropNamespace, CreateTable, AddColumn, DropColumn, RenameTable, DropTable, Split, CreateSchedule, DeleteSchedule, TakeSnapshot, Restore, CloneNamespace, ListSchedules, ListSnapshots, ListRestorations, ListClones, ListTablets, Refusal, StalePlan, UnknownColumn, EditSchedule}
-use Rattle.model.specs.Parts.{Master, Parts, Outcome, MasterAct, Ticks, MakesNamespace, DropsNamespace, MakesTable, AddsColumn, DropsColumn, RenamesTable, DropsTable, SplitsTablet, MakesSchedule, DeletesSchedule, TakesSnapshot, BeginsRestoration, BeginsClone, Sends, Acks, Unsends, Moves, Removes, Prunes, Restarts, If, unless, refused, decided, refusal_in, EditsSchedule}
+use Rattle.model.specs.Parts.{Master, Parts, Outcome, MasterAct, Ticks, Sends, Acks, Unsends, Removes, Restarts, If, unless, refused, decided, refusal_in}
 use Rattle.model.specs.Changed.{next_namespace, next_table, clone_time}
 use Rattle.model.specs.Changes.{change, planned, create_namespace, drop_namespace, create_table, add_column, add_column_checks, drop_column, column_of, found_column, unheld_checks, rename_table, rename_table_checks, drop_table, split, create_schedule, delete_schedule, take_snapshot, restore, clone_namespace, list_tablets, judge_clone, judge_create_namespace, judge_drop_namespace, judge_create_table, judge_add_column, judge_drop_column, judge_rename_table, judge_drop_table, judge_split, judge_create_schedule, judge_delete_schedule, judge_take_snapshot, judge_restore, edit_schedule, judge_edit_schedule}
 use Rattle.model.specs.Cleanup.{prune, removed_of}
@@ -21,20 +20,22 @@ use Rattle.model.specs.Entries.{Entry, slots_of}
 use Rattle.model.specs.History.{outcome, told, master_effect, replay, journal_of, activity_of, with_changes, with_rows, with_either, with_restoration, with_clone, Legal}
 use Rattle.model.specs.Looks.{plan_of, found_namespace, found_table}
 use Rattle.model.specs.Moves.{Progress, advance, advancing, moving, moved_of, progress_of, waits_for, completed, restoration_moved, serving_clone, clone_goes, begins_clone, with_clones_snapshot, clone_moved}
-use Rattle.law_invariants.specs.Invariant.{Inv, TablesStand}
+use Rattle.law_invariants.specs.Invariant.{Inv, Later, TablesStand}
+use Rattle.law_invariants.specs.Operations.{RestorationStateGood}
 use Rattle.law_invariants.proofs.Cataloguing.{table_is}
 use Rattle.law_invariants.proofs.Judging.{and_found_is, checked_is}
 use Rattle.law_changes.proofs.Schemas.{column_found}
 use Rattle.row_values.specs.declared.value.Item.{Item}
 use Rattle.model.specs.Tablets.{Told}
-use Rattle.law_moves.proofs.Advancing.{no_restoration, no_clone}
-use Rattle.law_moves.proofs.Pending.{unfinished_restoration_is, unfinished_clone_is}
-use Rattle.law_moves.proofs.Serving.{floor_restores}
+use Rattle.law_invariants.proofs.Advancing.{no_restoration, no_clone}
+use Rattle.law_invariants.proofs.Pending.{unfinished_restoration_is, unfinished_clone_is}
+use Rattle.law_invariants.proofs.Serving.{floor_restores}
 use Rattle.law.proofs.Plain.{is_weighty, may_weigh, act_none}
 use Rattle.law.proofs.Schemas.{SchemasStand, namespace_changed, namespace_ended, rows_changed, table_made, column_added, column_dropped, table_renamed, table_dropped, tables_pruned, tables_restored, tables_cloned_on}
-use Rattle.law.proofs.Law.{legal_holds}
+use Rattle.law.proofs.Law.{legal_holds, stamps_later}
 use Rattle.row_values.specs.Elements.{In}
 use Rattle.law_clones.proofs.Growing.{Becomes, takes_catalog}
+use Rattle.model.specs.Journal as made
 
 abbrev Stand : Master → List made.Change → Type 0
 Stand m changes = SchemasStand m.catalog.tables changes
@@ -58,55 +59,55 @@ decided_go : {A : Type 0} (judgement : Result A Refusal) (go : A → Outcome) (c
 decided_go (Denied why) go command slots n ps changes h accepted = refused_go command slots n ps changes why h
 decided_go (Granted a) go command slots n ps changes h accepted = accepted a refl
 
-planned_go : (command : Command) (slots : List ℕ) (n : ℕ) (ps : Parts) (activity : List Interval) (changes : List made.Change) → Inv ps activity changes → Stand ps.master changes
+planned_go : (command : Command) (slots : List ℕ) (n : ℕ) (ps : Parts) (activity : List Interval) (changes : List made.Change) → ps.master.clock < n → Inv ps activity changes → Stand ps.master changes
     → GoesOn (Change command slots) n ps changes (planned command slots n ps)
 unfolding create_namespace drop_namespace create_table add_column drop_column rename_table drop_table split create_schedule edit_schedule delete_schedule take_snapshot restore clone_namespace list_tablets
-planned_go (CreateNamespace name) slots n ps activity changes inv h =
+planned_go (CreateNamespace name) slots n ps activity changes less inv h =
     decided_go (judge_create_namespace name ps.master) _ (CreateNamespace name) slots n ps changes h (λ id e. record { stand = namespace_changed ps.master.catalog.tables changes n (next_namespace ps.master) name h })
-planned_go (DropNamespace name) slots n ps activity changes inv h =
+planned_go (DropNamespace name) slots n ps activity changes less inv h =
     decided_go (judge_drop_namespace name ps.master) _ (DropNamespace name) slots n ps changes h (λ ns e. record { stand = namespace_ended ps.master.catalog.tables changes n ns h })
-planned_go (CreateTable namespace table tablets columns) slots n ps activity changes inv h =
-    decided_go (judge_create_table namespace table tablets ps.master) _ (CreateTable namespace table tablets columns) slots n ps changes h (λ ns e. record { stand = table_made ps.master.catalog.tables changes n (record { id = next_table ps.master; namespace = ns; name = table; schema = first_schema columns; from = n; to = None }) columns refl h })
-planned_go (AddColumn namespace table name kind) slots n ps activity changes inv h =
+planned_go (CreateTable namespace table tablets columns) slots n ps activity changes less inv h =
+    decided_go (judge_create_table namespace table tablets ps.master) _ (CreateTable namespace table tablets columns) slots n ps changes h (λ ns e. record { stand = table_made ps.master.catalog.tables changes n (record { id = next_table ps.master; namespace = ns; name = table; schema = first_schema columns; from = n; to = None }) columns refl refl h })
+planned_go (AddColumn namespace table name kind) slots n ps activity changes less inv h =
     let m = ps.master in
     decided_go (judge_add_column namespace table name m) _ (AddColumn namespace table name kind) slots n ps changes h
     (λ t e.
     let is = table_is m namespace table t (checked_is (found_table m namespace table) (λ t. add_column_checks t name m) t e).0 in
-    record { stand = column_added m.catalog.tables changes n t name kind inv.master.tables.rise is.listed is.current h })
-planned_go (DropColumn namespace table name) slots n ps activity changes inv h =
+    record { stand = column_added m.catalog.tables changes n t name kind inv.master.tables.rise is.listed is.current (le_trans (inv.master.tables.past _ is.listed).begun (le_of_lt less)) h })
+planned_go (DropColumn namespace table name) slots n ps activity changes less inv h =
     let m = ps.master in
     decided_go (judge_drop_column namespace table name m) _ (DropColumn namespace table name) slots n ps changes h
     (λ c e.
     let found = and_found_is (found_table m namespace table) (column_of name) UnknownColumn c (checked_is (found_column m namespace table name) (λ c. unheld_checks c.table.namespace m) c e).0 in
     let is = table_is m namespace table c.table (found.1.0 ∙ ap Granted (sym (column_found found.0 name c found.1.1).0)) in
-    record { stand = column_dropped m.catalog.tables changes n c.table c.column.name c.column.id inv.master.tables.rise is.listed is.current h })
-planned_go (RenameTable namespace table name) slots n ps activity changes inv h =
+    record { stand = column_dropped m.catalog.tables changes n c.table c.column.name c.column.id inv.master.tables.rise is.listed is.current (le_trans (inv.master.tables.past _ is.listed).begun (le_of_lt less)) h })
+planned_go (RenameTable namespace table name) slots n ps activity changes less inv h =
     let m = ps.master in
     decided_go (judge_rename_table namespace table name m) _ (RenameTable namespace table name) slots n ps changes h
     (λ t e.
     let is = table_is m namespace table t (checked_is (found_table m namespace table) (λ t. rename_table_checks t name m) t e).0 in
-    record { stand = table_renamed m.catalog.tables changes n t name inv.master.tables.rise is.listed is.current h })
-planned_go (DropTable namespace table) slots n ps activity changes inv h =
+    record { stand = table_renamed m.catalog.tables changes n t name inv.master.tables.rise is.listed is.current (le_trans (inv.master.tables.past _ is.listed).begun (le_of_lt less)) h })
+planned_go (DropTable namespace table) slots n ps activity changes less inv h =
     decided_go (judge_drop_table namespace table ps.master) _ (DropTable namespace table) slots n ps changes h (λ t e. record { stand = table_dropped ps.master.catalog.tables changes n t.id h })
-planned_go (Split namespace table code) slots n ps activity changes inv h =
+planned_go (Split namespace table code) slots n ps activity changes less inv h =
     decided_go (judge_split namespace table code ps.master) _ (Split namespace table code) slots n ps changes h (λ f e. record { stand = h })
-planned_go (CreateSchedule interval retention namespace) slots n ps activity changes inv h =
+planned_go (CreateSchedule interval retention namespace) slots n ps activity changes less inv h =
     decided_go (judge_create_schedule interval retention namespace ps.master) _ (CreateSchedule interval retention namespace) slots n ps changes h (λ ns e. record { stand = h })
-planned_go (EditSchedule schedule interval retention) slots n ps activity changes inv h =
+planned_go (EditSchedule schedule interval retention) slots n ps activity changes less inv h =
     decided_go (judge_edit_schedule schedule interval retention ps.master) _ (EditSchedule schedule interval retention) slots n ps changes h (λ s e. record { stand = h })
-planned_go (DeleteSchedule schedule) slots n ps activity changes inv h =
+planned_go (DeleteSchedule schedule) slots n ps activity changes less inv h =
     decided_go (judge_delete_schedule schedule ps.master) _ (DeleteSchedule schedule) slots n ps changes h (λ s e. record { stand = h })
-planned_go (TakeSnapshot schedule) slots n ps activity changes inv h =
+planned_go (TakeSnapshot schedule) slots n ps activity changes less inv h =
     decided_go (judge_take_snapshot schedule n ps.master) _ (TakeSnapshot schedule) slots n ps changes h (λ s e. record { stand = h })
-planned_go (Restore schedule to) slots n ps activity changes inv h =
+planned_go (Restore schedule to) slots n ps activity changes less inv h =
     decided_go (judge_restore schedule to n ps.master) _ (Restore schedule to) slots n ps changes h (λ s e. record { stand = h })
-planned_go (CloneNamespace source target to) slots n ps activity changes inv h =
+planned_go (CloneNamespace source target to) slots n ps activity changes less inv h =
     decided_go (judge_clone source target (clone_time to n) n ps.master) _ (CloneNamespace source target to) slots n ps changes h (λ s e. record { stand = h })
-planned_go ListSchedules slots n ps activity changes inv h = record { stand = h }
-planned_go ListSnapshots slots n ps activity changes inv h = record { stand = h }
-planned_go ListRestorations slots n ps activity changes inv h = record { stand = h }
-planned_go ListClones slots n ps activity changes inv h = record { stand = h }
-planned_go (ListTablets namespace) slots n ps activity changes inv h =
+planned_go ListSchedules slots n ps activity changes less inv h = record { stand = h }
+planned_go ListSnapshots slots n ps activity changes less inv h = record { stand = h }
+planned_go ListRestorations slots n ps activity changes less inv h = record { stand = h }
+planned_go ListClones slots n ps activity changes less inv h = record { stand = h }
+planned_go (ListTablets namespace) slots n ps activity changes less inv h =
     decided_go (found_namespace ps.master namespace) _ (ListTablets namespace) slots n ps changes h (λ ns e. record { stand = h })
 
 -- Acts that leave the tables
@@ -146,17 +147,17 @@ written (one ∷ rest) n table batch rs changes h = rows_changed batch rs change
 
 -- Moves
 
-state_go : (state : RestorationState) (r : RestorationRecord) (n : ℕ) (m : Master) (changes : List made.Change) → TablesStand m.catalog m.clock m.drawn.tables changes → (is_restored state ≡ false → kept_from m.catalog.kept_from r.namespace ≤ r.to) → Stand m changes
+state_go : (state : RestorationState) (r : RestorationRecord) (n : ℕ) (m : Master) (changes : List made.Change) → TablesStand m.catalog m.clock m.drawn.tables changes → (is_restored state ≡ false → kept_from m.catalog.kept_from r.namespace ≤ r.to) → RestorationStateGood state m changes r → Stand m changes
     → Stand (restoration_moved state r n m) (with_restoration state r changes)
-state_go (Switching point serving) r n m changes tables known h = tables_restored m changes r.namespace r.to point tables (known refl) h
-state_go _ r n m changes tables known h = h
+state_go (Switching point serving) r n m changes tables known good h = tables_restored m changes r.namespace r.to point tables (known refl) good.before.tables_begun h
+state_go _ r n m changes tables known good h = h
 
 restoration_go : (found : Option RestorationRecord) (n : ℕ) (ps : Parts) (activity : List Interval) (changes : List made.Change) (operation : Id) → unfinished_restoration ps.master.restorations operation ≡ found → Inv ps activity changes → Stand ps.master changes
     → Stand (option_map_or (λ r. restoration_moved r.state r n ps.master) found (record ps.master { clock = n })) (with_either found None n changes)
 restoration_go None n ps activity changes operation e inv h = h
 restoration_go (Some r) n ps activity changes operation e inv h =
     let is = unfinished_restoration_is ps.master.restorations operation r e in
-    state_go r.state r n ps.master changes inv.master.tables (λ unfinished. le_trans (inv.operations.kept r.namespace) (floor_restores ps.master changes r inv.operations is.0 unfinished)) h
+    state_go r.state r n ps.master changes inv.master.tables (λ unfinished. le_trans (inv.operations.kept r.namespace) (floor_restores ps.master changes r inv.operations is.0 unfinished)) (inv.operations.restorations r is.0).in_state h
 
 clone_state_go : (state : CloneState) (r : CloneRecord) (n : ℕ) (ps : Parts) (activity : List Interval) (changes : List made.Change) → In r ps.master.clones → r.state ≡ state → Inv ps activity changes → Stand ps.master changes
     → Stand (clone_moved state r n ps.master) (with_clone state r n changes)
@@ -221,34 +222,34 @@ advancing_go (Some p) operation n ps changes h moved = moving_go (waits_for (fir
 
 -- Each act
 
-act_left : (act : Act) (n : ℕ) (ps : Parts) (activity : List Interval) (changes : List made.Change) → Inv ps activity changes → Stand ps.master changes → Left act n ps changes
+act_left : (act : Act) (n : ℕ) (ps : Parts) (activity : List Interval) (changes : List made.Change) → Later (slots_of act) ps n → Inv ps activity changes → Stand ps.master changes → Left act n ps changes
 unfolding change advance prune
-act_left (Change command slots) n ps activity changes inv h =
+act_left (Change command slots) n ps activity changes later inv h =
     (unless_go (refusal_in (If (not (same_slots slots (plan_of command ps.master))) (StalePlan (plan_of command ps.master)) ∷ [])) command slots n ps changes (planned command slots n ps) h
-    (planned_go command slots n ps activity changes inv h)).stand
-act_left (Advance operation) n ps activity changes inv h =
+    (planned_go command slots n ps activity changes (later 0 refl) inv h)).stand
+act_left (Advance operation) n ps activity changes later inv h =
     (advancing_go (progress_of operation.kind ps.master operation) operation n ps changes h (kind_go operation.kind n ps activity changes operation refl inv h)).stand
-act_left Prune n ps activity changes inv h = tables_pruned ps.master n changes inv.master.tables h
-act_left (Write place version batch) n ps activity changes inv h =
+act_left Prune n ps activity changes later inv h = tables_pruned ps.master n changes inv.master.tables h
+act_left (Write place version batch) n ps activity changes later inv h =
     written (outcome (Write place version batch) n ps).tablets n (ps.tablet place.slot).table batch _ changes (plain_left (Write place version batch) n ps changes refl h)
-act_left (Look ask) n ps activity changes inv h = plain_left (Look ask) n ps changes refl h
-act_left (Read places version key at columns) n ps activity changes inv h = plain_left (Read places version key at columns) n ps changes refl h
-act_left (Cutoff slot) n ps activity changes inv h = plain_left (Cutoff slot) n ps changes refl h
-act_left (Compact slot) n ps activity changes inv h = plain_left (Compact slot) n ps changes refl h
-act_left (Send operation slot) n ps activity changes inv h = plain_left (Send operation slot) n ps changes refl h
-act_left (Process slot other) n ps activity changes inv h = plain_left (Process slot other) n ps changes refl h
-act_left (Ack operation slot) n ps activity changes inv h = plain_left (Ack operation slot) n ps changes refl h
-act_left (Remove target slots) n ps activity changes inv h = plain_left (Remove target slots) n ps changes refl h
-act_left (Restart slot) n ps activity changes inv h = plain_left (Restart slot) n ps changes refl h
-act_left (Stats slot) n ps activity changes inv h = plain_left (Stats slot) n ps changes refl h
+act_left (Look ask) n ps activity changes later inv h = plain_left (Look ask) n ps changes refl h
+act_left (Read places version key at columns) n ps activity changes later inv h = plain_left (Read places version key at columns) n ps changes refl h
+act_left (Cutoff slot) n ps activity changes later inv h = plain_left (Cutoff slot) n ps changes refl h
+act_left (Compact slot) n ps activity changes later inv h = plain_left (Compact slot) n ps changes refl h
+act_left (Send operation slot) n ps activity changes later inv h = plain_left (Send operation slot) n ps changes refl h
+act_left (Process slot other) n ps activity changes later inv h = plain_left (Process slot other) n ps changes refl h
+act_left (Ack operation slot) n ps activity changes later inv h = plain_left (Ack operation slot) n ps changes refl h
+act_left (Remove target slots) n ps activity changes later inv h = plain_left (Remove target slots) n ps changes refl h
+act_left (Restart slot) n ps activity changes later inv h = plain_left (Restart slot) n ps changes refl h
+act_left (Stats slot) n ps activity changes later inv h = plain_left (Stats slot) n ps changes refl h
 
-all_stand : (history : List Entry) (slots : ℕ) → Legal slots history → Stand (replay slots history).master (journal_of slots history)
+pub all_stand : (history : List Entry) (slots : ℕ) → Legal slots history → Stand (replay slots history).master (journal_of slots history)
 unfolding replay journal_of
-all_stand [] slots legal = record { columns = tt; newest = λ table s e. absurd (let q = e in grind arith) }
+all_stand [] slots legal = record { columns = tt; newest = λ table s e. absurd (let q = e in grind arith); versions = tt }
 all_stand (e ∷ earlier) slots legal =
     let ps = replay slots earlier in
     let changes = journal_of slots earlier in
-    act_left e.event.act e.stamp ps (activity_of slots earlier) changes (legal_holds earlier slots legal.0).inv (all_stand earlier slots legal.0)
+    act_left e.event.act e.stamp ps (activity_of slots earlier) changes (stamps_later e ps legal.1.stamp) (legal_holds earlier slots legal.0).inv (all_stand earlier slots legal.0)
 
 pub schemas_drawn : (history : List Entry) (slots : ℕ) → Legal slots history → SchemasDrawn (replay slots history).master (journal_of slots history)
 schemas_drawn history slots legal =

@@ -8,7 +8,7 @@ use Rattle.model.specs.Catalog.{is_owned_by, owner_of}
 use Rattle.model.specs.Activity.{Interval}
 use Rattle.model.specs.Journal.{Change, source_of}
 use Rattle.model.specs.Tablets.{Tablet, BodyKind, FenceKind, FreezeKind, ReleaseKind, kind_of, is_done, holds_command}
-use Rattle.model.specs.Records.{IdPair, RestorationRecord, RestorationState, Fencing, Snapshotting, Switching, Restoring, Releasing, Restored, CloneRecord, CloneState, Accepted, CloneSnapshot, Copying, CloneReleasing, CloneComplete, is_restored, is_cloned}
+use Rattle.model.specs.Records.{IdPair, RestorationRecord, RestorationState, Fencing, Snapshotting, Switching, Restoring, Releasing, Restored, CloneRecord, CloneState, Copying, CloneReleasing, CloneComplete, is_restored, is_cloned}
 use Rattle.model.specs.Parts.{Master, Parts}
 use Rattle.model.specs.Stands.{was_given, AllFenced, NoneFenced, RestorationStateFacts, CloneStateFacts, FenceFacts, RecordFacts, AreRowsAt}
 use Rattle.law_store.proofs.Keys.{either_way}
@@ -17,7 +17,7 @@ use Rattle.law_invariants.specs.Orders.{IsAfter, RestorationSlot, CloneSlot, Fen
 use Rattle.law_invariants.specs.Invariant.{SlotWorks, Inv}
 use Rattle.law_invariants.proofs.Finding.{same_equal, same_self, either_is}
 use Rattle.law_invariants.proofs.Ordering.{place_left, clone_left}
-use Rattle.law_commands.proofs.Marks.{mark_there, command_there}
+use Rattle.law_invariants.proofs.DoneMarks.{mark_there, command_there}
 use Rattle.law_invariants.proofs.Undoing.{owned_is}
 
 -- Marks and commands

@@ -8,7 +8,7 @@ use Rattle.model.specs.History.{Legal, entry_of, replay}
 use Rattle.model.specs.Replies.{Right}
 use Rattle.model.specs.Settling.{event_of}
 use Rattle.model.specs.Scripts.{ScriptCommand, Numbered}
-use Rattle.model_runs.specs.Courses.{Course, SetReading, SetLag, Perform, LookFor, WorkOff, ShowEntries, course_of}
+use Rattle.model_runs.specs.Courses.{Course, Perform, LookFor, WorkOff, ShowEntries, course_of}
 use Rattle.model_runs.specs.Running.{Run, may_follow, with_event, reading_for, performed, performed_all, worked_off, after_look, followed, taken, made_by, with_text, text_of, ran, run_from, run_of, begun}
 
 -- commands and then more

@@ -13,6 +13,7 @@ use Rattle.model.specs.Scripts.{ScriptCommand, Numbered}
 use Rattle.model_runs.specs.Courses.{Found, found_by, Course, SetReading, SetLag, Perform, LookFor, WorkOff, ShowEntries, course_of, ScriptAsked}
 use Rattle.model_runs.specs.Running.{Run, may_follow, with_event, reading_for, performed, performed_all, worked_off, after_look, followed, taken, made_by, with_text, text_of, ran, run_from, run_of, begun}
 use Rattle.law_invariants.proofs.Finding.{both_pass}
+use Rattle.law.proofs.Answered.{entry_right}
 use Rattle.law.proofs.Law.{legal_holds}
 use Rattle.law.proofs.Slots.{replay_slots}
 use Rattle.law.proofs.TabletKinds.{replay_kinds}
@@ -80,7 +81,6 @@ look_answers : (slots : ℕ) (ask : Ask) (r : Run) → IsLegalRun slots (with_en
 unfolding entry_of
 look_answers slots ask r h =
     let before = legal_holds r.history slots h.legal.0 in
-    let after = legal_holds (with_entry slots (event_for (Look ask) r) r).history slots h.legal in
     record {
       stamp = stamp_of (event_for (Look ask) r) (replay slots r.history);
       parts = replay slots r.history;
@@ -91,7 +91,7 @@ look_answers slots ask r h =
       inv = before.inv;
       kinds = replay_kinds r.history slots;
       is = refl;
-      right = after.right.1.0;
+      right = entry_right _ _ slots h.legal;
     }
 
 -- a look, and the acts that follow it where each reply that it may have makes them fit

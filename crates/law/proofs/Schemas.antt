@@ -1,12 +1,12 @@
 -- The schemas that the catalog keeps go on from the journal's, after each entry of a legal history.
-use Rattle.std.proofs.Common.{◌≡◌, ℕ, ◌≤◌, ◌<◌, ◌+◌, true, false, List, [], ◌∷◌, ◌++◌, inl, inr, Option, Some, None, refl, sym, ap, ◌∙◌, arith, max, length, fold, not, if◌then◌else◌}
+use Rattle.std.proofs.Common.{◌≡◌, ℕ, ◌≤◌, ◌<◌, ◌+◌, true, false, List, [], ◌∷◌, ◌++◌, inl, inr, Option, Some, None, refl, sym, ap, ◌∙◌, le_trans, arith, max, length, fold, not, if◌then◌else◌}
 use Rattle.std.proofs.lemmas.Bool.{true≢false, leb-true, leb-false}
 use Rattle.std.proofs.lemmas.Bool.Decides.{nat_tests}
 use Rattle.row_values.specs.declared.value.Item.{Item}
-use Rattle.row_values.specs.Ids.{Id}
+use Rattle.row_values.specs.Ids.{Id, same}
 use Rattle.row_values.specs.Elements.{In}
 use Rattle.row_values.specs.Schema.{Schema, Column, ColumnKind, NewColumn, numbered, first_schema, with_column, without_column}
-use Rattle.model.specs.Times.{ended_by, is_open}
+use Rattle.model.specs.Times.{ended, ended_by, is_open}
 use Rattle.model.specs.Catalog.{kept_from, owner_of, TableRecord, end_table, change_table}
 use Rattle.model.specs.Journal as made
 use Rattle.model.specs.Journal.{NamespaceMade, NamespaceDropped, TableMade, TableRenamed, TableDropped, ColumnAdded, ColumnDropped, NamespaceRestored, RowChanged}
@@ -19,6 +19,8 @@ use Rattle.std.specs.List.{filter}
 use Rattle.law_invariants.specs.Invariant.{EndsBy, RecordsRise, TablesStand}
 use Rattle.law_invariants.proofs.Finding.{same_self}
 use Rattle.law.proofs.Newest.{AllNewest, newest_added, newest_ended, newest_back, newest_cloned, current_latest, pruned_latest, YoungAfter}
+use Rattle.law.proofs.Versions.{VersionsFollow, version_plain, versions_same, versions_added, versions_ended, versions_pruned, version_current, versions_back, versions_cloned}
+use Rattle.model.specs.Answers.{version_at}
 use Rattle.model.specs.Records.{CloneRecord}
 use Rattle.law_clones.proofs.Viewing.{clone}
 use Rattle.law_clones.proofs.Cataloguing.{MayTake, with_tables}
@@ -27,6 +29,7 @@ use Rattle.law_clones.proofs.Cataloguing.{MayTake, with_tables}
 pub record SchemasStand (rs : List TableRecord) (changes : List made.Change) : Type 0 where
   pub columns : ColumnsNew changes
   pub newest : AllNewest rs changes
+  pub versions : VersionsFollow rs changes
 
 -- Columns of a new table
 
@@ -46,21 +49,33 @@ greatest_is columns = let e : greatest_id (numbered 1 columns) ≡ 0 + length co
 -- Changes that are none of a schema
 
 pub namespace_changed : (rs : List TableRecord) (changes : List made.Change) (n : ℕ) (id : Id) (name : List ℕ) → SchemasStand rs changes → SchemasStand rs (with n (NamespaceMade id name) changes)
-namespace_changed rs changes n id name h = record { columns = (h.columns, tt); newest = λ table s e. let k = h.newest table s e in record { next = k.next; version = k.version } }
+namespace_changed rs changes n id name h = record {
+  columns = (h.columns, tt);
+  newest = λ table s e. let k = h.newest table s e in record { next = k.next; version = k.version };
+  versions = versions_same rs changes (with n (NamespaceMade id name) changes) (λ table x. version_plain n (NamespaceMade id name) changes x table refl) h.versions;
+}
 
 pub namespace_ended : (rs : List TableRecord) (changes : List made.Change) (n : ℕ) (id : Id) → SchemasStand rs changes → SchemasStand rs (with n (NamespaceDropped id) changes)
-namespace_ended rs changes n id h = record { columns = (h.columns, tt); newest = λ table s e. let k = h.newest table s e in record { next = k.next; version = k.version } }
+namespace_ended rs changes n id h = record {
+  columns = (h.columns, tt);
+  newest = λ table s e. let k = h.newest table s e in record { next = k.next; version = k.version };
+  versions = versions_same rs changes (with n (NamespaceDropped id) changes) (λ table x. version_plain n (NamespaceDropped id) changes x table refl) h.versions;
+}
 
 pub rows_changed : (items : List Item) (rs : List TableRecord) (changes : List made.Change) (n : ℕ) (table : Id) → SchemasStand rs changes → SchemasStand rs (rows_made n table items changes)
 rows_changed [] rs changes n table h = h
 rows_changed (item ∷ items) rs changes n table h = rows_changed items rs (record { stamp = n; act = RowChanged table item.key item.op } ∷ changes) n table
-    (record { columns = (h.columns, tt); newest = λ t s e. let k = h.newest t s e in record { next = k.next; version = k.version } })
+    (record {
+      columns = (h.columns, tt);
+      newest = λ t s e. let k = h.newest t s e in record { next = k.next; version = k.version };
+      versions = versions_same rs changes (with n (RowChanged table item.key item.op) changes) (λ t x. version_plain n (RowChanged table item.key item.op) changes x t refl) h.versions;
+    })
 
 -- Changes of a table
 
-pub table_made : (rs : List TableRecord) (changes : List made.Change) (n : ℕ) (r : TableRecord) (columns : List NewColumn) → r.schema ≡ first_schema columns → SchemasStand rs changes
+pub table_made : (rs : List TableRecord) (changes : List made.Change) (n : ℕ) (r : TableRecord) (columns : List NewColumn) → r.schema ≡ first_schema columns → r.from ≡ n → SchemasStand rs changes
     → SchemasStand (rs ++ r ∷ []) (with n (TableMade r.id r.namespace r.name (numbered 1 columns)) changes)
-table_made rs changes n r columns is h = record {
+table_made rs changes n r columns is from h = record {
   columns = (h.columns, numbered_new columns 1);
   newest = newest_added rs r changes (with n (TableMade r.id r.namespace r.name (numbered 1 columns)) changes)
       (λ table s other k. record {
@@ -72,15 +87,18 @@ table_made rs changes n r columns is h = record {
         version = ap (λ s. s.version) is ∙ sym (ap (λ b. if b then 1 else version_by changes r.id) (same_self r.id));
       })
       h.newest;
+  versions = versions_added rs r n (TableMade r.id r.namespace r.name (numbered 1 columns)) changes from
+      (λ id x other. ap (λ b. if b then 1 else version_at changes x id) other)
+      (λ x le. ap (λ b. if b then 1 else version_at changes x r.id) (same_self r.id) ∙ sym (ap (λ s. s.version) is)) h.versions;
 }
 
 -- the record of a table gives way to one under a new schema, as the journal has it
 abbrev Replaces : List TableRecord → TableRecord → List ℕ → Schema → ℕ → List made.Change → made.ChangeAct → Type 0
 Replaces rs t name schema n changes act = SchemasStand rs changes → SchemasStand (change_table t name schema n rs) (with n act changes)
 
-pub column_added : (rs : List TableRecord) (changes : List made.Change) (n : ℕ) (t : TableRecord) (name : List ℕ) (kind : ColumnKind) → RecordsRise rs → In t rs → is_open t.to ≡ true
+pub column_added : (rs : List TableRecord) (changes : List made.Change) (n : ℕ) (t : TableRecord) (name : List ℕ) (kind : ColumnKind) → RecordsRise rs → In t rs → is_open t.to ≡ true → t.from ≤ n
     → Replaces rs t t.name (with_column name kind t.schema) n changes (ColumnAdded t.id (record { id = t.schema.next; name = name; kind = kind }))
-column_added rs changes n t name kind rise isin opened h =
+column_added rs changes n t name kind rise isin opened begun h =
     let own = h.newest t.id t.schema (current_latest rs t None rise isin opened) in
     let act = ColumnAdded t.id (record { id = t.schema.next; name = name; kind = kind }) in
     record {
@@ -96,11 +114,15 @@ column_added rs changes n t name kind rise isin opened h =
             version = ap (λ v. v + 1) own.version ∙ sym (ap (λ b. if b then version_by changes t.id + 1 else version_by changes t.id) (same_self t.id));
           })
           (newest_ended rs t.id n changes h.newest);
+      versions = versions_added (end_table t.id n rs) (record t { schema = with_column name kind t.schema; from = n; to = None }) n (ColumnAdded t.id (record { id = t.schema.next; name = name; kind = kind })) changes refl
+          (λ id x other. ap (λ b. if b then version_at changes x id + 1 else version_at changes x id) other)
+          (λ x le. ap (λ b. if b then version_at changes x t.id + 1 else version_at changes x t.id) (same_self t.id) ∙ ap (λ v. v + 1) (version_current rs t changes x rise h.versions isin opened (le_trans begun le)))
+          (versions_ended rs (λ r. if same r.id t.id then ended n r.to else r.to) changes h.versions);
     }
 
-pub column_dropped : (rs : List TableRecord) (changes : List made.Change) (n : ℕ) (t : TableRecord) (name : List ℕ) (column : ℕ) → RecordsRise rs → In t rs → is_open t.to ≡ true
+pub column_dropped : (rs : List TableRecord) (changes : List made.Change) (n : ℕ) (t : TableRecord) (name : List ℕ) (column : ℕ) → RecordsRise rs → In t rs → is_open t.to ≡ true → t.from ≤ n
     → Replaces rs t t.name (without_column name t.schema) n changes (ColumnDropped t.id column)
-column_dropped rs changes n t name column rise isin opened h =
+column_dropped rs changes n t name column rise isin opened begun h =
     let own = h.newest t.id t.schema (current_latest rs t None rise isin opened) in
     record {
       columns = (h.columns, tt);
@@ -114,11 +136,15 @@ column_dropped rs changes n t name column rise isin opened h =
             version = ap (λ v. v + 1) own.version ∙ sym (ap (λ b. if b then version_by changes t.id + 1 else version_by changes t.id) (same_self t.id));
           })
           (newest_ended rs t.id n changes h.newest);
+      versions = versions_added (end_table t.id n rs) (record t { schema = without_column name t.schema; from = n; to = None }) n (ColumnDropped t.id column) changes refl
+          (λ id x other. ap (λ b. if b then version_at changes x id + 1 else version_at changes x id) other)
+          (λ x le. ap (λ b. if b then version_at changes x t.id + 1 else version_at changes x t.id) (same_self t.id) ∙ ap (λ v. v + 1) (version_current rs t changes x rise h.versions isin opened (le_trans begun le)))
+          (versions_ended rs (λ r. if same r.id t.id then ended n r.to else r.to) changes h.versions);
     }
 
-pub table_renamed : (rs : List TableRecord) (changes : List made.Change) (n : ℕ) (t : TableRecord) (name : List ℕ) → RecordsRise rs → In t rs → is_open t.to ≡ true
+pub table_renamed : (rs : List TableRecord) (changes : List made.Change) (n : ℕ) (t : TableRecord) (name : List ℕ) → RecordsRise rs → In t rs → is_open t.to ≡ true → t.from ≤ n
     → Replaces rs t name t.schema n changes (TableRenamed t.id name)
-table_renamed rs changes n t name rise isin opened h =
+table_renamed rs changes n t name rise isin opened begun h =
     let own = h.newest t.id t.schema (current_latest rs t None rise isin opened) in
     record {
       columns = (h.columns, tt);
@@ -126,12 +152,18 @@ table_renamed rs changes n t name rise isin opened h =
           (λ table s other k. record { next = k.next; version = k.version })
           (record { next = own.next; version = own.version })
           (newest_ended rs t.id n changes h.newest);
+      versions = versions_added (end_table t.id n rs) (record t { name = name; from = n; to = None }) n (TableRenamed t.id name) changes refl
+          (λ id x other. refl)
+          (λ x le. version_current rs t changes x rise h.versions isin opened (le_trans begun le))
+          (versions_ended rs (λ r. if same r.id t.id then ended n r.to else r.to) changes h.versions);
     }
 
 pub table_dropped : (rs : List TableRecord) (changes : List made.Change) (n : ℕ) (id : Id) → SchemasStand rs changes → SchemasStand (end_table id n rs) (with n (TableDropped id) changes)
 table_dropped rs changes n id h = record {
   columns = (h.columns, tt);
   newest = λ table s e. let k = newest_ended rs id n changes h.newest table s e in record { next = k.next; version = k.version };
+  versions = versions_ended rs (λ r. if same r.id id then ended n r.to else r.to) (with n (TableDropped id) changes)
+      (versions_same rs changes (with n (TableDropped id) changes) (λ table x. version_plain n (TableDropped id) changes x table refl) h.versions);
 }
 
 -- Old records go
@@ -158,15 +190,21 @@ pub tables_pruned : (m : Master) (n : ℕ) (changes : List made.Change) → Tabl
 tables_pruned m n changes h stand = record {
   columns = stand.columns;
   newest = λ table s e. stand.newest table s (pruned_latest m.catalog.tables (is_old_table m n) table None s (young_after m.catalog.tables m n changes h.rise (λ r isin. isin) h) e);
+  versions = versions_pruned m.catalog.tables (is_old_table m n) changes (young_after m.catalog.tables m n changes h.rise (λ r isin. isin) h) stand.versions;
 }
 
-pub tables_restored : (m : Master) (changes : List made.Change) (ns : Id) (to point : ℕ) → TablesStand m.catalog m.clock m.drawn.tables changes → kept_from m.catalog.kept_from ns ≤ to → SchemasStand m.catalog.tables changes
+pub tables_restored : (m : Master) (changes : List made.Change) (ns : Id) (to point : ℕ) → TablesStand m.catalog m.clock m.drawn.tables changes → kept_from m.catalog.kept_from ns ≤ to → ((q : TableRecord) → In q m.catalog.tables → q.namespace ≡ ns → q.from < point) → SchemasStand m.catalog.tables changes
     → SchemasStand (restored_tables m.catalog.tables ns to point) (with point (NamespaceRestored ns to) changes)
-tables_restored m changes ns to point h known stand = record {
+tables_restored m changes ns to point h known begun stand = record {
   columns = (stand.columns, tt);
   newest = newest_back m.catalog m.clock m.drawn.tables changes ns to point h known stand.newest;
+  versions = versions_back m.catalog m.clock m.drawn.tables changes ns to point h known begun stand.versions;
 }
 
 pub tables_cloned_on : (m : Master) (changes : List made.Change) (r : CloneRecord) (n : ℕ) → TablesStand m.catalog m.clock m.drawn.tables changes → MayTake m.catalog m.drawn.tables changes r → SchemasStand m.catalog.tables changes
     → SchemasStand (with_tables m.catalog r n) (clone n r changes)
-tables_cloned_on m changes r n h take stand = record { columns = (stand.columns, tt); newest = newest_cloned m.catalog m.clock m.drawn.tables changes r n h take stand.newest }
+tables_cloned_on m changes r n h take stand = record {
+  columns = (stand.columns, tt);
+  newest = newest_cloned m.catalog m.clock m.drawn.tables changes r n h take stand.newest;
+  versions = versions_cloned m.catalog m.clock m.drawn.tables changes r n h take stand.versions;
+}

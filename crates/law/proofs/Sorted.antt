@@ -1,14 +1,14 @@
 -- A new clone's tables and tablets stand in order, and have the next numbers.
-use Rattle.std.proofs.Common.{ℕ, ◌≡◌, ◌≤◌, ◌<◌, ◌+◌, List, [], ◌∷◌, ◌++◌, map, Bool, true, false, cond, ◌&&◌, ◌||◌, inl, inr, refl, sym, ap, subst, ◌∙◌, arith, le_trans, ltb, ltb-true, eqb}
+use Rattle.std.proofs.Common.{ℕ, ◌≡◌, ◌≤◌, ◌<◌, ◌+◌, List, [], ◌∷◌, map, Bool, true, false, cond, ◌&&◌, ◌||◌, inl, inr, refl, sym, ap, subst, ◌∙◌, arith, le_trans, ltb, ltb-true, eqb}
 use Rattle.std.proofs.lemmas.Bool.{true≢false}
 use Rattle.std.proofs.lemmas.Bool.Decides.{nat_tests}
 use Rattle.row_values.specs.Ids.{Id, Kind, Table, Tablet, same}
 use Rattle.row_values.specs.Elements.{In, put_in, in_order}
 use Rattle.model.specs.Activity.{Interval}
 use Rattle.model.specs.Catalog.{TableRecord, put_table, by_id}
-use Rattle.model.specs.Records.{IdPair, TabletPair, CloneRecord}
+use Rattle.model.specs.Records.{IdPair, TabletPair}
 use Rattle.model.specs.Changed.{pair_tables, pair_tablets, target_in}
-use Rattle.model.specs.Drawn.{AreNext, clones_made, is_pair_before}
+use Rattle.model.specs.Drawn.{AreNext, is_pair_before}
 use Rattle.law_store.proofs.Keys.{either_way}
 use Rattle.law_invariants.proofs.Finding.{same_self, not_same}
 use Rattle.law_clones.proofs.Pairing.{TablesApart, table_pair, target_there}
@@ -176,13 +176,3 @@ pair_tablets_chained (i ∷ j ∷ is) (slot ∷ other ∷ slots) drawn from ts h
   pair_behind ts from i j h apart kinds (tables i (inl refl)) (tables j (inr (inl refl))) chain.0,
   pair_tablets_chained (j ∷ is) (other ∷ slots) (drawn + 1) from ts h apart kinds (λ k isin. tables k (inr isin)) chain.1,
 )
-
--- The clone that a command made
-
-pub made_one : (cs : List CloneRecord) (c : CloneRecord) → ((d : CloneRecord) → In d cs → same d.id c.id ≡ false) → clones_made (c.id ∷ []) (cs ++ c ∷ []) ≡ c ∷ []
-made_one [] c apart = let b = same_self c.id in rw b refl
-made_one (d ∷ cs) c apart = let b = apart d (inl refl) in rw b (made_one cs c (λ e isin. apart e (inr isin)))
-
-pub none_made : (cs : List CloneRecord) → clones_made [] cs ≡ []
-none_made [] = refl
-none_made (c ∷ cs) = none_made cs

@@ -1,4 +1,5 @@
--- The tablets stand for the journal: the reads of a live store and of frozen sets are those of the view.
+-- The parts hold the tablets that the master knows, and stand for the journal: the reads of a live store and of frozen sets are
+-- those of the view.
 use Rattle.std.proofs.Common.{ℕ, ◌≡◌, List, Option, Some, None, true, false, not, refl, sym, ap, ◌∙◌, eqb, arith}
 use Rattle.std.proofs.lemmas.Bool.Decides.{nat_tests}
 use Rattle.std.specs.Option.{is_some}
@@ -56,6 +57,9 @@ frozen_stands ps activity changes slot f present held inv = record {
 
 pub all_stand : (ps : Parts) (activity : List Interval) (changes : List Change) → Inv ps activity changes → Stands ps changes
 all_stand ps activity changes inv = record {
+  held = λ i isin. let g = (inv.slots i.slot).each i isin refl in record { present = g.present; tablet_is = g.tablet_is; table_is = g.table_is; low_is = g.low_is; high_is = g.high_is };
+  serves = λ i isin opened came. ((inv.slots i.slot).each i isin refl).serves opened came;
+  active = λ slot serving unfenced. let o = (inv.slots slot).opens serving unfenced in (o.interval, (o.listed, (o.slot_is, o.opened)));
   live = λ slot present. live_stands ps activity changes slot present inv;
   frozen = λ slot f present held. frozen_stands ps activity changes slot f present held inv;
 }

@@ -84,5 +84,4 @@ start_holds slots = record {
       clones = λ c isin. absurd isin;
     };
   };
-  late = tt;
 }

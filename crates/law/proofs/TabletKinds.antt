@@ -1,6 +1,6 @@
 -- After each entry the tables and tablets that the master knows, and those that clones are to make, have identifiers of
 -- their kinds.
-use Rattle.std.proofs.Common.{ℕ, ◌≡◌, ◌∙◌, List, [], ◌∷◌, ◌++◌, map, Option, Some, None, true, false, cond, inl, inr, refl, sym, ap, not, length, ◌+◌}
+use Rattle.std.proofs.Common.{ℕ, ◌≡◌, ◌∙◌, List, [], ◌∷◌, ◌++◌, map, Option, Some, None, false, cond, inl, inr, refl, sym, ap, not, length, ◌+◌}
 use Rattle.std.specs.Option.{option_map_or}
 use Rattle.std.proofs.lemmas.Bool.{cond_both, true≢false}
 use Rattle.row_values.specs.Ids.{Id, Kind, Namespace, Table, Tablet, Schedule, Snapshot, Restoration, Clone, same}
@@ -20,7 +20,7 @@ use Rattle.model.specs.Parts.{Master, MasterAct, Ticks, MakesNamespace, DropsNam
 use Rattle.model.specs.Entries.{Entry, slots_of}
 use Rattle.model.specs.History.{master_effect, outcome, replay}
 use Rattle.law_invariants.proofs.Finding.{in_append, in_added, in_mapped, filter_in}
-use Rattle.law_moves.proofs.Pending.{unfinished_clone_is}
+use Rattle.law_invariants.proofs.Pending.{unfinished_clone_is}
 use Rattle.model.specs.Acts.{Ack, Act, AddColumn, Advance, Change, CloneNamespace, Command, Compact, CreateNamespace, CreateSchedule, CreateTable, Cutoff, DeleteSchedule, DropColumn, DropNamespace, DropTable, EditSchedule, ListClones, ListRestorations, ListSchedules, ListSnapshots, ListTablets, Look, Process, Prune, Read, Refusal, Remove, RenameTable, Restart, Restore, Send, Split, Stats, TakeSnapshot, UnknownColumn, Write}
 use Rattle.std.specs.Prelude.{Err as Denied, Ok as Granted, Result}
 use Rattle.row_values.specs.Schema.{Schema}

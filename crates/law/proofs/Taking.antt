@@ -3,11 +3,11 @@ use Rattle.std.proofs.Common.{◌≡◌, ℕ, ◌<◌, Bool, true, List, [], ◌
 use Rattle.std.specs.Option.{option_map_or}
 use Rattle.std.proofs.lemmas.Bool.{cond_both}
 use Rattle.std.proofs.lemmas.Bool.Decides.{nat_tests}
-use Rattle.row_values.specs.Ids.{Id, Kind, Namespace, Table, Tablet, Schedule, Snapshot, Restoration, Clone, same}
+use Rattle.row_values.specs.Ids.{Id, Kind, Snapshot, Restoration, Clone, same}
 use Rattle.row_values.specs.Elements.{In}
 use Rattle.row_values.specs.Slots.{has}
-use Rattle.model.specs.Records.{Schedule as ScheduleRecord, Listed, SnapshotRecord, RestorationRecord, RestorationState, Fencing, Snapshotting, Switching, Restoring, Releasing, Restored, CloneRecord, CloneState, Accepted, CloneSnapshot, Copying, CloneReleasing, CloneComplete, schedule_of}
-use Rattle.model.specs.Parts.{Master, Parts, MasterAct, Ticks, MakesNamespace, DropsNamespace, MakesTable, AddsColumn, DropsColumn, RenamesTable, DropsTable, SplitsTablet, MakesSchedule, EditsSchedule, DeletesSchedule, TakesSnapshot, BeginsRestoration, BeginsClone, Sends, Acks, Unsends, Moves, Removes, Prunes, Restarts}
+use Rattle.model.specs.Records.{Schedule as ScheduleRecord, Listed, SnapshotRecord, RestorationRecord, RestorationState, Fencing, CloneRecord, CloneState, Accepted, schedule_of}
+use Rattle.model.specs.Parts.{Master, Parts, MasterAct, TakesSnapshot, Acks, Moves, Removes}
 use Rattle.model.specs.Cleanup.{removed_of}
 use Rattle.model.specs.Coordination.{acked_by, unfinished_snapshot, unfinished_restoration, unfinished_clone}
 use Rattle.model.specs.Drawn.{IsAsTaken, SnapshotsAsTaken}

@@ -5,8 +5,8 @@ use Rattle.std.specs.List.{filter}
 use Rattle.std.proofs.lemmas.Bool.{cond_both}
 use Rattle.row_values.specs.Ids.{Id}
 use Rattle.row_values.specs.Elements.{In, AllOf}
-use Rattle.model.specs.Tablets.{Command, Body, Fence, Freeze, RestoreFrom, Hide, Copy, Release}
-use Rattle.model.specs.Records.{Listed, Sent, RestorationRecord, RestorationState, Fencing, Snapshotting, Switching, Restoring, Releasing, Restored, CloneRecord, CloneState, Accepted, CloneSnapshot, Copying, CloneReleasing, CloneComplete, is_restored, is_cloned, is_sent, first_unacked}
+use Rattle.model.specs.Tablets.{Command, Body, Fence, Freeze, RestoreFrom, Hide, Release}
+use Rattle.model.specs.Records.{Listed, Sent, RestorationRecord, RestorationState, Fencing, Restoring, Releasing, CloneRecord, CloneState, Accepted, CloneSnapshot, Copying, CloneReleasing, CloneComplete, is_restored, is_cloned, is_sent, first_unacked}
 use Rattle.model.specs.Journal.{Change as Made}
 use Rattle.model.specs.Activity.{Interval}
 use Rattle.model.specs.Acts.{Act, WorkItem, SendWork, CollectWork, AdvanceWork}

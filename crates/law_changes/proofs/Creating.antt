@@ -1,11 +1,10 @@
 -- A table is made: its tablets are made in free slots, and their activity begins.
-use Rattle.std.proofs.Common.{ℕ, ◌≡◌, ◌≤◌, ◌<◌, ◌+◌, ◌*◌, ◌/◌, List, [], ◌∷◌, ◌++◌, length, take, Some, None, true, false, cond, ◌&&◌, inl, inr, refl, sym, ap, subst, ◌∙◌, arith, not, eqb, leb, le_trans, le_refl, le_of_lt, leb-true, ltb-false}
+use Rattle.std.proofs.Common.{ℕ, ◌≡◌, ◌≤◌, ◌<◌, ◌+◌, ◌*◌, ◌/◌, List, [], ◌∷◌, ◌++◌, length, take, Some, None, true, false, cond, ◌&&◌, inl, inr, refl, sym, ap, subst, ◌∙◌, arith, eqb, leb, le_trans, le_refl, le_of_lt, leb-true, ltb-false}
 use Rattle.std.specs.Prelude.{Ok}
 use Rattle.std.specs.Option.{is_some}
-use Rattle.std.specs.List.{list_any}
 use Rattle.std.proofs.lemmas.Bool.{true≢false}
 use Rattle.std.proofs.lemmas.Bool.Decides.{nat_tests}
-use Rattle.row_values.specs.Ids.{Kind, Namespace, Table, Tablet as TabletKind, Schedule, Snapshot, Restoration, Clone, Id, same}
+use Rattle.row_values.specs.Ids.{Kind, Table, Tablet as TabletKind, Id, same}
 use Rattle.row_values.specs.Elements.{In}
 use Rattle.row_values.specs.Slots.{has, same_slots}
 use Rattle.row_values.specs.Schema.{NewColumn, first_schema, numbered}
@@ -16,9 +15,8 @@ use Rattle.model.specs.Times.{is_open}
 use Rattle.std.specs.Str.{bytes_eq}
 use Rattle.law_store.proofs.Keys.{either_way}
 use Rattle.model.specs.Journal.{Change as Made, ChangeAct, TableMade, table_at}
-use Rattle.model.specs.Tablets.{Tablet, Mark, Make, RestoreFromKind, is_done, act_for, effect}
-use Rattle.model.specs.Records.{Listed, RestorationRecord, RestorationState, Restoring}
-use Rattle.model.specs.Stands.{awaited_in, awaited_of, first_of_two, is_restore}
+use Rattle.model.specs.Tablets.{Tablet, Make, act_for, effect}
+use Rattle.model.specs.Stands.{awaited_in}
 use Rattle.model.specs.Entries.{CommandAsked}
 use Rattle.model.specs.Acts.{CreateTable, Change}
 use Rattle.model.specs.Parts.{Master, Parts, Drawn, MakesTable}
@@ -35,36 +33,21 @@ use Rattle.law_invariants.specs.Invariant.{IsGood, SlotGood, SlotWorks, MasterGo
 use Rattle.law_invariants.proofs.Finding.{same_equal, not_same, apart_by_number, in_append, in_first, in_second, both_pass}
 use Rattle.law_invariants.proofs.Ticking.{by_judgement, refused_keeps, KeepsAll, tablet_before}
 use Rattle.law_invariants.proofs.Records.{owners_first, owner_last, owner_beside}
-use Rattle.law_invariants.proofs.Journaling.{made_here, made_others, made_rows, made_keeps, no_rows, nothing_late}
+use Rattle.law_invariants.proofs.Journaling.{made_here, made_others, made_rows, made_keeps, no_rows}
 use Rattle.law_invariants.proofs.Covering.{made_covers}
 use Rattle.law_invariants.proofs.Cataloguing.{CatalogStands, catalog_of, catalog_table_made, namespace_is}
 use Rattle.law_invariants.proofs.Judging.{checked_is}
 use Rattle.law_invariants.proofs.Hearing.{clocks_rise, rows_on}
 use Rattle.law_invariants.proofs.Undoing.{one_more, journal_on}
-use Rattle.law_changes.proofs.Told.{slots_told, master_early, slots_equal}
+use Rattle.law_invariants.proofs.Told.{slots_told, master_early, slots_equal}
 use Rattle.law_invariants.specs.Operations.{OperationsGood}
-use Rattle.law_changes.proofs.Quiet.{same_names, marks_stay, Carries, good_carried}
-use Rattle.law_changes.proofs.Plans.{has_in, in_has}
-use Rattle.law_changes.proofs.Free.{RiseFrom, rise_in, AreFree, least_free}
+use Rattle.law_invariants.proofs.Quiet.{same_names, marks_stay, Carries, good_carried}
+use Rattle.law_invariants.proofs.Plans.{has_in, in_has}
+use Rattle.law_invariants.proofs.Free.{RiseFrom, rise_in, AreFree, least_free}
 use Rattle.law_invariants.proofs.Parting.{part_same, part_append}
+use Rattle.law_invariants.proofs.Awaiting.{awaited_none, new_unlisted, new_awaits}
 
 -- No rows are awaited
-
-none_listed : (ls : List Listed) (tablet : Id) → ((l : Listed) → In l ls → same l.tablet tablet ≡ false) → list_any (λ l. same l.tablet tablet && is_restore l.body) ls ≡ false
-none_listed [] tablet apart = refl
-none_listed (l ∷ ls) tablet apart = let k = apart l (inl refl) in rw k (none_listed ls tablet (λ m isin. apart m (inr isin)))
-
-pub awaited_none : (state : RestorationState) (r : RestorationRecord) (tablet : Id) (done : List Mark) → ((l : Listed) → In l r.listed → same l.tablet tablet ≡ false) → awaited_of state r tablet done ≡ None
-awaited_none (Restoring point serving) r tablet done apart =
-    ap (λ b. cond (b && not (is_done done r.id RestoreFromKind)) (Some point) None) (none_listed r.listed tablet apart)
-awaited_none _ r tablet done apart = refl
-
--- a tablet that no restoration lists awaits no rows
-pub none_awaited : (rs : List RestorationRecord) (tablet : Id) (done : List Mark) → ((r : RestorationRecord) (l : Listed) → In r rs → In l r.listed → same l.tablet tablet ≡ false) → awaited_in rs tablet done ≡ None
-none_awaited [] tablet done apart = refl
-none_awaited (r ∷ rs) tablet done apart =
-    ap (λ o. first_of_two o (awaited_in rs tablet done)) (awaited_none r.state r tablet done (λ l isin. apart r l (inl refl) isin))
-    ∙ none_awaited rs tablet done (λ q l isin lists. apart q l (inr isin) lists)
 
 -- The new (length slots)
 
@@ -81,7 +64,7 @@ pub record IsShare (m : Master) (n count : ℕ) (slots : List ℕ) (w : Interval
   pub isin : In slot slots
   pub drawn : place < count
 
-share_is : (slots : List ℕ) (place count n : ℕ) (m : Master) (w : Interval) → length slots + place ≡ count → In w (shared slots place count n m) → IsShare m n count slots w
+pub share_is : (slots : List ℕ) (place count n : ℕ) (m : Master) (w : Interval) → length slots + place ≡ count → In w (shared slots place count n m) → IsShare m n count slots w
 share_is [] place count n m w long isin = absurd isin
 share_is (slot ∷ slots) place count n m w long (inl e) = record {
   slot = slot;
@@ -108,7 +91,7 @@ share_slot (slot ∷ slots) place count n m w (inl e) = inl (ap (λ v. v.slot) e
 share_slot (slot ∷ slots) place count n m w (inr isin) = inr (share_slot slots (place + 1) count n m w isin)
 
 -- the new (length slots)' numbers rise, and so one tablet is in one slot
-share_number : (slots : List ℕ) (place count n : ℕ) (m : Master) (w : Interval) → In w (shared slots place count n m) → m.drawn.tablets + place < w.tablet.number
+pub share_number : (slots : List ℕ) (place count n : ℕ) (m : Master) (w : Interval) → In w (shared slots place count n m) → m.drawn.tablets + place < w.tablet.number
 share_number [] place count n m w isin = absurd isin
 share_number (slot ∷ slots) place count n m w (inl e) = (let q : m.drawn.tablets + (place + 1) ≡ w.tablet.number = ap (λ v. v.tablet.number) e in omega arith)
 share_number (slot ∷ slots) place count n m w (inr isin) = (let q : m.drawn.tablets + (place + 1) < w.tablet.number = share_number slots (place + 1) count n m w isin in omega arith)
@@ -158,15 +141,6 @@ table_made_act m ns name columns = TableMade (next_table m) ns name (numbered 1 
 
 abbrev pub with_made : Master → ℕ → Id → List ℕ → List NewColumn → List Made → List Made
 with_made m n ns name columns changes = with n (table_made_act m ns name columns) changes
-
--- a new tablet is listed by no restoration
-pub new_unlisted : (m : Master) (changes : List Made) (place : ℕ) (r : RestorationRecord) (l : Listed) → In r m.restorations → In l r.listed → MasterGood m changes → same l.tablet (next_tablet m.drawn.tablets (place + 1)) ≡ false
-new_unlisted m changes place r l isin lists h =
-    let tablet = next_tablet m.drawn.tablets (place + 1) in not_same l.tablet tablet (apart_by_number l.tablet tablet (let q : l.tablet.number ≤ m.drawn.tablets = h.listed r l isin lists in omega arith))
-
--- a new tablet awaits no rows
-pub new_awaits : (m : Master) (changes : List Made) (place : ℕ) → MasterGood m changes → awaited_in m.restorations (next_tablet m.drawn.tablets (place + 1)) [] ≡ None
-new_awaits m changes place h = none_awaited m.restorations (next_tablet m.drawn.tablets (place + 1)) [] (λ r l isin lists. new_unlisted m changes place r l isin lists h)
 
 -- the new table was never in the view
 never_made : (m : Master) (changes : List Made) (x : ℕ) → MasterGood m changes → table_at changes x (next_table m) ≡ None
@@ -464,7 +438,7 @@ create_table_keeps ps activity changes n namespace table tablets columns slots l
     let count = length slots in
     let told_made = tell_made (shared slots 0 count n m) in
     by_judgement (Change command slots) n ps activity changes (judge_create_table namespace table tablets m) _
-    (λ why. refused_keeps (Change command slots) why n ps activity changes later inv tt refl)
+    (λ why. refused_keeps (Change command slots) why n ps activity changes later inv refl)
     (λ ns found.
     let act = MakesTable ns table columns slots in
     let new = with_made m n ns table columns changes in
@@ -482,42 +456,38 @@ create_table_keeps ps activity changes n namespace table tablets columns slots l
     let more = m.activity ++ shared slots 0 count n m in
     let drawn = made_drawn count m in
     record {
-      right = tt;
-      inv = record {
-        operations = operations_on m n catalog more drawn m.sent changes new o (λ id. marks_stay m n catalog more drawn changes id (le_of_lt before) inv.operations)
-            (owners_made m ns (current_drawn m changes namespace ns named h) inv.operations.owners (h.tables.owners_drawn (next_table m) (omega arith))) (λ mark isin. isin) (all_listed m changes h) inv.operations;
-        rows_past = rows_on m n catalog more drawn m.sent changes new ps.tablet _ (le_of_lt before) (clocks_rise (Change command slots) (accepts act told_made (next_table m ∷ [])) n ps (λ slot e. tablet_before (0 ∷ slots) ps n slot later e))
-            (λ i isin. inl (in_first m.activity (shared slots 0 count n m) i isin)) (λ c table_ key op isin is. elim isin as (λ _. In c changes) [ inl e ↦ absurd (let q = ap (λ k. k.act) e ∙ is in grind arith) | inr old ↦ old ]) inv.rows_past;
-        journal = journal_on m n catalog more drawn m.sent changes new (one_more changes (record { stamp = n; act = table_made_act m ns table columns }) (λ table_ key op e. let q = e in grind arith) (λ other point. refl)) o.fixed (le_refl _) (omega arith) o.owners inv.journal;
-        works = slots_told (SlotWorks k new) command slots act told_made (next_table m ∷ []) n ps
-            (λ i is from. (
-            let isin : In i slots = in_has slots i is in
-            let s = share_at slots 0 count n m i isin in
-            let w = s.0 in
-            let e : act_for told_made i ≡ Make w.tablet w.table w.low w.high 1 = made_told slots count n m w i free.rise s.1.0 s.1.1 in
-            subst (λ a. SlotWorks k new i (effect a n (ps.tablet i))) (sym e)
-            (placed_works m n catalog more drawn m.sent changes new i (effect (Make w.tablet w.table w.low w.high 1) n (ps.tablet i)) w o inv.operations
-            (record { vacant = λ j listed at. free.vacant i isin j listed at; unreserved = free.unreserved i isin })
-            (in_second m.activity (shared slots 0 count n m) w s.1.0) s.1.1 refl
-            (let q : m.drawn.tablets + 0 < w.tablet.number = share_number slots 0 count n m w s.1.0 in omega arith)
-            (share_table slots 0 count n m w s.1.0))))
-            (λ i others. record {
-              orders = orders_on m n catalog more drawn m.sent changes new i (ps.tablet i) o (inv.works i).orders;
-              obeyed = obeyed_on m n catalog more drawn m.sent changes new i (ps.tablet i) o (λ c serving at d key isin is paired. made_rows n (next_table m) ns table (numbered 1 columns) changes c.to d.source key) inv.operations (inv.works i).obeyed;
-            });
-        remembered = remembered_made m n changes ns table columns slots activity before free.long inv.operations inv.remembered;
-        cover = made_covers activity changes slots count n m.drawn.tablets (next_table m) ns table (numbered 1 columns) (let e = some.long in let l : 1 ≤ tablets = asked.2.0 in omega arith) (let e = some.long in let l : tablets ≤ 64 = asked.2.1 in omega arith) free.long
-            (λ i isin. not_same i.table (next_table m) (apart_by_number i.table (next_table m) (let l : i.table.number ≤ m.drawn.tables = inv.remembered.drawn_table i isin in omega arith)))
-            (λ x. ap is_some (never_made m changes x h)) inv.cover;
-        master = master_made m n changes ns table columns slots before free (λ i isin. ((inv.slots i.slot).each i isin refl).drawn_table) stands h;
-        slots = slots_told (SlotGood k new) command slots act told_made (next_table m ∷ []) n ps
-            (λ i is from. (
-            let isin : In i slots = in_has slots i is in
-            let s = share_at slots 0 count n m i isin in
-            let e : act_for told_made i ≡ Make s.0.tablet s.0.table s.0.low s.0.high 1 = made_told slots count n m s.0 i free.rise s.1.0 s.1.1 in
-            subst (λ a. SlotGood k new i (effect a n (ps.tablet i))) (sym e)
-            (slot_placed m n changes ns table columns slots (ps.tablet i) i s.0 before h (λ j listed. ((inv.slots j.slot).each j listed refl).drawn) free isin s.1.0 s.1.1)))
-            (λ i aside. slot_aside m n changes ns table columns slots (ps.tablet i) i before free aside (inv.slots i));
-        late = nothing_late n (table_made_act m ns table columns) changes m.clock before h.past inv.late;
-      };
+      operations = operations_on m n catalog more drawn m.sent changes new o (λ id. marks_stay m n catalog more drawn changes id (le_of_lt before) inv.operations)
+          (owners_made m ns (current_drawn m changes namespace ns named h) inv.operations.owners (h.tables.owners_drawn (next_table m) (omega arith))) (λ mark isin. isin) (all_listed m changes h) inv.operations;
+      rows_past = rows_on m n catalog more drawn m.sent changes new ps.tablet _ (le_of_lt before) (clocks_rise (Change command slots) (accepts act told_made (next_table m ∷ [])) n ps (λ slot e. tablet_before (0 ∷ slots) ps n slot later e))
+          (λ i isin. inl (in_first m.activity (shared slots 0 count n m) i isin)) (λ c table_ key op isin is. elim isin as (λ _. In c changes) [ inl e ↦ absurd (let q = ap (λ k. k.act) e ∙ is in grind arith) | inr old ↦ old ]) inv.rows_past;
+      journal = journal_on m n catalog more drawn m.sent changes new (one_more changes (record { stamp = n; act = table_made_act m ns table columns }) (λ table_ key op e. let q = e in grind arith) (λ other point. refl)) o.fixed (le_refl _) (omega arith) o.owners inv.journal;
+      works = slots_told (SlotWorks k new) command slots act told_made (next_table m ∷ []) n ps
+          (λ i is from. (
+          let isin : In i slots = in_has slots i is in
+          let s = share_at slots 0 count n m i isin in
+          let w = s.0 in
+          let e : act_for told_made i ≡ Make w.tablet w.table w.low w.high 1 = made_told slots count n m w i free.rise s.1.0 s.1.1 in
+          subst (λ a. SlotWorks k new i (effect a n (ps.tablet i))) (sym e)
+          (placed_works m n catalog more drawn m.sent changes new i (effect (Make w.tablet w.table w.low w.high 1) n (ps.tablet i)) w o inv.operations
+          (record { vacant = λ j listed at. free.vacant i isin j listed at; unreserved = free.unreserved i isin })
+          (in_second m.activity (shared slots 0 count n m) w s.1.0) s.1.1 refl
+          (let q : m.drawn.tablets + 0 < w.tablet.number = share_number slots 0 count n m w s.1.0 in omega arith)
+          (share_table slots 0 count n m w s.1.0))))
+          (λ i others. record {
+            orders = orders_on m n catalog more drawn m.sent changes new i (ps.tablet i) o (inv.works i).orders;
+            obeyed = obeyed_on m n catalog more drawn m.sent changes new i (ps.tablet i) o (λ c serving at d key isin is paired. made_rows n (next_table m) ns table (numbered 1 columns) changes c.to d.source key) inv.operations (inv.works i).obeyed;
+          });
+      remembered = remembered_made m n changes ns table columns slots activity before free.long inv.operations inv.remembered;
+      cover = made_covers activity changes slots count n m.drawn.tablets (next_table m) ns table (numbered 1 columns) (let e = some.long in let l : 1 ≤ tablets = asked.2.0 in omega arith) (let e = some.long in let l : tablets ≤ 64 = asked.2.1 in omega arith) free.long
+          (λ i isin. not_same i.table (next_table m) (apart_by_number i.table (next_table m) (let l : i.table.number ≤ m.drawn.tables = inv.remembered.drawn_table i isin in omega arith)))
+          (λ x. ap is_some (never_made m changes x h)) inv.cover;
+      master = master_made m n changes ns table columns slots before free (λ i isin. ((inv.slots i.slot).each i isin refl).drawn_table) stands h;
+      slots = slots_told (SlotGood k new) command slots act told_made (next_table m ∷ []) n ps
+          (λ i is from. (
+          let isin : In i slots = in_has slots i is in
+          let s = share_at slots 0 count n m i isin in
+          let e : act_for told_made i ≡ Make s.0.tablet s.0.table s.0.low s.0.high 1 = made_told slots count n m s.0 i free.rise s.1.0 s.1.1 in
+          subst (λ a. SlotGood k new i (effect a n (ps.tablet i))) (sym e)
+          (slot_placed m n changes ns table columns slots (ps.tablet i) i s.0 before h (λ j listed. ((inv.slots j.slot).each j listed refl).drawn) free isin s.1.0 s.1.1)))
+          (λ i aside. slot_aside m n changes ns table columns slots (ps.tablet i) i before free aside (inv.slots i));
     })

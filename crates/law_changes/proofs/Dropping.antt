@@ -34,16 +34,17 @@ use Rattle.law_invariants.proofs.Finding.{none_or_some, second_fails, same_equal
 use Rattle.law_invariants.proofs.Ticking.{by_judgement, refused_keeps, KeepsAll, tablet_before, over_later, tablet_ticked, ends_later}
 use Rattle.law_invariants.proofs.Judging.{checked_is}
 use Rattle.law_invariants.proofs.Holding.{end_weaker}
-use Rattle.law_invariants.proofs.Journaling.{dropped_before, dropped_others, dropped_rows_before, dropped_rows_others, nothing_late}
+use Rattle.law_invariants.proofs.Journaling.{dropped_before, dropped_others, dropped_rows_before, dropped_rows_others}
 use Rattle.law_invariants.proofs.Covering.{dropped_covers}
 use Rattle.law_invariants.proofs.Cataloguing.{CatalogStands, catalog_of, catalog_table_dropped, table_is}
 use Rattle.law_invariants.proofs.Hearing.{clocks_rise, rows_on}
 use Rattle.law_invariants.proofs.Undoing.{one_more, journal_on}
-use Rattle.law_changes.proofs.Told.{slots_told, master_early, tablet_early, told_same, slots_equal}
-use Rattle.law_changes.proofs.Quiet.{ended_tables, same_names, marks_stay}
-use Rattle.law_changes.proofs.Plans.{active_planned, planned_active}
-use Rattle.law_changes.proofs.Awaiting.{AwaitNone, none_await}
+use Rattle.law_invariants.proofs.Told.{slots_told, master_early, tablet_early, told_same, slots_equal}
+use Rattle.law_invariants.proofs.Quiet.{ended_tables, same_names, marks_stay}
+use Rattle.law_invariants.proofs.Plans.{active_planned, planned_active}
+use Rattle.law_invariants.proofs.Awaiting.{AwaitNone, none_await, calm_here}
 use Rattle.law_invariants.proofs.Parting.{part_mapped}
+use Rattle.law_invariants.proofs.Ending.{ended_ends, ended_over, closed, not_open, over_then, stamp_is}
 
 -- where an interval ends that may be one of the table's
 abbrev pub end_of : Id → ℕ → Interval → Option ℕ
@@ -51,14 +52,6 @@ end_of id n i = cond (same i.table id) (ended n i.to) i.to
 
 abbrev pub cut_off : Id → ℕ → Interval → Interval
 cut_off id n i = record i { to = end_of id n i }
-
-pub ended_ends : (to : Option ℕ) (from time n : ℕ) → from ≤ time → time ≤ n → EndsBy time from to → EndsBy n from (ended n to)
-ended_ends None from time n begun le h = (le_trans begun le, le_refl n)
-ended_ends (Some e) from time n begun le h = (h.0, le_trans h.1 le)
-
-pub ended_over : (to : Option ℕ) (from time n : ℕ) → from < n → time ≤ n → OverBy time from to → OverBy n from (ended n to)
-ended_over None from time n begun le h = (begun, le_refl n)
-ended_over (Some e) from time n begun le h = (h.0, le_trans h.1 le)
 
 -- a table's tablets hold none of its rows from the drop on
 until : (to : Option ℕ) (from time n x : ℕ) → time < n → EndsBy time from to → before_end x (ended n to) ≡ true → x < n
@@ -79,10 +72,6 @@ on_table : {P : Type 0} (id : Id) (time n x : ℕ) (i : Interval) → time < n �
 on_table {P} id time n x i before past is soon other = either_way {P = P} (same i.table id)
     (λ e. soon (let q : before_end x (cond (same i.table id) (ended n i.to) i.to) ≡ true = is in let k : before_end x (ended n i.to) ≡ true = rw e at q in until i.to i.from time n x before past.ended k))
     (λ e. other (not_passing (same id i.table) (λ s. true≢false (sym (ap (λ t. same t id) (sym (same_equal id i.table s)) ∙ same_self id) ∙ e))))
-
-pub closed : (to : Option ℕ) (n : ℕ) → (to ≡ None → ⊥) → ended n to ≡ to
-closed None n h = absurd (h refl)
-closed (Some e) n h = refl
 
 -- an interval that is not an open one of the table stays
 stays_ended : (id : Id) (n : ℕ) (i : Interval) → (i.to ≡ None → same i.table id ≡ true → ⊥) → end_of id n i ≡ i.to
@@ -176,21 +165,6 @@ good_cut m n changes id t c p i before present calm over serves hidden g =
           (λ l. sym (dropped_rows_before n id changes x i.table key l))
           (λ e. sym (dropped_rows_others n id changes x i.table key e)));
     }
-
--- a tablet with an interval of the table awaits no rows
-pub calm_here : (m : Master) (id : Id) (t : Tablet) (i : Interval) → t.tablet ≡ i.tablet → In i m.activity → AwaitNone m id → same i.table id ≡ true → awaited_in m.restorations t.tablet t.done ≡ None
-calm_here m id t i is isin calm of_table = ap (λ tablet. awaited_in m.restorations tablet t.done) is ∙ calm i t.done isin of_table
-
-pub not_open : (n : ℕ) (to : Option ℕ) → ended n to ≡ None → ⊥
-not_open n None e = let q = e in grind arith
-not_open n (Some x) e = let q = e in grind arith
-
-pub over_then : (n : ℕ) (to : Option ℕ) (from time : ℕ) → time ≤ n → OverBy time from to → ended_by n (ended n to) ≡ true
-over_then n None from time le h = grind (arith, nat_tests)
-over_then n (Some e) from time le h = let l : e ≤ time = h.1 in grind (arith, nat_tests)
-
-pub stamp_is : (n at : ℕ) → HiddenPart n ≡ HiddenPart at → n ≡ at
-stamp_is n at e = cc
 
 -- a slot whose tablet is hidden
 slot_hidden : (m : Master) (n : ℕ) (changes : List Made) (id : Id) (slot : ℕ) (t : Tablet) → m.clock < n → t.clock < n → is_empty t.presence ≡ false → AwaitNone m id
@@ -333,7 +307,7 @@ drop_table_keeps ps activity changes n namespace table slots later plan inv =
     let before : m.clock < n = master_early slots ps n later in
     let told_all = tell slots (HideSince n) in
     by_judgement (Change command slots) n ps activity changes (judge_drop_table namespace table m) _
-    (λ why. refused_keeps (Change command slots) why n ps activity changes later inv tt refl)
+    (λ why. refused_keeps (Change command slots) why n ps activity changes later inv refl)
     (λ t found.
     let id = t.id in
     let ns = t.namespace in
@@ -354,37 +328,33 @@ drop_table_keeps ps activity changes n namespace table slots later plan inv =
     } in
     let all : slots ≡ slots_of_table m id = slots_equal slots (plan_of command m) plan ∙ planned_slots m namespace table t judged.0 in
     record {
-      right = tt;
-      inv = record {
-        remembered = remembered_dropped m n id activity before inv.remembered;
-        cover = dropped_covers activity changes id n inv.cover;
-        master = master_dropped m n changes id before (catalog_table_dropped m n id changes (le_of_lt before) (catalog_of m changes inv.master)) inv.master;
-        operations = operations_on m n catalog gone m.drawn m.sent changes new o (λ k. marks_stay m n catalog gone m.drawn changes k (le_of_lt before) inv.operations) inv.operations.owners (λ mark isin. isin) (all_listed m changes inv.master) inv.operations;
-        rows_past = rows_on m n catalog gone m.drawn m.sent changes new ps.tablet _ (le_of_lt before) (clocks_rise (Change command slots) (accepts act told_all []) n ps (λ slot e. tablet_before (0 ∷ slots) ps n slot later e))
-            (λ i isin. heard m n id ps slots later (sym all) i isin ((inv.slots i.slot).each i isin refl).slot_from) (λ c table key op isin is. elim isin as (λ _. In c changes) [ inl e ↦ absurd (let q = ap (λ k. k.act) e ∙ is in grind arith) | inr old ↦ old ]) inv.rows_past;
-        journal = journal_on m n catalog gone m.drawn m.sent changes new (one_more changes (record { stamp = n; act = TableDropped id }) (λ table_ key op e. let q = e in grind arith) (λ other point. refl)) o.fixed (le_refl _) (le_refl _) o.owners inv.journal;
-        works = slots_told (SlotWorks (table_dropped id n m) new) command slots act told_all [] n ps
-            (λ i is from. (
-            let j = planned_active m id i (sym (ap (λ ss. has ss i) all) ∙ is) in
-            let g = (inv.slots i).each j.0 j.1.0 j.1.1.0 in
-            let one : (v : Interval) → In v m.activity → v.slot ≡ i → owner_of m.catalog.owners v.table ≡ Some ns =
-            λ v isin at. ap (owner_of m.catalog.owners) (sym ((inv.slots i).each v isin at).table_is ∙ g.table_is ∙ j.1.1.1) ∙ owner in
-            subst (λ a. SlotWorks (table_dropped id n m) new i (effect a n (ps.tablet i))) (sym (told_same slots (HideSince n) i is))
-            (works_on i (effect (HideSince n) n (ps.tablet i))
-            (hidden_works m changes i (ps.tablet i) n ns j.0 (le_of_lt (tablet_early slots ps n i later is from)) g.present inv.operations (all_listed m changes inv.master) free j.1.0 j.1.1.0 one (inv.works i)))))
-            (λ i others. works_on i (ps.tablet i) (inv.works i));
-        slots = slots_told (SlotGood (table_dropped id n m) new) command slots act told_all [] n ps
-            (λ i is from. (
-            let j = planned_active m id i (sym (ap (λ ss. has ss i) all) ∙ is) in
-            let present : is_empty (ps.tablet i).presence ≡ false = ((inv.slots i).each j.0 j.1.0 j.1.1.0).present in
-            subst (λ a. SlotGood (table_dropped id n m) new i (effect a n (ps.tablet i))) (sym (told_same slots (HideSince n) i is))
-            (slot_hidden m n changes id i (ps.tablet i) before (tablet_early slots ps n i later is from) present calm
-            (λ v isin at. ap (λ table. same table id) (sym ((inv.slots i).each v isin at).table_is ∙ ((inv.slots i).each j.0 j.1.0 j.1.1.0).table_is ∙ j.1.1.1) ∙ same_self id) (inv.slots i))))
-            (λ i others. slot_beside m n changes id i (ps.tablet i) before (λ j isin is. stays_ended id n j (λ opened of_table.
-            let planned : has slots j.slot ≡ true = ap (λ ss. has ss j.slot) all ∙ active_planned m id j isin opened of_table in
-            let from : 1 ≤ j.slot = ((inv.slots i).each j isin is).slot_from in
-            let apart : eqb i 0 ≡ false = grind (arith, nat_tests) in
-            true≢false (sym planned ∙ ap (has slots) is ∙ others apart))) calm (inv.slots i));
-        late = nothing_late n (TableDropped id) changes m.clock before inv.master.past inv.late;
-      };
+      remembered = remembered_dropped m n id activity before inv.remembered;
+      cover = dropped_covers activity changes id n inv.cover;
+      master = master_dropped m n changes id before (catalog_table_dropped m n id changes (le_of_lt before) (catalog_of m changes inv.master)) inv.master;
+      operations = operations_on m n catalog gone m.drawn m.sent changes new o (λ k. marks_stay m n catalog gone m.drawn changes k (le_of_lt before) inv.operations) inv.operations.owners (λ mark isin. isin) (all_listed m changes inv.master) inv.operations;
+      rows_past = rows_on m n catalog gone m.drawn m.sent changes new ps.tablet _ (le_of_lt before) (clocks_rise (Change command slots) (accepts act told_all []) n ps (λ slot e. tablet_before (0 ∷ slots) ps n slot later e))
+          (λ i isin. heard m n id ps slots later (sym all) i isin ((inv.slots i.slot).each i isin refl).slot_from) (λ c table key op isin is. elim isin as (λ _. In c changes) [ inl e ↦ absurd (let q = ap (λ k. k.act) e ∙ is in grind arith) | inr old ↦ old ]) inv.rows_past;
+      journal = journal_on m n catalog gone m.drawn m.sent changes new (one_more changes (record { stamp = n; act = TableDropped id }) (λ table_ key op e. let q = e in grind arith) (λ other point. refl)) o.fixed (le_refl _) (le_refl _) o.owners inv.journal;
+      works = slots_told (SlotWorks (table_dropped id n m) new) command slots act told_all [] n ps
+          (λ i is from. (
+          let j = planned_active m id i (sym (ap (λ ss. has ss i) all) ∙ is) in
+          let g = (inv.slots i).each j.0 j.1.0 j.1.1.0 in
+          let one : (v : Interval) → In v m.activity → v.slot ≡ i → owner_of m.catalog.owners v.table ≡ Some ns =
+          λ v isin at. ap (owner_of m.catalog.owners) (sym ((inv.slots i).each v isin at).table_is ∙ g.table_is ∙ j.1.1.1) ∙ owner in
+          subst (λ a. SlotWorks (table_dropped id n m) new i (effect a n (ps.tablet i))) (sym (told_same slots (HideSince n) i is))
+          (works_on i (effect (HideSince n) n (ps.tablet i))
+          (hidden_works m changes i (ps.tablet i) n ns j.0 (le_of_lt (tablet_early slots ps n i later is from)) g.present inv.operations (all_listed m changes inv.master) free j.1.0 j.1.1.0 one (inv.works i)))))
+          (λ i others. works_on i (ps.tablet i) (inv.works i));
+      slots = slots_told (SlotGood (table_dropped id n m) new) command slots act told_all [] n ps
+          (λ i is from. (
+          let j = planned_active m id i (sym (ap (λ ss. has ss i) all) ∙ is) in
+          let present : is_empty (ps.tablet i).presence ≡ false = ((inv.slots i).each j.0 j.1.0 j.1.1.0).present in
+          subst (λ a. SlotGood (table_dropped id n m) new i (effect a n (ps.tablet i))) (sym (told_same slots (HideSince n) i is))
+          (slot_hidden m n changes id i (ps.tablet i) before (tablet_early slots ps n i later is from) present calm
+          (λ v isin at. ap (λ table. same table id) (sym ((inv.slots i).each v isin at).table_is ∙ ((inv.slots i).each j.0 j.1.0 j.1.1.0).table_is ∙ j.1.1.1) ∙ same_self id) (inv.slots i))))
+          (λ i others. slot_beside m n changes id i (ps.tablet i) before (λ j isin is. stays_ended id n j (λ opened of_table.
+          let planned : has slots j.slot ≡ true = ap (λ ss. has ss j.slot) all ∙ active_planned m id j isin opened of_table in
+          let from : 1 ≤ j.slot = ((inv.slots i).each j isin is).slot_from in
+          let apart : eqb i 0 ≡ false = grind (arith, nat_tests) in
+          true≢false (sym planned ∙ ap (has slots) is ∙ others apart))) calm (inv.slots i));
     })

@@ -1,10 +1,5 @@
-pub mod Told
-pub mod Quiet
 pub mod Namespaces
 pub mod Schemas
-pub mod Plans
-pub mod Awaiting
 pub mod Dropping
-pub mod Free
 pub mod Creating
 pub mod Changing

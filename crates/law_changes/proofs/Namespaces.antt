@@ -1,9 +1,8 @@
 -- Namespaces are made and dropped.
-use Rattle.std.proofs.Common.{ℕ, ◌≡◌, ◌≤◌, ◌<◌, ◌+◌, List, [], ◌∷◌, Option, Some, None, Bool, true, false, cond, not, ◌&&◌, ◌⊎◌, inl, inr, refl, sym, ap, subst, ◌∙◌, le_trans, arith, le_of_lt, le_refl}
+use Rattle.std.proofs.Common.{ℕ, ◌≡◌, ◌≤◌, ◌<◌, ◌+◌, List, [], ◌∷◌, Option, Some, None, Bool, true, false, cond, ◌⊎◌, inl, inr, refl, sym, ap, subst, ◌∙◌, le_trans, arith, le_of_lt, le_refl}
 use Rattle.std.specs.Prelude.{is_some, Ok}
 use Rattle.model.specs.Journal.{Change as Made, NamespaceMade, NamespaceDropped}
 use Rattle.model.specs.Catalog.{NamespaceRecord, namespace_named, kept_from}
-use Rattle.model.specs.Records.{CloneRecord, is_visible}
 use Rattle.model.specs.Acts.{CreateNamespace, DropNamespace, Change}
 use Rattle.model.specs.Parts.{Master, Parts, Drawn, MakesNamespace, DropsNamespace}
 use Rattle.model.specs.Operations.{time_of_user}
@@ -13,46 +12,27 @@ use Rattle.model.specs.History.{with}
 use Rattle.law_invariants.specs.Invariant.{Inv, Later}
 use Rattle.law_invariants.proofs.Ticking.{by_judgement, refused_keeps, KeepsAll}
 use Rattle.law_invariants.proofs.Judging.{checked_is}
-use Rattle.law_invariants.proofs.Journaling.{namespace_made_quiet, namespace_dropped_quiet, nothing_late}
+use Rattle.law_invariants.proofs.Journaling.{namespace_made_quiet, namespace_dropped_quiet}
 use Rattle.law_invariants.proofs.Cataloguing.{catalog_of, catalog_namespace_made, catalog_namespace_dropped}
 use Rattle.law_invariants.proofs.Working.{before_any}
 use Rattle.law_invariants.proofs.Undoing.{one_more}
-use Rattle.law_changes.proofs.Told.{master_early}
-use Rattle.law_changes.proofs.Quiet.{quiet_keeps, quiet_works, same_drawn, KeepsCatalog, same_names, marks_stay}
-use Rattle.std.proofs.lemmas.Bool.{true≢false}
-use Rattle.std.specs.Option.{option_or}
-use Rattle.std.specs.Str.{bytes_eq}
+use Rattle.law_invariants.proofs.Told.{master_early}
+use Rattle.law_invariants.proofs.Quiet.{quiet_keeps, quiet_works, same_drawn, KeepsCatalog, same_names, marks_stay}
 use Rattle.model.specs.Times.{is_open, ended}
 use Rattle.model.specs.Schedules.{floor, least_low}
 use Rattle.model.specs.Cleanup.{floor_of}
-use Rattle.law_store.proofs.Keys.{either_way, key_self}
+use Rattle.law_store.proofs.Keys.{either_way}
 use Rattle.law_invariants.specs.Operations.{OperationsGood}
 use Rattle.law_invariants.proofs.Remembering.{no_lows}
-use Rattle.law_invariants.proofs.Finding.{passes_both, same_equal, in_added, in_mapped}
+use Rattle.law_invariants.proofs.Finding.{same_equal, in_added, in_mapped, not_either}
 use Rattle.law_invariants.proofs.Records.{kept_by, kept_beside}
 use Rattle.law_invariants.proofs.Operating.{WasNamed, NewName}
 use Rattle.row_values.specs.Ids.{Id, same, Kind, Namespace}
-use Rattle.row_values.specs.Elements.{In}
 use Rattle.model.specs.Drawn.{drawn_of}
 use Rattle.model.specs.Activity.{Interval}
+use Rattle.law_invariants.proofs.Using.{unreserved_name}
 
 -- what operations read of the catalog stays: a new namespace has a new number and no reserved name, and its mark is the stamp
-
-pub unreserved_name : (cs : List CloneRecord) (name : List ℕ) → is_some (clone_named cs name) ≡ false → (c : CloneRecord) → In c cs → is_visible c.state ≡ false → name ≡ c.target → ⊥
-unreserved_name [] name none c isin unseen is = isin
-unreserved_name (q ∷ cs) name none c isin unseen is = either_way (bytes_eq q.target name && not (is_visible q.state))
-    (λ b. let k : true ≡ false = rw b at none in true≢false k)
-    (λ b. elim isin as (λ _. ⊥) [
-      | inl e ↦ (
-          let still : not (is_visible q.state) ≡ true = ap (λ k. not (is_visible k.state)) e ∙ ap not unseen in
-          let here : bytes_eq q.target name ≡ true = ap (λ k. bytes_eq k.target name) e ∙ ap (λ k. bytes_eq c.target k) is ∙ key_self c.target in
-          true≢false (sym (passes_both (bytes_eq q.target name) (not (is_visible q.state)) here still) ∙ b))
-      | inr rest ↦ unreserved_name cs name (rw b at none) c rest unseen is
-    ])
-
-pub not_either : {A : Type 0} (a b : Option A) → is_some (option_or a b) ≡ false → is_some b ≡ false
-not_either None b e = e
-not_either (Some x) b e = absurd (true≢false e)
 
 namespace_made_keeps : (m : Master) (n : ℕ) (name : List ℕ) (changes : List Made) → m.clock ≤ n → is_some (named m name) ≡ false → OperationsGood m changes
     → KeepsCatalog m n (namespace_made name n m).catalog (namespace_made name n m).drawn
@@ -103,31 +83,28 @@ create_namespace_keeps ps activity changes n name slots later inv =
     let before : m.clock < n = master_early slots ps n later in
     let quiet = namespace_made_quiet n (next_namespace m) name changes in
     by_judgement (Change command slots) n ps activity changes (judge_create_namespace name m) _
-    (λ why. refused_keeps (Change command slots) why n ps activity changes later inv tt refl)
+    (λ why. refused_keeps (Change command slots) why n ps activity changes later inv refl)
     (λ id is.
     let passes = (checked_is (Ok (next_namespace m)) (λ id. create_namespace_checks name m) id is).1 in
-    record {
-      right = tt;
-      inv = quiet_keeps command slots (MakesNamespace name) [] (id ∷ []) n ps activity changes new later inv refl
-          (record {
-            clock = le_of_lt before;
-            slots = refl;
-            activity = refl;
-            restorations = refl;
-            clones = refl;
-            schedules = refl;
-            scheduled = refl;
-            owners = refl;
-            drawn = refl;
-            drawn_tables = refl;
-            quiet = quiet;
-            same_ = record { fixed = λ other to. refl; switched = λ other point is. is; before = λ other point is. before_any changes other point _ changes is };
-          })
-          (quiet_works ps activity changes new n _ _ inv (le_of_lt before) (one_drawn m.drawn) refl quiet (λ ns point is. is) (λ ns point is. before_any changes ns point _ changes is)
-          (one_more changes _ (λ table key op e. let q = e in grind arith) (λ ns point. refl))
-          (namespace_made_keeps m n name changes (le_of_lt before) passes.0 inv.operations))
-          (catalog_namespace_made m n name changes (le_of_lt before) passes.0 (catalog_of m changes inv.master)) (nothing_late n (NamespaceMade (next_namespace m) name) changes m.clock before inv.master.past inv.late) (λ i. tt);
+    quiet_keeps command slots (MakesNamespace name) [] (id ∷ []) n ps activity changes new later inv refl
+    (record {
+      clock = le_of_lt before;
+      slots = refl;
+      activity = refl;
+      restorations = refl;
+      clones = refl;
+      schedules = refl;
+      scheduled = refl;
+      owners = refl;
+      drawn = refl;
+      drawn_tables = refl;
+      quiet = quiet;
+      same_ = record { fixed = λ other to. refl; switched = λ other point is. is; before = λ other point is. before_any changes other point _ changes is };
     })
+    (quiet_works ps activity changes new n _ _ inv (le_of_lt before) (one_drawn m.drawn) refl quiet (λ ns point is. is) (λ ns point is. before_any changes ns point _ changes is)
+    (one_more changes _ (λ table key op e. let q = e in grind arith) (λ ns point. refl))
+    (namespace_made_keeps m n name changes (le_of_lt before) passes.0 inv.operations))
+    (catalog_namespace_made m n name changes (le_of_lt before) passes.0 (catalog_of m changes inv.master)) (λ i. tt))
 
 pub drop_namespace_keeps : (ps : Parts) (activity : List Interval) (changes : List Made) (n : ℕ) (name slots : List ℕ) → Later (0 ∷ slots) ps n → Inv ps activity changes
     → KeepsAll (Change (DropNamespace name) slots) n ps activity changes (drop_namespace name ps.master)
@@ -137,29 +114,26 @@ drop_namespace_keeps ps activity changes n name slots later inv =
     let command = DropNamespace name in
     let before : m.clock < n = master_early slots ps n later in
     by_judgement (Change command slots) n ps activity changes (judge_drop_namespace name m) _
-    (λ why. refused_keeps (Change command slots) why n ps activity changes later inv tt refl)
+    (λ why. refused_keeps (Change command slots) why n ps activity changes later inv refl)
     (λ ns is.
     let new = with n (NamespaceDropped ns) changes in
     let quiet = namespace_dropped_quiet n ns changes in
-    record {
-      right = tt;
-      inv = quiet_keeps command slots (DropsNamespace ns) [] [] n ps activity changes new later inv refl
-          (record {
-            clock = le_of_lt before;
-            slots = refl;
-            activity = refl;
-            restorations = refl;
-            clones = refl;
-            schedules = refl;
-            scheduled = refl;
-            owners = refl;
-            drawn = refl;
-            drawn_tables = refl;
-            quiet = quiet;
-            same_ = record { fixed = λ other to. refl; switched = λ other point is. is; before = λ other point is. before_any changes other point _ changes is };
-          })
-          (quiet_works ps activity changes new n _ _ inv (le_of_lt before) (same_drawn m.drawn) refl quiet (λ ns point is. is) (λ ns point is. before_any changes ns point _ changes is)
-          (one_more changes _ (λ table key op e. let q = e in grind arith) (λ ns point. refl))
-          (namespace_dropped_keeps m n ns changes (le_of_lt before) inv.operations))
-          (catalog_namespace_dropped m n ns changes (le_of_lt before) (catalog_of m changes inv.master)) (nothing_late n (NamespaceDropped ns) changes m.clock before inv.master.past inv.late) (λ i. tt);
+    quiet_keeps command slots (DropsNamespace ns) [] [] n ps activity changes new later inv refl
+    (record {
+      clock = le_of_lt before;
+      slots = refl;
+      activity = refl;
+      restorations = refl;
+      clones = refl;
+      schedules = refl;
+      scheduled = refl;
+      owners = refl;
+      drawn = refl;
+      drawn_tables = refl;
+      quiet = quiet;
+      same_ = record { fixed = λ other to. refl; switched = λ other point is. is; before = λ other point is. before_any changes other point _ changes is };
     })
+    (quiet_works ps activity changes new n _ _ inv (le_of_lt before) (same_drawn m.drawn) refl quiet (λ ns point is. is) (λ ns point is. before_any changes ns point _ changes is)
+    (one_more changes _ (λ table key op e. let q = e in grind arith) (λ ns point. refl))
+    (namespace_dropped_keeps m n ns changes (le_of_lt before) inv.operations))
+    (catalog_namespace_dropped m n ns changes (le_of_lt before) (catalog_of m changes inv.master)) (λ i. tt))

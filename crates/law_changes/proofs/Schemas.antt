@@ -16,12 +16,12 @@ use Rattle.law_invariants.specs.Invariant.{MasterGood, Inv, Later}
 use Rattle.law_invariants.proofs.Ticking.{by_judgement, refused_keeps, KeepsAll}
 use Rattle.law_invariants.proofs.Judging.{and_found_is, checked_is}
 use Rattle.law_invariants.proofs.Records.{IsCurrent}
-use Rattle.law_invariants.proofs.Journaling.{IsQuiet, column_added_quiet, column_dropped_quiet, table_renamed_quiet, nothing_late}
+use Rattle.law_invariants.proofs.Journaling.{IsQuiet, column_added_quiet, column_dropped_quiet, table_renamed_quiet}
 use Rattle.law_invariants.proofs.Cataloguing.{catalog_of, catalog_column_added, catalog_column_dropped, catalog_table_renamed, table_is}
 use Rattle.law_invariants.proofs.Working.{SameFixed, before_any}
 use Rattle.law_invariants.proofs.Undoing.{one_more}
-use Rattle.law_changes.proofs.Told.{master_early, told_either}
-use Rattle.law_changes.proofs.Quiet.{IsMild, Follows, quiet_keeps, quiet_works, same_drawn, KeepsCatalog, same_names, marks_stay, ended_tables}
+use Rattle.law_invariants.proofs.Told.{master_early, told_either}
+use Rattle.law_invariants.proofs.Quiet.{IsMild, Follows, quiet_keeps, quiet_works, same_drawn, KeepsCatalog, same_names, marks_stay, ended_tables}
 use Rattle.row_values.specs.Elements.{In}
 use Rattle.law_invariants.specs.Operations.{OperationsGood}
 use Rattle.law_invariants.proofs.Operating.{NotHeld, not_held}
@@ -61,7 +61,7 @@ add_column_keeps ps activity changes n namespace table name kind slots later inv
     let command = AddColumn namespace table name kind in
     let before : m.clock < n = master_early slots ps n later in
     by_judgement (Change command slots) n ps activity changes (judge_add_column namespace table name m) _
-    (λ why. refused_keeps (Change command slots) why n ps activity changes later inv tt refl)
+    (λ why. refused_keeps (Change command slots) why n ps activity changes later inv refl)
     (λ t found.
     let judged = checked_is (found_table m namespace table) (λ t. add_column_checks t name m) t found in
     let current = table_is m namespace table t judged.0 in
@@ -69,17 +69,13 @@ add_column_keeps ps activity changes n namespace table name kind slots later inv
     let new = with n act changes in
     let quiet = column_added_quiet n t.id _ changes in
     let fixed : SameFixed changes new = record { fixed = λ ns to. refl; switched = λ ns point is. is; before = λ ns point is. before_any changes ns point _ changes is } in
-    record {
-      right = tt;
-      inv = quiet_keeps command slots (AddsColumn t name kind) (tell slots (SetVersion (t.schema.version + 1))) [] n ps activity changes new later inv refl
-          (follows_changed m t t.name (with_column name kind t.schema) n changes new before quiet fixed)
-          (quiet_works ps activity changes new n _ _ inv (le_of_lt before) (same_drawn m.drawn) refl quiet fixed.switched fixed.before
-          (one_more changes _ (λ table key op e. let q = e in grind arith) (λ ns point. refl))
-          (table_changed_keeps m n t table t.name (with_column name kind t.schema) changes (le_of_lt before) current judged.1.0 inv.master inv.operations))
-          (catalog_column_added m n t table name kind changes (le_of_lt before) current judged.1.1.0 (catalog_of m changes inv.master))
-          (nothing_late n act changes m.clock before inv.master.past inv.late)
-          (λ i. told_either IsMild slots (SetVersion (t.schema.version + 1)) i tt tt);
-    })
+    quiet_keeps command slots (AddsColumn t name kind) (tell slots (SetVersion (t.schema.version + 1))) [] n ps activity changes new later inv refl
+    (follows_changed m t t.name (with_column name kind t.schema) n changes new before quiet fixed)
+    (quiet_works ps activity changes new n _ _ inv (le_of_lt before) (same_drawn m.drawn) refl quiet fixed.switched fixed.before
+    (one_more changes _ (λ table key op e. let q = e in grind arith) (λ ns point. refl))
+    (table_changed_keeps m n t table t.name (with_column name kind t.schema) changes (le_of_lt before) current judged.1.0 inv.master inv.operations))
+    (catalog_column_added m n t table name kind changes (le_of_lt before) current judged.1.1.0 (catalog_of m changes inv.master))
+    (λ i. told_either IsMild slots (SetVersion (t.schema.version + 1)) i tt tt))
 
 pub column_found : (t : TableRecord) (name : List ℕ) (c : ColumnOf) → column_of name t ≡ Some c → (c.table ≡ t) × (column_named t.schema.columns name ≡ Some c.column)
 column_found t name c e = by_column (column_named t.schema.columns name) refl
@@ -97,7 +93,7 @@ drop_column_keeps ps activity changes n namespace table name slots later inv =
     let command = DropColumn namespace table name in
     let before : m.clock < n = master_early slots ps n later in
     by_judgement (Change command slots) n ps activity changes (judge_drop_column namespace table name m) _
-    (λ why. refused_keeps (Change command slots) why n ps activity changes later inv tt refl)
+    (λ why. refused_keeps (Change command slots) why n ps activity changes later inv refl)
     (λ c found.
     let t = c.table in
     let judged = checked_is (found_column m namespace table name) (λ c. unheld_checks c.table.namespace m) c found in
@@ -109,17 +105,13 @@ drop_column_keeps ps activity changes n namespace table name slots later inv =
     let new = with n act changes in
     let quiet = column_dropped_quiet n t.id _ changes in
     let fixed : SameFixed changes new = record { fixed = λ ns to. refl; switched = λ ns point is. is; before = λ ns point is. before_any changes ns point _ changes is } in
-    record {
-      right = tt;
-      inv = quiet_keeps command slots (DropsColumn t c.column) (tell slots (SetVersion (t.schema.version + 1))) [] n ps activity changes new later inv refl
-          (follows_changed m t t.name (without_column c.column.name t.schema) n changes new before quiet fixed)
-          (quiet_works ps activity changes new n _ _ inv (le_of_lt before) (same_drawn m.drawn) refl quiet fixed.switched fixed.before
-          (one_more changes _ (λ table key op e. let q = e in grind arith) (λ ns point. refl))
-          (table_changed_keeps m n t table t.name (without_column c.column.name t.schema) changes (le_of_lt before) current judged.1.0 inv.master inv.operations))
-          (catalog_column_dropped m n t table name c.column changes (le_of_lt before) current named (catalog_of m changes inv.master))
-          (nothing_late n act changes m.clock before inv.master.past inv.late)
-          (λ i. told_either IsMild slots (SetVersion (t.schema.version + 1)) i tt tt);
-    })
+    quiet_keeps command slots (DropsColumn t c.column) (tell slots (SetVersion (t.schema.version + 1))) [] n ps activity changes new later inv refl
+    (follows_changed m t t.name (without_column c.column.name t.schema) n changes new before quiet fixed)
+    (quiet_works ps activity changes new n _ _ inv (le_of_lt before) (same_drawn m.drawn) refl quiet fixed.switched fixed.before
+    (one_more changes _ (λ table key op e. let q = e in grind arith) (λ ns point. refl))
+    (table_changed_keeps m n t table t.name (without_column c.column.name t.schema) changes (le_of_lt before) current judged.1.0 inv.master inv.operations))
+    (catalog_column_dropped m n t table name c.column changes (le_of_lt before) current named (catalog_of m changes inv.master))
+    (λ i. told_either IsMild slots (SetVersion (t.schema.version + 1)) i tt tt))
 
 pub rename_table_keeps : (ps : Parts) (activity : List Interval) (changes : List Made) (n : ℕ) (namespace table name slots : List ℕ) → Later (0 ∷ slots) ps n → Inv ps activity changes
     → KeepsAll (Change (RenameTable namespace table name) slots) n ps activity changes (rename_table namespace table name ps.master)
@@ -129,7 +121,7 @@ rename_table_keeps ps activity changes n namespace table name slots later inv =
     let command = RenameTable namespace table name in
     let before : m.clock < n = master_early slots ps n later in
     by_judgement (Change command slots) n ps activity changes (judge_rename_table namespace table name m) _
-    (λ why. refused_keeps (Change command slots) why n ps activity changes later inv tt refl)
+    (λ why. refused_keeps (Change command slots) why n ps activity changes later inv refl)
     (λ t found.
     let judged = checked_is (found_table m namespace table) (λ t. rename_table_checks t name m) t found in
     let current = table_is m namespace table t judged.0 in
@@ -137,13 +129,10 @@ rename_table_keeps ps activity changes n namespace table name slots later inv =
     let new = with n act changes in
     let quiet = table_renamed_quiet n t.id name changes in
     let fixed : SameFixed changes new = record { fixed = λ ns to. refl; switched = λ ns point is. is; before = λ ns point is. before_any changes ns point _ changes is } in
-    record {
-      right = tt;
-      inv = quiet_keeps command slots (RenamesTable t name) [] [] n ps activity changes new later inv refl
-          (follows_changed m t name t.schema n changes new before quiet fixed)
-          (quiet_works ps activity changes new n _ _ inv (le_of_lt before) (same_drawn m.drawn) refl quiet fixed.switched fixed.before
-          (one_more changes _ (λ table key op e. let q = e in grind arith) (λ ns point. refl))
-          (table_changed_keeps m n t table name t.schema changes (le_of_lt before) current judged.1.0 inv.master inv.operations))
-          (catalog_table_renamed m n t table name changes (le_of_lt before) current judged.1.1.0 (catalog_of m changes inv.master))
-          (nothing_late n act changes m.clock before inv.master.past inv.late) (λ i. tt);
-    })
+    quiet_keeps command slots (RenamesTable t name) [] [] n ps activity changes new later inv refl
+    (follows_changed m t name t.schema n changes new before quiet fixed)
+    (quiet_works ps activity changes new n _ _ inv (le_of_lt before) (same_drawn m.drawn) refl quiet fixed.switched fixed.before
+    (one_more changes _ (λ table key op e. let q = e in grind arith) (λ ns point. refl))
+    (table_changed_keeps m n t table name t.schema changes (le_of_lt before) current judged.1.0 inv.master inv.operations))
+    (catalog_table_renamed m n t table name changes (le_of_lt before) current judged.1.1.0 (catalog_of m changes inv.master))
+    (λ i. tt))

@@ -13,7 +13,8 @@ use Rattle.law_invariants.specs.Operations.{IsOpenOf, IsKnown, CloneStateGood, O
 use Rattle.law_invariants.specs.Orders.{FencePlace, IsFence, RestorationSlot, CloneSlot, IsHome, IsTarget, directory, IsFenceIn, IsHomeIn, IsTargetIn, RestorationSlotIn}
 use Rattle.law_invariants.specs.Invariant.{IsGood, SlotGood, SlotWorks, IsPast, IsGoodIn, TakesWritesIn}
 use Rattle.law_invariants.proofs.Ticking.{past_later}
-use Rattle.law_cleanup.proofs.Forgetting.{Unlisted, forgetting, kept_in, was_in, open_was}
+use Rattle.law_cleanup.proofs.Forgetting.{forgetting, kept_in, was_in, open_was}
+use Rattle.law_invariants.proofs.Unneeded.{Unlisted}
 
 -- what stands of a tablet, in a slot, that is forgotten
 pub record IsGone (m : Master) (n : ℕ) (tablet : Id) (slot : ℕ) : Type 0 where

@@ -1,19 +1,19 @@
 -- The catalog's old records go, and the marks of how far it is kept rise as far.
 use Rattle.model.specs.Right.{is_fixed}
-use Rattle.std.proofs.Common.{ℕ, ◌≡◌, ◌≤◌, ◌<◌, ◌-◌, List, [], ◌∷◌, map, Option, Some, None, Bool, true, false, cond, ◌||◌, inl, inr, refl, sym, ap, subst, ◌∙◌, arith, not, leb, max, min, ltb-true, leb-true, le_trans, le_refl, le_of_lt}
+use Rattle.std.proofs.Common.{ℕ, ◌≡◌, ◌≤◌, ◌-◌, List, [], ◌∷◌, map, Option, Some, None, Bool, true, false, cond, ◌||◌, inl, inr, refl, sym, ap, subst, ◌∙◌, arith, not, min, le_trans, le_refl, le_of_lt}
 use Rattle.std.specs.Option.{option_map, is_some}
-use Rattle.std.specs.List.{filter, find, list_any}
+use Rattle.std.specs.List.{filter, find}
 use Rattle.std.specs.Str.{bytes_eq}
 use Rattle.std.proofs.lemmas.Bool.{cond_both, true≢false}
 use Rattle.row_values.specs.Ids.{Id, same}
 use Rattle.row_values.specs.Elements.{In}
-use Rattle.model.specs.Times.{is_open, holds_at, ended_by, before_end}
+use Rattle.model.specs.Times.{is_open, holds_at, ended_by}
 use Rattle.model.specs.Catalog.{Catalog, NamespaceRecord, TableRecord, KeptFrom, namespace_named, name_of, owner_of, kept_from}
 use Rattle.model.specs.Activity.{Interval}
 use Rattle.model.specs.Restored.{record_at}
 use Rattle.model.specs.Schedules.{history_retention}
 use Rattle.model.specs.Journal.{Change as Made, table_at, row_at}
-use Rattle.model.specs.Cleanup.{floor_of, prune_to, is_old_namespace, is_old_table, has_records, raised_mark, prune, pruned}
+use Rattle.model.specs.Cleanup.{floor_of, prune_to, is_old_namespace, is_old_table, raised_mark, prune, pruned}
 use Rattle.model.specs.Parts.{Master, Parts}
 use Rattle.model.specs.Acts.{Prune}
 use Rattle.model.specs.Entries.{slots_of}
@@ -22,17 +22,17 @@ use Rattle.law_store.proofs.Keys.{either_way}
 use Rattle.law_invariants.specs.Operations.{OperationsGood}
 use Rattle.law_invariants.specs.Invariant.{NamespacesStand, RecordsRise, TablesStand, view_of, is_marked, MasterGood, SlotGood, SlotWorks, Inv, Later}
 use Rattle.law_invariants.proofs.Working.{same_fixed, SameFixed}
-use Rattle.law_invariants.proofs.Finding.{filter_in, both_pass, either_passes, not_passing, same_equal, same_self}
+use Rattle.law_invariants.proofs.Finding.{filter_in, both_pass, not_passing, same_equal}
 use Rattle.law_invariants.proofs.Ticking.{KeepsAll, past_later, not_true, tablet_before}
 use Rattle.law_invariants.proofs.Names.{has_name, is_namespace, id_of, title_of, named_found, name_found}
 use Rattle.law_invariants.proofs.Records.{is_named_at, is_table_at, table_named_found, record_at_found}
 use Rattle.law_invariants.proofs.Remembering.{remembered_on, ended_later}
 use Rattle.law_invariants.proofs.Hearing.{clocks_rise}
 use Rattle.law_invariants.proofs.Undoing.{same_rows}
-use Rattle.law_changes.proofs.Told.{slots_hear, master_early}
-use Rattle.law_changes.proofs.Quiet.{Follows, slot_follows, master_follows, quiet_works, KeepsCatalog, same_names, same_drawn, marks_stay}
+use Rattle.law_invariants.proofs.Told.{slots_hear, master_early}
+use Rattle.law_invariants.proofs.Quiet.{Follows, slot_follows, master_follows, quiet_works, KeepsCatalog, same_names, same_drawn, marks_stay}
 use Rattle.law_invariants.proofs.Cataloguing.{CatalogStands}
-use Rattle.law_cleanup.proofs.Forgetting.{any_in}
+use Rattle.law_invariants.proofs.Unneeded.{raised_rises, raised_within, raised_to, prune_floor, not_holding, has_table}
 
 -- Lists
 
@@ -60,39 +60,9 @@ find_same test old (x ∷ xs) stays = let rest = find_same test old xs (λ a isi
 
 -- Marks
 
-pub raised_rises : (ks : List KeptFrom) (m : Master) (n : ℕ) (ns : Id) → kept_from ks ns ≤ kept_from (map (raised_mark m n) ks) ns
-raised_rises [] m n ns = le_refl 0
-raised_rises (k ∷ ks) m n ns = either_way (same k.namespace ns)
-    (λ e. rw e (cond_both (has_records m.catalog k.namespace) (max k.from (prune_to m k.namespace n)) k.from (λ x. k.from ≤ x) (λ b. omega arith) (λ b. le_refl k.from)))
-    (λ e. rw e (raised_rises ks m n ns))
-
-pub raised_within : (ks : List KeptFrom) (m : Master) (n : ℕ) (ns : Id) (bound : ℕ) → kept_from ks ns ≤ bound → prune_to m ns n ≤ bound → kept_from (map (raised_mark m n) ks) ns ≤ bound
-raised_within [] m n ns bound old up = old
-raised_within (k ∷ ks) m n ns bound old up = either_way (same k.namespace ns)
-    (λ e. let here : k.from ≤ bound = rw e at old in
-    let most : prune_to m k.namespace n ≤ bound = subst (λ i. prune_to m i n ≤ bound) (sym (same_equal k.namespace ns e)) up in
-    rw e (cond_both (has_records m.catalog k.namespace) (max k.from (prune_to m k.namespace n)) k.from (λ x. x ≤ bound) (λ b. omega (arith, here, most)) (λ b. here)))
-    (λ e. rw e (raised_within ks m n ns bound (rw e at old) up))
-
--- the mark of what has records rises as far as they are taken
-pub raised_to : (ks : List KeptFrom) (m : Master) (n : ℕ) (ns : Id) → is_marked ks ns ≡ true → has_records m.catalog ns ≡ true → prune_to m ns n ≤ kept_from (map (raised_mark m n) ks) ns
-raised_to [] m n ns marked has_ = absurd (true≢false (sym marked))
-raised_to (k ∷ ks) m n ns marked has_ = either_way (same k.namespace ns)
-    (λ e. let is = same_equal k.namespace ns e in
-    let there : has_records m.catalog k.namespace ≡ true = ap (has_records m.catalog) is ∙ has_ in
-    let top : prune_to m ns n ≤ max k.from (prune_to m k.namespace n) = subst (λ i. prune_to m i n ≤ max k.from (prune_to m k.namespace n)) is (omega arith) in
-    rw e (subst (λ b. prune_to m ns n ≤ cond b (max k.from (prune_to m k.namespace n)) k.from) (sym there) top))
-    (λ e. rw e (raised_to ks m n ns (let q : (same k.namespace ns || is_marked ks ns) ≡ true = marked in let r : is_marked ks ns ≡ true = rw e at q in r) has_))
-
 raised_marked : (ks : List KeptFrom) (m : Master) (n : ℕ) (ns : Id) → is_marked (map (raised_mark m n) ks) ns ≡ is_marked ks ns
 raised_marked [] m n ns = refl
 raised_marked (k ∷ ks) m n ns = ap (λ b. same k.namespace ns || b) (raised_marked ks m n ns)
-
-pub prune_floor : (m : Master) (n : ℕ) (ns : Id) → prune_to m ns n ≤ floor_of m ns n
-prune_floor m n ns = least (floor_of m ns n) (n - history_retention)
-  where
-    least : (a b : ℕ) → min a b ≤ a
-    least a b = omega arith
 
 prune_stamp : (m : Master) (n : ℕ) (ns : Id) → prune_to m ns n ≤ n
 prune_stamp m n ns = least (floor_of m ns n) (n - history_retention) n (omega arith)
@@ -130,13 +100,6 @@ rise_kept old (r ∷ rs) h = cond_both (not (old r)) (r ∷ kept_by old rs) (kep
     (λ k. (λ q isin. h.0 q (filter_in rs (λ p. not (old p)) q isin).0, rise_kept old rs h.1))
     (λ k. rise_kept old rs h.1)
 
-pub not_holding : (x mark from : ℕ) (to : Option ℕ) → mark ≤ x → ended_by mark to ≡ true → holds_at x from to ≡ true → ⊥
-not_holding x mark from None le over holds_ = true≢false (sym over)
-not_holding x mark from (Some e) le over holds_ =
-    let b = both_pass (leb from x) (before_end x (Some e)) holds_ in
-    let l : x < e = ltb-true x e b.1 in
-    let o : e ≤ mark = leb-true e mark over in omega (arith, l, o, le)
-
 -- where marks rise past what goes
 tables_pruned : (c : Catalog) (old : TableRecord → Bool) (names : List NamespaceRecord) (ks : List KeptFrom) (time n drawn : ℕ) (changes : List Made) → time ≤ n → ((ns : Id) → kept_from c.kept_from ns ≤ kept_from ks ns)
     → ((ns : Id) → kept_from ks ns ≤ n) → ((r : TableRecord) → In r c.tables → old r ≡ true → ended_by (kept_from ks r.namespace) r.to ≡ true) → TablesStand c time drawn changes
@@ -169,10 +132,6 @@ tables_pruned c old names ks time n drawn changes le rises within gone h =
     }
 
 -- The act
-
-pub has_table : (m : Master) (r : TableRecord) → In r m.catalog.tables → has_records m.catalog r.namespace ≡ true
-has_table m r isin = either_passes (list_any (λ q. same q.id r.namespace) m.catalog.namespaces) (list_any (λ q. same q.namespace r.namespace) m.catalog.tables)
-    (any_in (λ q. same q.namespace r.namespace) m.catalog.tables r isin (same_self r.namespace))
 
 catalog_pruned : (m : Master) (n : ℕ) (changes : List Made) → m.clock ≤ n → MasterGood m changes → CatalogStands (pruned n m) changes
 catalog_pruned m n changes le h =
@@ -214,16 +173,12 @@ prune_keeps ps activity changes n later inv =
     let f = prune_follows m n changes le in
     let w = quiet_works ps activity changes changes n k.catalog m.drawn inv le (same_drawn m.drawn) refl f.quiet (λ ns point is. is) (λ ns point is. refl) (same_rows changes) (prune_catalog m n changes le inv.operations) in
     record {
-      right = tt;
-      inv = record {
-        master = master_follows m k changes changes f (catalog_pruned m n changes le inv.master) inv.master;
-        remembered = remembered_on m k activity (record { clock = le; schedules = refl; restorations = refl; clones = refl }) refl refl (le_refl _) (le_refl _) inv.remembered;
-        cover = inv.cover;
-        operations = w.operations;
-        journal = w.journal;
-        rows_past = w.rows ps.tablet _ (clocks_rise Prune o n ps (λ slot e. tablet_before (0 ∷ []) ps n slot later e)) inv.rows_past;
-        works = slots_hear (SlotWorks k changes) Prune [] o n ps refl (λ i is. absurd (true≢false (sym is))) (λ i aside. w.works i (ps.tablet i) (inv.works i));
-        slots = slots_hear (SlotGood k changes) Prune [] o n ps refl (λ i is. absurd (true≢false (sym is))) (λ i aside. slot_follows m k changes changes i (ps.tablet i) f (inv.slots i));
-        late = inv.late;
-      };
+      master = master_follows m k changes changes f (catalog_pruned m n changes le inv.master) inv.master;
+      remembered = remembered_on m k activity (record { clock = le; schedules = refl; restorations = refl; clones = refl }) refl refl (le_refl _) (le_refl _) inv.remembered;
+      cover = inv.cover;
+      operations = w.operations;
+      journal = w.journal;
+      rows_past = w.rows ps.tablet _ (clocks_rise Prune o n ps (λ slot e. tablet_before (0 ∷ []) ps n slot later e)) inv.rows_past;
+      works = slots_hear (SlotWorks k changes) Prune [] o n ps refl (λ i is. absurd (true≢false (sym is))) (λ i aside. w.works i (ps.tablet i) (inv.works i));
+      slots = slots_hear (SlotGood k changes) Prune [] o n ps refl (λ i is. absurd (true≢false (sym is))) (λ i aside. slot_follows m k changes changes i (ps.tablet i) f (inv.slots i));
     }

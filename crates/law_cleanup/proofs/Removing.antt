@@ -1,6 +1,6 @@
 -- A tablet that retention doesn't need is removed.
-use Rattle.std.proofs.Common.{ℕ, ◌≡◌, ◌≢◌, ◌≤◌, ◌<◌, List, [], ◌∷◌, Option, Some, None, true, false, cond, inl, inr, refl, sym, ap, subst, ◌∙◌, arith, not, eqb, ltb, le_trans, le_refl, le_of_lt, eqb-true, ltb-false, Bool, ◌⊎◌}
-use Rattle.std.specs.Option.{is_some, option_map}
+use Rattle.std.proofs.Common.{ℕ, ◌≡◌, ◌≢◌, ◌≤◌, ◌<◌, List, [], ◌∷◌, Option, Some, None, true, false, cond, inl, inr, refl, sym, ap, subst, ◌∙◌, arith, not, eqb, ltb, le_trans, le_refl, le_of_lt, eqb-true, ltb-false, ◌⊎◌}
+use Rattle.std.specs.Option.{is_some}
 use Rattle.std.proofs.lemmas.Bool.{true≢false}
 use Rattle.std.proofs.lemmas.Bool.Decides.{nat_tests}
 use Rattle.row_values.specs.Ids.{Id, Tablet as TabletKind, same}
@@ -10,39 +10,29 @@ use Rattle.model.specs.Times.{ended_by}
 use Rattle.model.specs.Activity.{Interval, last_of, forget}
 use Rattle.model.specs.Journal.{Change as Made}
 use Rattle.model.specs.Stands.{awaited_in}
-use Rattle.model.specs.Tablets.{Tablet, Presence, EmptyPart, ServingPart, HiddenPart, Empty, Clear, act_for, effect, emptied, standing, is_hidden}
-use Rattle.model.specs.Acts.{Remove, Refusal, Moved, StalePlan, InWindow, IsListed, Removed}
+use Rattle.model.specs.Tablets.{Tablet, Empty, Clear, act_for, effect, emptied, standing, is_hidden}
+use Rattle.model.specs.Acts.{Remove, Refusal, Moved, StalePlan, InWindow, Removed}
 use Rattle.model.specs.Parts.{Master, Parts, Outcome, Check, If, Fault, Removes, refused}
 use Rattle.model.specs.Cleanup.{floor_of_table, hidden_at, is_hidden_as, lister_of_tablet, removable_tablet, removing_unknown, removing_tablet, removed_of}
 use Rattle.model.specs.History.{told}
 use Rattle.law_store.proofs.Keys.{either_way}
-use Rattle.model.specs.Records.{is_restored}
 use Rattle.law_invariants.specs.Remembered.{IsPartOf, Remembered, IsForgotten}
 use Rattle.law_invariants.specs.Invariant.{EndsBy, MasterGood, SlotGood, SlotWorks, Inv, Later}
-use Rattle.law_invariants.proofs.Finding.{either_is, both_pass, second_fails, none_or_some, same_equal, same_self}
+use Rattle.law_invariants.proofs.Finding.{either_is, both_pass, second_fails, same_equal, same_self}
 use Rattle.law_invariants.proofs.Lasting.{last_in}
 use Rattle.law_invariants.proofs.Ticking.{by_checks, refused_keeps, KeepsAll, namespaces_later, tables_later, tablet_before}
-use Rattle.law_invariants.proofs.Remembering.{ended_later, forgotten_on}
+use Rattle.law_invariants.proofs.Remembering.{forgotten_on}
 use Rattle.law_invariants.proofs.Hearing.{clocks_rise, rows_on}
 use Rattle.law_invariants.proofs.Undoing.{same_rows, journal_on}
-use Rattle.law_changes.proofs.Told.{slots_hear, master_early, tablet_early, slots_equal}
-use Rattle.law_changes.proofs.Plans.{has_in}
-use Rattle.law_invariants.proofs.Awaits.{awaits_is}
-use Rattle.law_cleanup.proofs.Forgetting.{not_false, unlisted, Unlisted, forgetting, kept_in, was_in, operations_forget}
+use Rattle.law_invariants.proofs.Told.{slots_hear, master_early, tablet_early, slots_equal}
+use Rattle.law_invariants.proofs.Plans.{has_in}
+use Rattle.law_cleanup.proofs.Forgetting.{forgetting, kept_in, was_in, operations_forget}
 use Rattle.law_cleanup.proofs.Emptying.{IsGone, slot_emptied, slot_beside, works_emptied, works_beside}
 use Rattle.law_invariants.proofs.Parting.{part_left}
+use Rattle.law_invariants.proofs.Unneeded.{removed_below, not_false, unlisted, hidden_is, calm, nothing_keeps}
+use Rattle.law_invariants.proofs.Unneeded.{not_false, unlisted}
 
 -- What is forgotten
-
-hidden_is : (p : Presence) → is_hidden p ≡ true → p ≡ HiddenPart (hidden_at p)
-hidden_is (HiddenPart at) e = refl
-hidden_is _ e = absurd (true≢false (sym e))
-
--- a tablet that no unfinished restoration lists awaits no rows
-calm : (m : Master) (t : Tablet) (tablet : Id) → Unlisted m tablet → t.tablet ≡ tablet → awaited_in m.restorations t.tablet t.done ≡ None
-calm m t tablet free is = none_or_some (awaited_in m.restorations t.tablet t.done)
-    (λ none. none)
-    (λ point some. absurd (let w = awaits_is m.restorations t.tablet t.done point some in free.restoration w.restoration w.line w.known (ap is_restored w.state_is) w.listed (w.tablet_is ∙ is)))
 
 open_ends : (x : ℕ) (to : Option ℕ) → ended_by x to ≡ true → to ≡ None → ⊥
 open_ends x to ended opened = true≢false (sym ended ∙ ap (ended_by x) opened)
@@ -81,9 +71,7 @@ is_removed ps activity changes n target i before inv last hidden late lister =
         over = λ j isin e opened. open_ends (hidden_at t.presence) j.to (ends j isin e) opened;
       };
       listed = found.0;
-      below = λ j isin e. (
-          let table_is : j.table ≡ i.table = sym (h.each j isin (there j isin e)).table_is ∙ g.table_is in
-          ended_later j.to (hidden_at t.presence) (floor_of_table m j.table n) (subst (λ k. hidden_at t.presence ≤ floor_of_table m k n) (sym table_is) late) (ends j isin e));
+      below = removed_below ps activity changes n target i inv last hidden late lister;
     }
 
 remembered_forget : (ps : Parts) (activity : List Interval) (changes : List Made) (n : ℕ) (target : Id) (i : Interval) → Inv ps activity changes → IsRemoved ps changes n target i → Remembered (forgetting ps.master n target) activity
@@ -161,7 +149,6 @@ removed_inv ps activity changes n target i kind later inv r =
           (λ c table key op isin is. isin) inv.rows_past;
       works = hear (SlotWorks k changes) (works_emptied m n target changes i.slot i g r.listed refl inv.operations) (λ j apart. works_beside m n target changes i.slot j (ps.tablet j) g apart (inv.works j));
       slots = hear (SlotGood k changes) (slot_emptied m n target changes i.slot g) (λ j apart. slot_beside m n target changes i.slot j (ps.tablet j) g apart (inv.slots j));
-      late = inv.late;
     })
 
 -- what isn't known is refused
@@ -169,14 +156,8 @@ pub unknown_keeps : (ps : Parts) (activity : List Interval) (changes : List Made
     → KeepsAll (Remove target slots) n ps activity changes (removing_unknown slots why)
 unknown_keeps ps activity changes n target slots why later inv =
     by_checks (Remove target slots) n ps activity changes (If (not (same_slots slots [])) (StalePlan []) ∷ []) (refused why)
-    (λ other. refused_keeps (Remove target slots) other n ps activity changes later inv tt refl)
-    (λ passes. refused_keeps (Remove target slots) why n ps activity changes later inv tt refl)
-
--- neither retention nor a record keeps what goes
-pub nothing_keeps : (needed : Bool) (lister : Option Id) (why : Refusal) → cond needed (Some why) (option_map IsListed lister) ≡ None → (needed ≡ false) × (is_some lister ≡ false)
-nothing_keeps true lister why e = absurd (let q = e in grind arith)
-nothing_keeps false None why e = (refl, refl)
-nothing_keeps false (Some by) why e = absurd (let q = e in grind arith)
+    (λ other. refused_keeps (Remove target slots) other n ps activity changes later inv refl)
+    (λ passes. refused_keeps (Remove target slots) why n ps activity changes later inv refl)
 
 abbrev pub tablet_checks : Id → Interval → List ℕ → ℕ → Parts → List Check
 tablet_checks target i slots n ps =
@@ -194,14 +175,11 @@ removing_tablet_keeps (Some i) ps activity changes n target slots e kind later i
     let floor = floor_of_table ps.master i.table n in
     let lister = lister_of_tablet ps.master target in
     by_checks (Remove target slots) n ps activity changes (tablet_checks target i slots n ps) (tablet_gone target i.slot)
-    (λ why. refused_keeps (Remove target slots) why n ps activity changes later inv tt refl)
+    (λ why. refused_keeps (Remove target slots) why n ps activity changes later inv refl)
     (λ passes.
     let before = master_early slots ps n later in
     let plan : slots ≡ i.slot ∷ [] = slots_equal slots (i.slot ∷ []) (not_false _ passes.0) in
     let unneeded = nothing_keeps (ltb floor hidden) lister (InWindow hidden floor) passes.1.1.0 in
     let late = ltb-false floor hidden unneeded.0 in
     let r = is_removed ps activity changes n target i before inv e (not_false _ passes.1.0) late unneeded.1 in
-    record {
-      right = tt;
-      inv = subst (λ ss. Later (0 ∷ ss) ps n → Inv (told (Remove target ss) (tablet_gone target i.slot) n ps) activity changes) (sym plan) (λ early. removed_inv ps activity changes n target i kind early inv r) later;
-    })
+    subst (λ ss. Later (0 ∷ ss) ps n → Inv (told (Remove target ss) (tablet_gone target i.slot) n ps) activity changes) (sym plan) (λ early. removed_inv ps activity changes n target i kind early inv r) later)

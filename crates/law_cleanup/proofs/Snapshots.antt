@@ -23,12 +23,12 @@ use Rattle.law_invariants.proofs.Working.{same_fixed, SameFixed}
 use Rattle.law_invariants.proofs.Ticking.{by_checks, refused_keeps, KeepsAll, namespaces_later, tables_later, tablet_before}
 use Rattle.law_invariants.proofs.Remembering.{remembered_on}
 use Rattle.law_invariants.proofs.Hearing.{clocks_rise, rows_ticked}
-use Rattle.law_changes.proofs.Told.{slots_hear, master_early, tablet_early, told_same, slots_equal}
-use Rattle.law_changes.proofs.Quiet.{Follows, slot_follows, master_follows}
-use Rattle.law_cleanup.proofs.Forgetting.{not_false}
-use Rattle.law_cleanup.proofs.Discarding.{IsDiscarded, is_discarded, discarding, operations_discard}
+use Rattle.law_invariants.proofs.Told.{slots_hear, master_early, tablet_early, told_same, slots_equal}
+use Rattle.law_invariants.proofs.Quiet.{Follows, slot_follows, master_follows}
+use Rattle.law_cleanup.proofs.Discarding.{operations_discard}
 use Rattle.law_cleanup.proofs.Thinning.{others_of, others_are, all_others, slot_thinned, works_thinned, in_plan}
-use Rattle.law_cleanup.proofs.Removing.{unknown_keeps, removing_tablet_keeps, nothing_keeps}
+use Rattle.law_cleanup.proofs.Removing.{unknown_keeps, removing_tablet_keeps}
+use Rattle.law_invariants.proofs.Unneeded.{not_false, IsDiscarded, is_discarded, discarding, nothing_keeps}
 
 abbrev pub snapshot_gone : Id → List ℕ → Outcome
 snapshot_gone target slots = record { master = Removes target; tablets = tell slots (DropFrozen target); reply = Removed }
@@ -84,7 +84,6 @@ discarded_inv ps activity changes n target slots r kind later plan inv d =
           (λ i is from. (let t = ps.tablet i in subst (λ a. SlotGood k changes i (effect a n t)) (sym (told_same slots (DropFrozen target) i is))
           (slot_thinned k changes i target t n (others_of target t.frozen) (le_of_lt (tablet_early slots ps n i later is from)) (others_are target t.frozen) (slot_follows m k changes changes i t f (inv.slots i)))))
           (λ i aside. slot_follows m k changes changes i (ps.tablet i) f (inv.slots i));
-      late = inv.late;
     })
 
 abbrev pub snapshot_checks : SnapshotRecord → List ℕ → ℕ → Master → List Check
@@ -101,17 +100,14 @@ removing_snapshot_keeps (Some r) ps activity changes n target slots e kind later
     let lister = lister_of_snapshot m r in
     let gone = snapshot_gone target (snapshot_plan m r) in
     by_checks (Remove target slots) n ps activity changes (snapshot_checks r slots n m) gone
-    (λ why. refused_keeps (Remove target slots) why n ps activity changes later inv tt refl)
+    (λ why. refused_keeps (Remove target slots) why n ps activity changes later inv refl)
     (λ passes.
     let plan : slots ≡ snapshot_plan m r = slots_equal slots (snapshot_plan m r) (not_false _ passes.0) in
     let unneeded = nothing_keeps (leb floor r.at) lister (InWindow r.at floor) passes.1.0 in
     let late : leb floor r.at ≡ false = unneeded.0 in
     let below : r.at < floor_of m r.namespace n = grind (arith, nat_tests) in
     let d = is_discarded m n changes target r (master_early slots ps n later) inv.operations e below unneeded.1 in
-    record {
-      right = tt;
-      inv = subst (λ ss. Inv (told (Remove target slots) (snapshot_gone target ss) n ps) activity changes) plan (discarded_inv ps activity changes n target slots r kind later plan inv d);
-    })
+    subst (λ ss. Inv (told (Remove target slots) (snapshot_gone target ss) n ps) activity changes) plan (discarded_inv ps activity changes n target slots r kind later plan inv d))
 
 removing_keeps : (kind : Kind) (ps : Parts) (activity : List Interval) (changes : List Made) (n : ℕ) (target : Id) (slots : List ℕ) → target.kind ≡ kind → IsRemovable kind → Later (0 ∷ slots) ps n → Inv ps activity changes
     → KeepsAll (Remove target slots) n ps activity changes (removing kind target slots n ps)

@@ -21,9 +21,8 @@ use Rattle.law_invariants.specs.Orders.{IsAfter, RestorationSlot, CloneSlot, IsR
 use Rattle.law_invariants.specs.Invariant.{SlotGood, SlotWorks}
 use Rattle.law_invariants.proofs.Finding.{in_filter, filter_in, map_in, second_fails, not_passing, same_equal, same_self, not_same}
 use Rattle.law_invariants.proofs.Ticking.{not_true, over_later, below_later}
-use Rattle.law_changes.proofs.Plans.{has_in, has_rising}
-use Rattle.law_cleanup.proofs.Forgetting.{not_false}
-use Rattle.law_cleanup.proofs.Discarding.{IsDiscarded, without, discarding, kept_record, was_record}
+use Rattle.law_invariants.proofs.Plans.{has_in, has_rising}
+use Rattle.law_invariants.proofs.Unneeded.{not_false, IsDiscarded, without, discarding, kept_record, was_record}
 
 -- Frozen sets
 

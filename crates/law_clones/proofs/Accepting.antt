@@ -25,14 +25,13 @@ use Rattle.model.specs.Parts.{Master, Drawn, Parts}
 use Rattle.law_store.proofs.Keys.{either_way}
 use Rattle.law_invariants.specs.Operations.{Uses, takers, CloneGood}
 use Rattle.law_invariants.specs.Invariant.{Inv, view_of, view_at}
-use Rattle.law_invariants.proofs.Finding.{none_or_some, both_pass, passes_both, same_equal, same_self, in_mapped, filter_in, in_filter}
+use Rattle.law_invariants.proofs.Finding.{none_or_some, both_pass, passes_both, same_equal, same_self, in_mapped, filter_in, in_filter, not_either}
 use Rattle.law_invariants.proofs.Operating.{target_reserved}
 use Rattle.law_invariants.proofs.Overlap.{one_holder, holder_there}
 use Rattle.law_invariants.proofs.Records.{record_at_is, owners_first}
 use Rattle.law_invariants.proofs.Remembering.{no_lows, low_found, floor_rises, kept_all}
-use Rattle.law_changes.proofs.Free.{rise_in}
-use Rattle.law_changes.proofs.Namespaces.{unreserved_name, not_either}
-use Rattle.law_moves.proofs.Using.{NotUsed, no_time}
+use Rattle.law_invariants.proofs.Free.{rise_in}
+use Rattle.law_invariants.proofs.Using.{unreserved_name, NotUsed, no_time}
 use Rattle.law_clones.proofs.Beside.{FloorsRise}
 use Rattle.law_clones.proofs.Users.{it_uses}
 use Rattle.law_clones.proofs.Serving.{not_restored}
@@ -53,7 +52,7 @@ pub record MayClone (m : Master) (ns : Id) (least : ℕ) (target : List ℕ) (to
   pub enough : length (sources m ns to) ≤ length (free_slots m)
 
 -- the time is not below the floor, so the catalog is kept from it on
-floor_from : (ps : Parts) (activity : List Interval) (changes : List Change) (ns : Id) (s : ℕ) (target : List ℕ) (to n : ℕ) → ps.master.clock ≤ n → MayClone ps.master ns s target to n → floor_of ps.master ns ps.master.clock ≤ to
+pub floor_from : (ps : Parts) (activity : List Interval) (changes : List Change) (ns : Id) (s : ℕ) (target : List ℕ) (to n : ℕ) → ps.master.clock ≤ n → MayClone ps.master ns s target to n → floor_of ps.master ns ps.master.clock ≤ to
 floor_from ps activity changes ns s target to n le may =
     let m = ps.master in
     let up : floor_of m ns m.clock ≤ floor (least_low m.schedules ns n) (time_of_user m ns) n =

@@ -15,7 +15,7 @@ use Rattle.law_invariants.specs.Operations.{Uses, OperationsApart, OperationsGoo
 use Rattle.law_invariants.specs.Orders.{IsFence, IsAfter, OrdersGood, CloneSlot, IsHome, IsTarget, ReservedSlot, cloning_stage, stage_of_clone}
 use Rattle.law_invariants.specs.Invariant.{Inv}
 use Rattle.law_invariants.proofs.Finding.{in_added, in_first}
-use Rattle.law_moves.proofs.Using.{alone_added}
+use Rattle.law_invariants.proofs.Using.{alone_added}
 use Rattle.law_clones.proofs.Beside.{with_clones, FloorsRise, schedule_beside, scheduled_beside, snapshot_beside, restoration_beside, clone_beside, journal_beside, rows_beside, forgotten_beside, master_beside, slot_beside, fence_beside, restoration_slot_beside, clone_slot_beside, home_beside}
 
 abbrev pub adding : Master → CloneRecord → Master
@@ -198,5 +198,4 @@ adding_keeps ps activity changes c w inv =
               (subst (λ state. CloneSlot state (adding m c) changes c slot t) (sym w.accepted) (w.vacant slot));
         };
       });
-      late = inv.late;
     }

@@ -17,9 +17,9 @@ use Rattle.law_invariants.proofs.Undoing.{journal_ticked}
 use Rattle.law_invariants.proofs.Remembering.{remembered_ticked}
 use Rattle.law_invariants.proofs.Working.{operations_ticked_if, works_ticked_if, tables_drawn, all_listed}
 use Rattle.law_invariants.proofs.Ticking.{KeepsAll, master_ticked, slot_ticked}
-use Rattle.law_moves.proofs.Pending.{unfinished_clone_is}
-use Rattle.law_moves.proofs.Acting.{alone_keeps}
-use Rattle.law_moves.proofs.Advancing.{moves, advance_by, mapped_some, no_restoration}
+use Rattle.law_invariants.proofs.Pending.{unfinished_clone_is}
+use Rattle.law_invariants.proofs.Acting.{alone_keeps}
+use Rattle.law_invariants.proofs.Advancing.{moves, advance_by, mapped_some, no_restoration}
 
 -- the master alone goes on to a later clock
 pub ticked_keeps : (ps : Parts) (activity : List Interval) (changes : List Made) (n : ℕ) → ps.master.clock ≤ n → Inv ps activity changes → Inv (record { master = record ps.master { clock = n }; tablet = ps.tablet }) activity changes
@@ -32,7 +32,6 @@ ticked_keeps ps activity changes n le inv = let m = ps.master in record {
   journal = journal_ticked m n changes inv.journal;
   rows_past = rows_ticked m n changes ps.tablet ps.tablet le (λ slot. le_refl _) inv.rows_past;
   works = λ slot. works_ticked_if true m n changes slot (ps.tablet slot) (λ e. le) (tables_drawn m activity inv.remembered) inv.operations (inv.works slot);
-  late = inv.late;
 }
 
 -- what a move out of a state keeps
@@ -69,5 +68,5 @@ advance_clone_by ps activity changes n operation later kind inv go =
     ap (λ o. with_either o (unfinished_clone m.clones operation) n changes) (no_restoration m changes operation inv.operations (λ e. let q : Clone ≡ Restoration = sym kind ∙ e in grind arith))
     ∙ ap (λ o. with_either None o n changes) found.1.0 in
     alone_keeps (Advance operation) (moves operation p.next) n ps activity (clone_moved r.state r n (record m { activity = activity })).activity changes (with_clone r.state r n changes) (clone_moved r.state r n m) refl refl
-    (moved_is m refl) (ap (λ k. k.activity) (moved_is (record m { activity = activity }) refl)) tt made
+    (moved_is m refl) (ap (λ k. k.activity) (moved_is (record m { activity = activity }) refl)) made
     (go r there.1.0 may))

@@ -33,10 +33,9 @@ use Rattle.law_invariants.proofs.Records.{kept_by, kept_beside}
 use Rattle.law_invariants.proofs.Ticking.{past_later}
 use Rattle.law_invariants.proofs.Undoing.{RowsFrom, one_more}
 use Rattle.law_invariants.proofs.Working.{before_any}
-use Rattle.law_changes.proofs.Creating.{none_awaited, awaited_none}
+use Rattle.law_invariants.proofs.Awaiting.{none_awaited, awaited_none}
 use Rattle.law_invariants.proofs.Names.{new_namespace}
-use Rattle.law_moves.proofs.Moving.{done_is}
-use Rattle.law_moves.proofs.Slots.{serving_present}
+use Rattle.law_invariants.proofs.Slots.{done_is, serving_present}
 use Rattle.law_clones.proofs.Beside.{FloorsRise, schedule_beside, scheduled_beside, snapshot_beside, restoration_beside, clone_beside, journal_beside, rows_beside, forgotten_beside, master_beside, slot_beside, restoration_slot_beside, clone_slot_beside}
 use Rattle.law_clones.proofs.Entering.{Step, Steps, now, entered, stepped, by_entering, other_in, entered_apart, entered_floors, orders_entering, sent_entering}
 use Rattle.law_clones.proofs.Advancing.{MayMove, MovedKeeps}
@@ -686,7 +685,6 @@ module _ (ps : Parts) (activity : List Interval) (changes : List Change) (n : â„
         journal = journal_beside g cs s new journal_grown;
         rows_past = rows_beside g cs s ps.tablet new rows_grown;
         works = works_now;
-        late = (b.inv.late, Î» ns t fixed of. let l = b.inv.master.past ns t fixed in let z = b.before in omega arith);
       }
 
 -- the move by which the target becomes current

@@ -13,12 +13,13 @@ use Rattle.model.specs.Records.{IdPair, CloneRecord}
 use Rattle.law_store.proofs.Keys.{either_way, equal_keys, key_self}
 use Rattle.law_invariants.specs.Operations.{PairsApart}
 use Rattle.law_invariants.specs.Invariant.{IsPast, view_of, view_at, ColumnsStand, NamespacesStand, RecordsRise, TablesStand, MarksStand, is_marked}
-use Rattle.law_invariants.proofs.Finding.{both_pass, passes_both, second_fails, none_or_some, same_equal, same_self, in_append, in_first, in_second, none_found, not_same}
+use Rattle.law_invariants.proofs.Finding.{both_pass, passes_both, second_fails, none_or_some, same_equal, same_self, in_append, in_first, in_second, none_found, not_same, find_only, find_in_first}
 use Rattle.law_invariants.proofs.Marks.{marked_set, marks_namespace_made}
 use Rattle.law_invariants.proofs.Names.{named_is, name_is, new_namespace, names_begun}
 use Rattle.law_invariants.proofs.Records.{has_title, is_named_at, is_table_at, table_named_found, record_at_found, record_at_is, kept_rises, kept_by}
 use Rattle.law_invariants.proofs.Ticking.{past_later}
-use Rattle.law_moves.proofs.Backing.{Alike, find_only, find_in_first, old_one, rise_append, newest_most}
+use Rattle.law_invariants.proofs.Tables.{Alike, old_one}
+use Rattle.law_invariants.proofs.Rising.{rise_append, newest_most}
 use Rattle.law_clones.proofs.Pairing.{one_target_of, one_source_of}
 use Rattle.law_clones.proofs.Viewing.{clone, source_is, by_source, table_early, table_aside, table_target}
 

@@ -20,13 +20,13 @@ use Rattle.law_invariants.specs.Operations.{IsCopied, CloneStateGood}
 use Rattle.law_invariants.specs.Orders.{ClonePlace, CloneSlot, ReservedSlot, stage_of_clone}
 use Rattle.law_invariants.specs.Invariant.{Inv}
 use Rattle.law_invariants.proofs.Finding.{none_or_some, both_pass, same_equal, in_mapped, map_in, in_second}
-use Rattle.law_moves.proofs.Slots.{done_mark, records_keep}
-use Rattle.law_moves.proofs.Recording.{recorded}
-use Rattle.law_moves.proofs.Snapshots.{MayTake, taken, taken_onto}
-use Rattle.law_moves.proofs.Completing.{one_snapshot}
+use Rattle.law_invariants.proofs.Slots.{done_mark, records_keep}
+use Rattle.law_invariants.proofs.Recording.{recorded}
+use Rattle.law_invariants.proofs.Taking.{MayTake, taken, taken_onto}
+use Rattle.law_invariants.proofs.Using.{one_snapshot}
 use Rattle.law_clones.proofs.Entering.{Step, Enters, entering_keeps, from_one}
 use Rattle.law_clones.proofs.Serving.{clone_scheduled, clone_served}
-use Rattle.law_moves.proofs.Serving.{serving_some}
+use Rattle.law_invariants.proofs.Serving.{serving_some}
 use Rattle.law_clones.proofs.Advancing.{MayMove, MovedKeeps, ticked_keeps}
 
 -- a state before the copies

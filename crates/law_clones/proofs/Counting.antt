@@ -11,7 +11,7 @@ use Rattle.model.specs.Restored.{cloned_activity}
 use Rattle.model.specs.Journal.{Change, source_of, table_at}
 use Rattle.model.specs.Records.{IdPair, TabletPair, CloneRecord}
 use Rattle.model.specs.Stands.{holders}
-use Rattle.model.specs.Strict.{HasRange}
+use Rattle.model.specs.Stands.{HasRange}
 use Rattle.law_store.proofs.Keys.{either_way}
 use Rattle.law_invariants.specs.Operations.{takers, PairsApart}
 use Rattle.law_invariants.specs.Invariant.{Covered}

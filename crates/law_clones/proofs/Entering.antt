@@ -17,8 +17,8 @@ use Rattle.law_invariants.specs.Orders.{ClonePlace, IsFence, IsAfter, IsMark, Or
 use Rattle.law_invariants.specs.Invariant.{Inv}
 use Rattle.law_invariants.proofs.Finding.{same_equal, same_self, in_mapped, map_in, filter_in, first_fails}
 use Rattle.law_invariants.proofs.Ticking.{not_true}
-use Rattle.law_moves.proofs.Using.{mapped_is, alone_mapped}
-use Rattle.law_moves.proofs.Pending.{unfinished_clone_is, unacked_is}
+use Rattle.law_invariants.proofs.Using.{mapped_is, alone_mapped}
+use Rattle.law_invariants.proofs.Pending.{unfinished_clone_is, unacked_is}
 use Rattle.law_clones.proofs.Beside.{with_clones, FloorsRise, schedule_beside, scheduled_beside, snapshot_beside, restoration_beside, source_beside, reserved_beside, clone_beside, journal_beside, rows_beside, forgotten_beside, master_beside, slot_beside, fence_beside, restoration_slot_beside, clone_slot_beside, home_beside}
 use Rattle.law_clones.proofs.Users.{users_floors}
 
@@ -378,5 +378,4 @@ entering_keeps ps activity changes v w inv =
       journal = journal_beside m cs s changes inv.journal;
       rows_past = rows_beside m cs s ps.tablet changes inv.rows_past;
       works = λ slot. (let h = inv.works slot in record { orders = orders_entering m v w.steps ops.apart slot (ps.tablet slot) (w.place slot) h.orders; obeyed = obeyed_entering ps changes v slot w ops h.obeyed });
-      late = inv.late;
     }

@@ -17,8 +17,8 @@ use Rattle.law_invariants.specs.Operations.{PairsApart}
 use Rattle.law_invariants.specs.Invariant.{RecordsRise}
 use Rattle.law_invariants.proofs.Finding.{both_pass, same_equal, same_self, filter_in}
 use Rattle.law_invariants.proofs.Placing.{ordered_only}
-use Rattle.law_changes.proofs.Free.{RiseFrom, rise_in, AreFree, least_free}
-use Rattle.law_moves.proofs.Listing.{namespace_only}
+use Rattle.law_invariants.proofs.Free.{RiseFrom, rise_in, AreFree, least_free}
+use Rattle.law_invariants.proofs.Listing.{namespace_only}
 
 -- Tables at a time: each is there once
 

@@ -19,7 +19,7 @@ use Rattle.law_invariants.proofs.Remembering.{forgotten_on}
 use Rattle.law_invariants.proofs.Tables.{tables_reserved}
 use Rattle.law_invariants.proofs.Names.{names_further}
 use Rattle.law_invariants.proofs.Working.{tables_drawn, all_listed, same_fixed}
-use Rattle.law_changes.proofs.Quiet.{good_carried, same_names, marks_stay}
+use Rattle.law_invariants.proofs.Quiet.{good_carried, same_names, marks_stay}
 
 abbrev pub reserving : Master → ℕ → List Owner → Drawn → Master
 reserving m n os d = going m n (record m.catalog { owners = m.catalog.owners ++ os }) m.activity d m.sent
@@ -128,5 +128,4 @@ reserving_keeps ps activity changes n os d le new inv =
         orders = orders_on m n c m.activity d m.sent changes changes slot (ps.tablet slot) o (inv.works slot).orders;
         obeyed = obeyed_on m n c m.activity d m.sent changes changes slot (ps.tablet slot) o (λ q serving at e key isin is paired. refl) inv.operations (inv.works slot).obeyed;
       };
-      late = inv.late;
     }

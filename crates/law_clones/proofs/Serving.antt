@@ -15,8 +15,8 @@ use Rattle.law_store.proofs.Keys.{either_way}
 use Rattle.law_invariants.specs.Operations.{IsServing, OperationsGood}
 use Rattle.law_invariants.proofs.Finding.{none_or_some, both_pass, same_equal, same_self}
 use Rattle.law_invariants.proofs.Ticking.{not_true}
-use Rattle.law_moves.proofs.Using.{schedule_of_is}
-use Rattle.law_moves.proofs.Serving.{served}
+use Rattle.law_invariants.proofs.Using.{schedule_of_is}
+use Rattle.law_invariants.proofs.Serving.{served}
 use Rattle.law_invariants.proofs.Remembering.{has_low}
 use Rattle.law_clones.proofs.Users.{user_is, user_none}
 

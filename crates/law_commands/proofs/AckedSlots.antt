@@ -1,7 +1,7 @@
 -- What holds of the master, of slots and of the journal goes on through an ack, where the tablet did what is acked.
 use Rattle.std.proofs.Common.{ℕ, ◌≡◌, ◌≤◌, ◌<◌, List, [], ◌∷◌, Option, Some, None, Bool, true, false, cond, ◌&&◌, ◌||◌, inl, inr, map, refl, sym, ap, subst, ◌∙◌, arith, not, eqb, eqb-true, le_trans, ◌⊎◌}
 use Rattle.std.specs.List.{list_any}
-use Rattle.std.specs.Option.{option_and_then, option_map_or}
+use Rattle.std.specs.Option.{option_and_then, option_map_or, option_or}
 use Rattle.std.proofs.lemmas.Bool.{true≢false}
 use Rattle.std.proofs.lemmas.Bool.Decides.{nat_tests}
 use Rattle.row_values.specs.Ids.{Kind, Snapshot, Restoration, Clone, Id, same}
@@ -14,7 +14,7 @@ use Rattle.model.specs.Tablets.{Tablet, Command, Mark, Body, BodyKind, FenceKind
 use Rattle.model.specs.Tablets as tell
 use Rattle.model.specs.Records.{Listed, SnapshotRecord, RestorationRecord, RestorationState, Fencing, Snapshotting, Switching, Restoring, Releasing, Restored, CloneRecord, CloneState, Accepted, CloneSnapshot, Copying, CloneReleasing, CloneComplete, acked_at, unacked_at, is_restored, is_cloned, is_visible, point_of, TabletPair}
 use Rattle.model.specs.Coordination.{pending_of, unfinished_snapshot, unfinished_restoration, unfinished_clone, acked_restoration, acked_clone}
-use Rattle.model.specs.Stands.{is_restore, is_after_switch, copied_at, awaited_in, awaited_of, first_of_two, HoldsFrozen}
+use Rattle.model.specs.Stands.{is_restore, is_after_switch, copied_at, awaited_in, awaited_of, HoldsFrozen}
 use Rattle.model.specs.Cleanup.{floor_of}
 use Rattle.model.specs.Parts.{Master}
 use Rattle.law_store.proofs.Keys.{either_way}
@@ -98,11 +98,11 @@ awaited_of_acked : (state : RestorationState) (r : RestorationRecord) (id : Id) 
 awaited_of_acked (Restoring point serving) r id slot tablet done = ap (λ q. cond (q && not (is_done done r.id RestoreFromKind)) (Some point) None) (any_if (same r.id id) r.listed slot tablet)
 awaited_of_acked _ r id slot tablet done = refl
 
-awaited_acked : (rs : List RestorationRecord) (id : Id) (slot : ℕ) (tablet : Id) (done : List Mark) → awaited_in (map (ack_restoration id slot) rs) tablet done ≡ awaited_in rs tablet done
+pub awaited_acked : (rs : List RestorationRecord) (id : Id) (slot : ℕ) (tablet : Id) (done : List Mark) → awaited_in (map (ack_restoration id slot) rs) tablet done ≡ awaited_in rs tablet done
 awaited_acked [] id slot tablet done = refl
 awaited_acked (r ∷ rs) id slot tablet done =
-    ap (λ q. first_of_two q (awaited_in (map (ack_restoration id slot) rs) tablet done)) (awaited_of_acked r.state r id slot tablet done)
-    ∙ ap (first_of_two (awaited_of r.state r tablet done)) (awaited_acked rs id slot tablet done)
+    ap (λ q. option_or q (awaited_in (map (ack_restoration id slot) rs) tablet done)) (awaited_of_acked r.state r id slot tablet done)
+    ∙ ap (option_or (awaited_of r.state r tablet done)) (awaited_acked rs id slot tablet done)
 
 pub slot_acked : (m : Master) (id : Id) (acked slot : ℕ) (changes : List Change) (t : Tablet) → SlotGood m changes slot t → SlotGood (acked_all id acked m) changes slot t
 slot_acked m id acked slot changes t h =

@@ -25,7 +25,7 @@ use Rattle.law_invariants.proofs.Undoing.{same_rows, journal_on}
 use Rattle.law_invariants.proofs.Working.{tables_drawn, all_listed, same_fixed, onward_ticked}
 use Rattle.law_invariants.proofs.Hearing.{rows_on}
 use Rattle.law_invariants.proofs.Frame.{touched}
-use Rattle.law_commands.proofs.Pending.{IsPending, BySnapshot, ByRestoration, ByClone, pending_is, snapshot_no_restoration, snapshot_no_clone, restoration_no_clone, none_in}
+use Rattle.law_invariants.proofs.Commanded.{IsPending, BySnapshot, ByRestoration, ByClone, pending_is, snapshot_no_restoration, snapshot_no_clone, restoration_no_clone, none_in}
 use Rattle.law_commands.proofs.Hiding.{no_end}
 use Rattle.law_invariants.proofs.Marked.{master_marked}
 use Rattle.law_commands.proofs.Acked.{ack_snapshot, ack_restoration, ack_clone, acked_all, operations_acked}
@@ -193,7 +193,6 @@ acked_inv ps activity changes operation slot l inv p did heard = let m = ps.mast
         })
         (inv.works i).obeyed;
   };
-  late = inv.late;
 }
 
 -- fewer sent marks
@@ -214,7 +213,6 @@ marked_inv ps activity changes s fewer inv =
         orders = orders_on m m.clock m.catalog m.activity m.drawn s changes changes i (ps.tablet i) o (inv.works i).orders;
         obeyed = obeyed_on m m.clock m.catalog m.activity m.drawn s changes changes i (ps.tablet i) o (λ k serving at d key isin is paired. refl) inv.operations (inv.works i).obeyed;
       };
-      late = inv.late;
     }
 
 -- The act
@@ -242,22 +240,16 @@ acked_by_done true ps activity changes n operation slot l did e later from inv =
     let did' : is_done (qs.tablet slot).done operation (kind_of l.body) ≡ true = ap (λ b. is_done (cond b (ticked n t) t).done operation (kind_of l.body)) at ∙ did in
     let heard : (qs.tablet slot).clock ≤ n = subst (λ b. (cond b (ticked n t) t).clock ≤ n) (sym at) (le_refl n) in
     let after : Inv (record qs { master = acked_all operation slot (record m { clock = n }) }) activity changes = acked_inv qs activity changes operation slot l before (ticks m n operation slot l p) did' heard in
-    record {
-      right = tt;
-      inv = subst (λ a. Inv (record qs { master = acked_master operation slot n m }) a changes) (sym (activity_acked operation.kind operation slot n (record m { activity = activity })))
-          (subst (λ k. Inv (record qs { master = k }) activity changes) (sym (acked_pending m changes operation slot n l inv.operations p)) after);
-    }
+    subst (λ a. Inv (record qs { master = acked_master operation slot n m }) a changes) (sym (activity_acked operation.kind operation slot n (record m { activity = activity })))
+    (subst (λ k. Inv (record qs { master = k }) activity changes) (sym (acked_pending m changes operation slot n l inv.operations p)) after)
 acked_by_done false ps activity changes n operation slot l did e later from inv =
     let act = Ack operation slot in
-    record {
-      right = tt;
-      inv = marked_inv (told act (answered Acked) n ps) activity changes (unsent_at operation slot ps.master.sent) (λ mark isin. (filter_in ps.master.sent (λ s. not (same s.operation operation && eqb s.slot slot)) mark isin).0)
-          (nothing_told act Acked n ps activity changes later inv);
-    }
+    marked_inv (told act (answered Acked) n ps) activity changes (unsent_at operation slot ps.master.sent) (λ mark isin. (filter_in ps.master.sent (λ s. not (same s.operation operation && eqb s.slot slot)) mark isin).0)
+    (nothing_told act Acked n ps activity changes later inv)
 
 acked_of : (found : Option Listed) (ps : Parts) (activity : List Interval) (changes : List Change) (n : ℕ) (operation : Id) (slot : ℕ) → pending ps.master operation slot ≡ found → Later (slots_of (Ack operation slot)) ps n → 1 ≤ slot
     → Inv ps activity changes → KeepsAll (Ack operation slot) n ps activity changes (acknowledging found operation slot (ps.tablet slot))
-acked_of None ps activity changes n operation slot e later from inv = refused_keeps (Ack operation slot) (NotPending operation) n ps activity changes later inv tt refl
+acked_of None ps activity changes n operation slot e later from inv = refused_keeps (Ack operation slot) (NotPending operation) n ps activity changes later inv refl
 acked_of (Some l) ps activity changes n operation slot e later from inv = acked_by_done (is_done (ps.tablet slot).done operation (kind_of l.body)) ps activity changes n operation slot l refl e later from inv
 
 pub ack_keeps : (ps : Parts) (activity : List Interval) (changes : List Change) (n : ℕ) (operation : Id) (slot : ℕ) → Later (slots_of (Ack operation slot)) ps n → 1 ≤ slot → Inv ps activity changes

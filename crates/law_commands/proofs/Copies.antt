@@ -1,6 +1,7 @@
 -- A clone's target that copies the rows of its source keeps what holds: no tablet of its slot is active yet.
 use Rattle.std.proofs.Common.{ℕ, ◌≡◌, ◌≢◌, ◌≤◌, ◌<◌, ◌+◌, List, [], ◌∷◌, ◌++◌, Some, None, true, false, inl, inr, refl, sym, ap, subst, ◌∙◌, arith, le_refl, le_of_lt}
 use Rattle.std.proofs.lemmas.Bool.{true≢false}
+use Rattle.std.specs.Option.{option_map}
 use Rattle.row_values.specs.Codes.{code_of}
 use Rattle.row_values.specs.Ids.{Id, same}
 use Rattle.row_values.specs.Elements.{In}
@@ -8,41 +9,27 @@ use Rattle.row_values.specs.Store.{Version, read_of, rows_at, of_rows}
 use Rattle.row_values.specs.Ranges.{in_range}
 use Rattle.model.specs.Activity.{Interval}
 use Rattle.model.specs.Journal.{Change, row_at}
-use Rattle.model.specs.Tablets.{Tablet, ServingPart, Command, Mark, Body, Fence, Freeze, Release, Copy, FenceKind, FreezeKind, CopyKind, FrozenSet, set_of, rows_of_set, cutoff_of_set, processed, is_done}
-use Rattle.model.specs.Records.{Listed, RestorationRecord, RestorationState, Fencing, Restoring, Releasing, TabletPair, CloneRecord, CloneState, Accepted, CloneSnapshot, Copying, CloneReleasing, CloneComplete, is_cloned, is_visible}
+use Rattle.model.specs.Tablets.{Tablet, ServingPart, Command, Mark, Body, Freeze, Copy, FenceKind, FreezeKind, CopyKind, FrozenSet, set_of, rows_of_set, processed, is_done}
+use Rattle.model.specs.Records.{Listed, TabletPair, CloneRecord, CloneState, Copying, CloneReleasing, CloneComplete, is_cloned, is_visible}
 use Rattle.model.specs.Stands.{AreRowsAt, copied_at}
 use Rattle.model.specs.Parts.{Master}
+use Rattle.model.specs.Retained.{ReachesBack, from_set}
 use Rattle.law_store.proofs.Keys.{either_way}
 use Rattle.law_store.proofs.Listing.{sorted_restored, below_of_rows}
 use Rattle.law_store.proofs.Members.{keys_of_rows, keys_rows_at}
 use Rattle.law_store.proofs.Restoring.{are_rows_restored}
 use Rattle.law_store.specs.Sorted.{EachKey}
 use Rattle.law_invariants.specs.Invariant.{SlotGood, SlotWorks}
-use Rattle.law_invariants.specs.Operations.{IsAfterSwitch, IsCopied, CopyingGood, RestorationStateGood, CloneStateGood}
+use Rattle.law_invariants.specs.Operations.{CopyingGood, CloneStateGood}
 use Rattle.law_invariants.specs.Orders.{ClonePlace, IsCopy, CopyingSlot, CloneSlot}
 use Rattle.law_invariants.proofs.Finding.{same_equal, same_self}
 use Rattle.law_invariants.proofs.Operating.{visible_later}
-use Rattle.law_commands.proofs.Marks.{done_still, done_beside, done_now}
-use Rattle.law_commands.proofs.Pending.{IsPending, BySnapshot, ByRestoration as RestorationPends, ByClone as ClonePends, none_in}
+use Rattle.law_invariants.proofs.DoneMarks.{done_still, done_beside, done_now}
+use Rattle.law_invariants.proofs.Commanded.{IsPending, BySnapshot, ByRestoration as RestorationPends, ByClone as ClonePends}
 use Rattle.law_commands.proofs.Doing.{mark_of, mark_pending, orders_done, apart_in, apart_of}
-use Rattle.law_commands.proofs.Restores.{serves_then}
 use Rattle.law_commands.proofs.Held.{Does, HoldsOf, marked_after}
-
-pub copying_is : (state : CloneState) (m : Master) (c : CloneRecord) (l : Listed) (source : ℕ) (snapshot : Id) (to stamp : ℕ) (table : Id) (low high version : ℕ) → CloneStateGood state m c → In l c.listed → l.body ≡ Copy source snapshot to stamp table low high version
-    → (serving : Id) × ((at : ℕ) × ((state ≡ Copying serving at) × IsCopied c serving at l))
-copying_is Accepted m c l source snapshot to stamp table low high version h isin e = absurd (none_in c.listed l h isin)
-copying_is (CloneSnapshot own) m c l source snapshot to stamp table low high version h isin e = absurd (none_in c.listed l h.empty isin)
-copying_is (Copying serving at) m c l source snapshot to stamp table low high version h isin e = (serving, (at, (refl, h.bodies l isin)))
-copying_is (CloneReleasing serving at) m c l source snapshot to stamp table low high version h isin e =
-    absurd (let q : Copy source snapshot to stamp table low high version ≡ Release h.since = sym e ∙ h.bodies l isin in grind arith)
-copying_is (CloneComplete serving at) m c l source snapshot to stamp table low high version h isin e = absurd (none_in c.listed l h isin)
-
-pub no_restoration_copy : (state : RestorationState) (m : Master) (changes : List Change) (r : RestorationRecord) (l : Listed) (source : ℕ) (snapshot : Id) (to stamp : ℕ) (table : Id) (low high version : ℕ) → RestorationStateGood state m changes r → In l r.listed
-    → l.body ≡ Copy source snapshot to stamp table low high version → ⊥
-no_restoration_copy Fencing m changes r l source snapshot to stamp table low high version h isin e = let q : Fence ≡ Copy source snapshot to stamp table low high version = sym (h.bodies l isin) ∙ e in grind arith
-no_restoration_copy (Restoring point serving) m changes r l source snapshot to stamp table low high version h isin e = subst (IsAfterSwitch r point serving) e (h.bodies l isin)
-no_restoration_copy (Releasing point serving) m changes r l source snapshot to stamp table low high version h isin e = let q : Release point ≡ Copy source snapshot to stamp table low high version = sym (h.bodies l isin) ∙ e in grind arith
-no_restoration_copy _ m changes r l source snapshot to stamp table low high version h isin e = none_in r.listed l h.empty isin
+use Rattle.law_invariants.proofs.Bodies.{copying_is, no_restoration_copy, serves_then}
+use Rattle.law_invariants.proofs.Bodies.{serves_then}
 
 -- a target that is current is active in its slot
 visible_interval : (state : CloneState) (m : Master) (c : CloneRecord) (l : Listed) → CloneStateGood state m c → is_visible state ≡ true → is_cloned state ≡ false → In l c.listed → (i : Interval) × (In i m.activity × (i.slot ≡ l.slot))
@@ -69,7 +56,7 @@ copied_with t n tablet p vs at operation inbox done = record t {
 
 copied_by : (m : Master) (changes : List Change) (slot n : ℕ) (t q : Tablet) (operation tablet serving : Id) (at : ℕ) (cs : List Command) (b : CloneRecord) (p : TabletPair) → In b m.clones → b.id ≡ operation → b.state ≡ Copying serving at
     → In (record { tablet = tablet; slot = slot; body = Copy p.source_slot serving b.to at p.table p.low p.high 1; acked = false }) b.listed → In p b.tablets → tablet ≡ p.target → slot ≡ p.slot
-    → SlotGood m changes p.source_slot q → SlotWorks m changes p.source_slot q → cutoff_of_set (set_of q.frozen serving) ≤ b.to
+    → SlotGood m changes p.source_slot q → SlotWorks m changes p.source_slot q → ReachesBack (option_map from_set (set_of q.frozen serving)) b.to
     → Does m changes slot n t operation tablet (Copy p.source_slot serving b.to at p.table p.low p.high 1) cs
     → HoldsOf m changes slot (processed (record { operation = operation; tablet = tablet; body = Copy p.source_slot serving b.to at p.table p.low p.high 1 } ∷ cs) (rows_of_set (set_of q.frozen serving) b.to) n t)
 copied_by m changes slot n t q operation tablet serving at cs b p known id_is is lists paired target_is slot_is sg sw cut d =
@@ -92,7 +79,7 @@ copied_by m changes slot n t q operation tablet serving at cs b p known id_is is
     let gi = sg.each from.interval from.kept from.slot_is in
     let s = serves_then m changes p.source_slot q serving b.source b.to from.interval d.operations sg sw good.serves from.kept from.slot_is from.owned from.active in
     let f = s.set in
-    let low : f.cutoff ≤ b.to = subst (λ k. cutoff_of_set k ≤ b.to) s.held cut in
+    let low : f.cutoff ≤ b.to = subst (λ k. ReachesBack (option_map from_set k) b.to) s.held cut in
     let less : at < t.clock = d.after.copied b at known id_is (ap copied_at is) in
     let sorted = sg.good.set_sorted f s.isin in
     let keys : EachKey (λ key. in_range p.low p.high (code_of key)) f.versions =
@@ -186,13 +173,13 @@ pub record IsPart (m : Master) (changes : List Change) (slot : ℕ) (q : Tablet)
 -- what a copy does, by its body
 abbrev Copied : Body → Master → List Change → ℕ → ℕ → Tablet → Tablet → Id → Id → List Command → CloneRecord → Type 0
 Copied (Copy source snapshot to stamp table low high version) m changes slot n t q operation tablet cs b =
-    In (record { tablet = tablet; slot = slot; body = Copy source snapshot to stamp table low high version; acked = false }) b.listed → IsPart m changes source q → cutoff_of_set (set_of q.frozen snapshot) ≤ to
+    In (record { tablet = tablet; slot = slot; body = Copy source snapshot to stamp table low high version; acked = false }) b.listed → IsPart m changes source q → ReachesBack (option_map from_set (set_of q.frozen snapshot)) to
     → Does m changes slot n t operation tablet (Copy source snapshot to stamp table low high version) cs
     → HoldsOf m changes slot (processed (record { operation = operation; tablet = tablet; body = Copy source snapshot to stamp table low high version } ∷ cs) (rows_of_set (set_of q.frozen snapshot) to) n t)
 Copied _ m changes slot n t q operation tablet cs b = Unit {0}
 
 pub copy_done : (m : Master) (changes : List Change) (slot n : ℕ) (t q : Tablet) (operation tablet : Id) (source : ℕ) (snapshot : Id) (to stamp : ℕ) (table : Id) (low high version : ℕ) (cs : List Command) → IsPart m changes source q
-    → cutoff_of_set (set_of q.frozen snapshot) ≤ to → Does m changes slot n t operation tablet (Copy source snapshot to stamp table low high version) cs
+    → ReachesBack (option_map from_set (set_of q.frozen snapshot)) to → Does m changes slot n t operation tablet (Copy source snapshot to stamp table low high version) cs
     → IsPending m operation slot (record { tablet = tablet; slot = slot; body = Copy source snapshot to stamp table low high version; acked = false })
     → HoldsOf m changes slot (processed (record { operation = operation; tablet = tablet; body = Copy source snapshot to stamp table low high version } ∷ cs) (rows_of_set (set_of q.frozen snapshot) to) n t)
 copy_done m changes slot n t q operation tablet source snapshot to stamp table low high version cs part cut d (ClonePends k) =

@@ -3,7 +3,7 @@
 use Rattle.model.specs.Times.{ended_by}
 use Rattle.std.proofs.Common.{ℕ, ◌≡◌, ◌≢◌, ◌≤◌, ◌<◌, ◌+◌, List, [], ◌∷◌, ◌++◌, Option, Some, None, true, false, cond, ◌&&◌, inl, inr, refl, sym, ap, subst, ◌∙◌, arith, le_trans, lt_of_lt_of_le, not}
 use Rattle.std.specs.List.{list_any}
-use Rattle.std.specs.Option.{is_some}
+use Rattle.std.specs.Option.{is_some, option_or}
 use Rattle.std.proofs.lemmas.Bool.{true≢false}
 use Rattle.row_values.specs.Codes.{code_of}
 use Rattle.row_values.specs.Ids.{Id, same}
@@ -16,7 +16,7 @@ use Rattle.model.specs.Journal.{Change, table_at}
 use Rattle.model.specs.Right.{is_fixed}
 use Rattle.model.specs.Tablets.{Tablet, Command, Mark, Body, RestoreFrom, Hide, FenceKind, FreezeKind, RestoreFromKind, FrozenSet, kind_of, is_done, holds_command, is_empty, is_serving, HiddenPart}
 use Rattle.model.specs.Records.{Listed, SnapshotRecord, RestorationRecord, RestorationState, Fencing, Snapshotting, Switching, Restoring, Releasing, Restored, TabletPair, CloneRecord, CloneState, Accepted, CloneSnapshot, Copying, CloneReleasing, CloneComplete, is_restored, is_cloned, is_visible}
-use Rattle.model.specs.Stands.{NoneTwice, HoldsFrozen, awaited_in, awaited_of, first_of_two, is_restore}
+use Rattle.model.specs.Stands.{NoneTwice, HoldsFrozen, awaited_in, awaited_of, is_restore}
 use Rattle.model.specs.Parts.{Master}
 use Rattle.law_store.specs.Sorted.{Sorted, EachKey}
 use Rattle.law_invariants.specs.Invariant.{MasterGood, IsOpen, SlotGood, SetStands, is_awaited, OverBy, TurnsAt, ComesFrom, StandsIn}
@@ -25,8 +25,8 @@ use Rattle.law_invariants.specs.Orders.{IsFence, IsAfter, IsMark, IsSetOf, Order
 use Rattle.law_invariants.proofs.Finding.{in_added}
 use Rattle.law_invariants.proofs.Ticking.{below_later, over_later}
 use Rattle.law_invariants.proofs.Ordering.{order_later, mark_later}
-use Rattle.law_commands.proofs.Marks.{command_held, done_beside}
-use Rattle.law_commands.proofs.Pending.{IsPending, BySnapshot, ByRestoration as RestorationPends, ByClone as ClonePends, snapshot_no_restoration, snapshot_no_clone, restoration_no_clone, none_in}
+use Rattle.law_invariants.proofs.DoneMarks.{command_held, done_beside}
+use Rattle.law_invariants.proofs.Commanded.{IsPending, BySnapshot, ByRestoration as RestorationPends, ByClone as ClonePends, snapshot_no_restoration, snapshot_no_clone, restoration_no_clone, none_in}
 
 -- Marks
 
@@ -214,8 +214,8 @@ SameRestores rs done later = (r : RestorationRecord) → In r rs → is_done lat
 pub awaited_kept : (rs : List RestorationRecord) (tablet : Id) (done later : List Mark) → SameRestores rs done later → awaited_in rs tablet later ≡ awaited_in rs tablet done
 awaited_kept [] tablet done later e = refl
 awaited_kept (r ∷ rs) tablet done later e =
-    ap (λ q. first_of_two q (awaited_in rs tablet later)) (awaited_of_kept r.state r tablet done later (e r (inl refl)))
-    ∙ ap (first_of_two (awaited_of r.state r tablet done)) (awaited_kept rs tablet done later (λ q isin. e q (inr isin)))
+    ap (λ q. option_or q (awaited_in rs tablet later)) (awaited_of_kept r.state r tablet done later (e r (inl refl)))
+    ∙ ap (option_or (awaited_of r.state r tablet done)) (awaited_kept rs tablet done later (λ q isin. e q (inr isin)))
 
 -- a mark of another kind
 pub same_restores : (rs : List RestorationRecord) (done : List Mark) (k : Mark) → k.kind ≢ RestoreFromKind → SameRestores rs done (done ++ k ∷ [])

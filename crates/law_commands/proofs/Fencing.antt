@@ -9,8 +9,8 @@ use Rattle.model.specs.Records.{Listed, RestorationRecord, RestorationState, Fen
 use Rattle.model.specs.Parts.{Master}
 use Rattle.law_invariants.specs.Operations.{IsAfterSwitch, FencingGood, RestorationStateGood, CloneStateGood}
 use Rattle.law_invariants.specs.Orders.{FencingSlot, FencePlace, RestorationSlot}
-use Rattle.law_commands.proofs.Marks.{done_still, done_beside}
-use Rattle.law_commands.proofs.Pending.{OfRestoration, IsPending, BySnapshot, ByRestoration as RestorationPends, ByClone as ClonePends, none_in}
+use Rattle.law_invariants.proofs.DoneMarks.{done_still, done_beside}
+use Rattle.law_invariants.proofs.Commanded.{OfRestoration, IsPending, BySnapshot, ByRestoration as RestorationPends, ByClone as ClonePends, none_in}
 use Rattle.law_commands.proofs.Doing.{mark_of, mark_pending, orders_done, IsHere, table_here, same_restores, set_good, slot_changed}
 use Rattle.law_commands.proofs.Held.{Does, HoldsOf, each_restoration, clones_beside, obeyed_done, marked_after}
 

@@ -12,7 +12,7 @@ use Rattle.row_values.specs.Ranges.{in_range}
 use Rattle.model.specs.Catalog.{owner_of}
 use Rattle.model.specs.Activity.{Interval, active_at}
 use Rattle.model.specs.Journal.{Change}
-use Rattle.model.specs.Tablets.{Tablet, Command, Mark, Body, Fence, Freeze, Release, Copy, BodyKind, FenceKind, FreezeKind, RestoreFromKind, HideKind, CopyKind, ReleaseKind, FrozenSet, set_of, processed, kind_of, is_done}
+use Rattle.model.specs.Tablets.{Tablet, Command, Mark, Body, Freeze, BodyKind, FenceKind, FreezeKind, RestoreFromKind, HideKind, CopyKind, ReleaseKind, FrozenSet, set_of, processed, kind_of, is_done}
 use Rattle.model.specs.Records.{Listed, SnapshotRecord, RestorationRecord, RestorationState, Fencing, Snapshotting, Switching, Restoring, Releasing, Restored, CloneRecord, CloneState, Accepted, CloneSnapshot, Copying, CloneReleasing, CloneComplete}
 use Rattle.model.specs.Stands.{HoldsFrozen, awaited_in}
 use Rattle.model.specs.Parts.{Master}
@@ -20,14 +20,15 @@ use Rattle.law_store.proofs.Keys.{either_way}
 use Rattle.law_store.proofs.Choosing.{frozen_reads, sorted_frozen}
 use Rattle.law_store.proofs.Members.{keys_frozen}
 use Rattle.law_invariants.specs.Invariant.{TurnsAt, is_awaited}
-use Rattle.law_invariants.specs.Operations.{SnapshotsRise, IsAfterSwitch, RestoringGood, RestorationStateGood, CloneStateGood}
+use Rattle.law_invariants.specs.Operations.{RestoringGood, RestorationStateGood}
 use Rattle.law_invariants.specs.Orders.{FencePlace, ClonePlace, IsFence, IsSetOf, RestorationSlot, ReleasingSlot, CloneSlot}
-use Rattle.law_invariants.proofs.Finding.{both_pass, in_append, filter_in, same_equal, same_self, apart_by_number}
-use Rattle.law_commands.proofs.Marks.{done_still, done_beside, done_now, done_either}
-use Rattle.law_commands.proofs.Pending.{IsPending, BySnapshot, ByRestoration as RestorationPends, ByClone as ClonePends, none_in}
+use Rattle.law_invariants.proofs.Finding.{both_pass, in_append, filter_in, same_equal, same_self}
+use Rattle.law_invariants.proofs.DoneMarks.{done_still, done_beside, done_now, done_either}
+use Rattle.law_invariants.proofs.Commanded.{IsPending, BySnapshot, ByRestoration as RestorationPends, ByClone as ClonePends}
 use Rattle.law_invariants.proofs.Awaits.{awaits_is}
 use Rattle.law_commands.proofs.Doing.{mark_of, mark_pending, orders_done, SetGood, same_restores, awaited_kept, set_good, slot_changed}
 use Rattle.law_commands.proofs.Held.{Does, HoldsOf, obeyed_done, marked_after}
+use Rattle.law_invariants.proofs.Bodies.{snapshot_alone, no_restoration_freeze, no_clone_freeze}
 
 -- Sets
 
@@ -40,14 +41,6 @@ set_behind [] g none = rw (same_self g.snapshot) refl
 set_behind (h ∷ fs) g none = either_way (same h.snapshot g.snapshot)
     (λ b. absurd (none h (inl refl) (same_equal h.snapshot g.snapshot b)))
     (λ b. rw b (set_behind fs g (λ f isin. none f (inr isin))))
-
--- a snapshot's identifier is its own
-pub snapshot_alone : (rs : List SnapshotRecord) (q r : SnapshotRecord) → SnapshotsRise rs → In q rs → In r rs → q.id ≡ r.id → q ≡ r
-snapshot_alone [] q r h inq inr_ e = absurd inq
-snapshot_alone (s ∷ rs) q r h (inl a) (inl b) e = sym a ∙ b
-snapshot_alone (s ∷ rs) q r h (inl a) (inr b) e = absurd (apart_by_number s.id r.id (h.0 r b).0 (ap (λ k. k.id) a ∙ e))
-snapshot_alone (s ∷ rs) q r h (inr a) (inl b) e = absurd (apart_by_number s.id q.id (h.0 q a).0 (ap (λ k. k.id) b ∙ sym e))
-snapshot_alone (s ∷ rs) q r h (inr a) (inr b) e = snapshot_alone rs q r h.1 a b e
 
 frozen_stamp : (vs : List Version) (at : ℕ) (v : Version) → In v (frozen at vs) → v.stamp ≤ at
 frozen_stamp vs at v isin = leb-true v.stamp at (filter_in vs (λ w. leb w.stamp at) v isin).1
@@ -238,20 +231,6 @@ frozen_by m changes slot n t operation tablet cs rows s known id_is unfinished l
     }
 
 -- no other record has a freeze
-
-pub no_restoration_freeze : (state : RestorationState) (m : Master) (changes : List Change) (r : RestorationRecord) (l : Listed) (snapshot : Id) (at : ℕ) → RestorationStateGood state m changes r → In l r.listed → l.body ≡ Freeze snapshot at → ⊥
-no_restoration_freeze Fencing m changes r l snapshot at h isin e = let q : Fence ≡ Freeze snapshot at = sym (h.bodies l isin) ∙ e in grind arith
-no_restoration_freeze (Restoring point serving) m changes r l snapshot at h isin e = subst (IsAfterSwitch r point serving) e (h.bodies l isin)
-no_restoration_freeze (Releasing point serving) m changes r l snapshot at h isin e = let q : Release point ≡ Freeze snapshot at = sym (h.bodies l isin) ∙ e in grind arith
-no_restoration_freeze _ m changes r l snapshot at h isin e = none_in r.listed l h.empty isin
-
-pub no_clone_freeze : (state : CloneState) (m : Master) (c : CloneRecord) (l : Listed) (snapshot : Id) (at : ℕ) → CloneStateGood state m c → In l c.listed → l.body ≡ Freeze snapshot at → ⊥
-no_clone_freeze Accepted m c l snapshot at h isin e = none_in c.listed l h isin
-no_clone_freeze (CloneSnapshot own) m c l snapshot at h isin e = none_in c.listed l h.empty isin
-no_clone_freeze (Copying serving copied) m c l snapshot at h isin e =
-    let b = h.bodies l isin in let q : Freeze snapshot at ≡ Copy b.pair.source_slot serving c.to copied b.pair.table b.pair.low b.pair.high 1 = sym e ∙ b.body_is in grind arith
-no_clone_freeze (CloneReleasing serving copied) m c l snapshot at h isin e = let q : Freeze snapshot at ≡ Release h.since = sym e ∙ h.bodies l isin in grind arith
-no_clone_freeze (CloneComplete serving copied) m c l snapshot at h isin e = none_in c.listed l h isin
 
 pub freeze_done : (m : Master) (changes : List Change) (slot n : ℕ) (t : Tablet) (operation tablet snapshot : Id) (at : ℕ) (cs : List Command) (rows : List KeyedRow) → Does m changes slot n t operation tablet (Freeze snapshot at) cs
     → IsPending m operation slot (record { tablet = tablet; slot = slot; body = Freeze snapshot at; acked = false }) → HoldsOf m changes slot (processed (record { operation = operation; tablet = tablet; body = Freeze snapshot at } ∷ cs) rows n t)

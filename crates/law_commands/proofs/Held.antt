@@ -15,8 +15,8 @@ use Rattle.law_invariants.specs.Orders.{IsAfter, IsHome, IsTarget, ObeyedGood, R
 use Rattle.law_invariants.proofs.Operating.{visible_later}
 use Rattle.law_invariants.proofs.Ordering.{after_later}
 use Rattle.law_invariants.proofs.Finding.{same_equal, same_self}
-use Rattle.law_commands.proofs.Marks.{done_still}
-use Rattle.law_commands.proofs.Pending.{IsPending}
+use Rattle.law_invariants.proofs.DoneMarks.{done_still}
+use Rattle.law_invariants.proofs.Commanded.{IsPending}
 use Rattle.law_commands.proofs.Doing.{IsHere, table_here, apart_restoration, apart_clone}
 
 -- a tablet's first command, which is pending, and what holds before it

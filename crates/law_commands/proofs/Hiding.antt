@@ -9,18 +9,19 @@ use Rattle.model.specs.Times.{ended_by}
 use Rattle.model.specs.Catalog.{owner_of}
 use Rattle.model.specs.Activity.{Interval}
 use Rattle.model.specs.Journal.{Change}
-use Rattle.model.specs.Tablets.{Tablet, HiddenPart, Command, Mark, Fence, Freeze, Hide, Release, Copy, FenceKind, FreezeKind, RestoreFromKind, HideKind, processed, kind_of, is_empty, FrozenSet, is_serving}
-use Rattle.model.specs.Records.{Listed, RestorationRecord, RestorationState, Fencing, Restoring, Releasing, CloneRecord, CloneState, Accepted, CloneSnapshot, Copying, CloneReleasing, CloneComplete}
+use Rattle.model.specs.Tablets.{Tablet, HiddenPart, Command, Mark, Freeze, Hide, FenceKind, FreezeKind, RestoreFromKind, HideKind, processed, kind_of, is_empty, FrozenSet, is_serving}
+use Rattle.model.specs.Records.{Listed, RestorationRecord, Restoring}
 use Rattle.model.specs.Stands.{awaited_in, awaited_of}
 use Rattle.model.specs.Parts.{Master}
 use Rattle.law_invariants.specs.Invariant.{is_awaited, SlotGood, OverBy, TurnsAt, ComesFrom, StandsIn}
-use Rattle.law_invariants.specs.Operations.{IsAfterSwitch, RestoringGood, RestorationStateGood, CloneStateGood}
+use Rattle.law_invariants.specs.Operations.{RestoringGood, RestorationStateGood}
 use Rattle.law_invariants.specs.Orders.{RestoringSlot, RestorationSlot}
 use Rattle.law_invariants.proofs.Ticking.{below_later, over_later}
-use Rattle.law_commands.proofs.Marks.{done_still, done_beside}
-use Rattle.law_commands.proofs.Pending.{OfRestoration, IsPending, BySnapshot, ByRestoration as RestorationPends, ByClone as ClonePends, none_in}
+use Rattle.law_invariants.proofs.DoneMarks.{done_still, done_beside}
+use Rattle.law_invariants.proofs.Commanded.{OfRestoration, IsPending, BySnapshot, ByRestoration as RestorationPends, ByClone as ClonePends}
 use Rattle.law_commands.proofs.Doing.{mark_of, mark_pending, orders_done, IsHere, SameRestores, same_restores, awaited_kept, awaited_of_kept}
 use Rattle.law_commands.proofs.Held.{Does, HoldsOf, each_restoration, clones_beside, obeyed_done, marked_after}
+use Rattle.law_invariants.proofs.Bodies.{hiding_is, no_clone_hide}
 
 pub no_end : (to : Option ℕ) (x : ℕ) → to ≡ None → ended_by x to ≡ true → ⊥
 no_end None x e h = true≢false (sym h)
@@ -54,20 +55,6 @@ slot_hidden m changes slot t n at inbox done le present marks over h =
       shown = λ serving. absurd (true≢false (sym serving));
       later = λ ns to is serving. absurd (true≢false (sym serving));
     }
-
-pub hiding_is : (state : RestorationState) (m : Master) (changes : List Change) (r : RestorationRecord) (l : Listed) (at : ℕ) → RestorationStateGood state m changes r → In l r.listed → l.body ≡ Hide at → (serving : Id) × (state ≡ Restoring at serving)
-hiding_is Fencing m changes r l at h isin e = absurd (let q : Fence ≡ Hide at = sym (h.bodies l isin) ∙ e in grind arith)
-hiding_is (Restoring point serving) m changes r l at h isin e = let q : at ≡ point = subst (IsAfterSwitch r point serving) e (h.bodies l isin) in (serving, ap (λ z. Restoring z serving) (sym q))
-hiding_is (Releasing point serving) m changes r l at h isin e = absurd (let q : Release point ≡ Hide at = sym (h.bodies l isin) ∙ e in grind arith)
-hiding_is _ m changes r l at h isin e = absurd (none_in r.listed l h.empty isin)
-
-pub no_clone_hide : (state : CloneState) (m : Master) (c : CloneRecord) (l : Listed) (ended : ℕ) → CloneStateGood state m c → In l c.listed → l.body ≡ Hide ended → ⊥
-no_clone_hide Accepted m c l ended h isin e = none_in c.listed l h isin
-no_clone_hide (CloneSnapshot own) m c l ended h isin e = none_in c.listed l h.empty isin
-no_clone_hide (Copying serving at) m c l ended h isin e =
-    let b = h.bodies l isin in let q : Hide ended ≡ Copy b.pair.source_slot serving c.to at b.pair.table b.pair.low b.pair.high 1 = sym e ∙ b.body_is in grind arith
-no_clone_hide (CloneReleasing serving at) m c l ended h isin e = let q : Hide ended ≡ Release h.since = sym e ∙ h.bodies l isin in grind arith
-no_clone_hide (CloneComplete serving at) m c l ended h isin e = none_in c.listed l h isin
 
 hidden_by : (m : Master) (changes : List Change) (slot n : ℕ) (t : Tablet) (operation tablet : Id) (at : ℕ) (cs : List Command) (rows : List KeyedRow) → Does m changes slot n t operation tablet (Hide at) cs
     → OfRestoration m operation slot (record { tablet = tablet; slot = slot; body = Hide at; acked = false }) → HoldsOf m changes slot (processed (record { operation = operation; tablet = tablet; body = Hide at } ∷ cs) rows n t)

@@ -1,5 +1,3 @@
-pub mod Marks
-pub mod Pending
 pub mod Sending
 pub mod Doing
 pub mod Held

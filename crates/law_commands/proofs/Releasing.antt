@@ -10,19 +10,20 @@ use Rattle.model.specs.Catalog.{owner_of}
 use Rattle.model.specs.Activity.{Interval, active_at}
 use Rattle.model.specs.Journal.{Change, table_at}
 use Rattle.model.specs.Right.{is_fixed}
-use Rattle.model.specs.Tablets.{Tablet, Command, Fence, Freeze, Release, Copy, FenceKind, FreezeKind, RestoreFromKind, ReleaseKind, processed}
-use Rattle.model.specs.Records.{Listed, RestorationRecord, RestorationState, Fencing, Restoring, Releasing, CloneRecord, CloneState, Accepted, CloneSnapshot, Copying, CloneReleasing, CloneComplete, is_restored, point_of}
+use Rattle.model.specs.Tablets.{Tablet, Command, Freeze, Release, FenceKind, FreezeKind, RestoreFromKind, ReleaseKind, processed}
+use Rattle.model.specs.Records.{Listed, RestorationRecord, Restoring, Releasing, CloneRecord, CloneReleasing, is_restored, point_of}
 use Rattle.model.specs.Stands.{awaited_in}
 use Rattle.model.specs.Parts.{Master}
 use Rattle.law_invariants.specs.Invariant.{MasterGood, SlotGood}
-use Rattle.law_invariants.specs.Operations.{IsAfterSwitch, ReleasingGood, RestorationStateGood, VisibleGood, CloneStateGood}
+use Rattle.law_invariants.specs.Operations.{ReleasingGood, RestorationStateGood, VisibleGood, CloneStateGood}
 use Rattle.law_invariants.specs.Orders.{ReleasingSlot, RestorationSlot, CloneSlot}
 use Rattle.law_invariants.proofs.Finding.{passes_both, none_or_some}
-use Rattle.law_commands.proofs.Marks.{done_still, done_beside, done_now}
-use Rattle.law_commands.proofs.Pending.{OfRestoration, OfClone, IsPending, BySnapshot, ByRestoration as RestorationPends, ByClone as ClonePends, none_in}
+use Rattle.law_invariants.proofs.DoneMarks.{done_still, done_beside, done_now}
+use Rattle.law_invariants.proofs.Commanded.{OfRestoration, OfClone, IsPending, BySnapshot, ByRestoration as RestorationPends, ByClone as ClonePends}
 use Rattle.law_invariants.proofs.Awaits.{awaits_is}
 use Rattle.law_commands.proofs.Doing.{mark_of, mark_pending, orders_done, IsHere, table_here, owner_here, same_restores, awaited_kept, set_good, slot_changed}
 use Rattle.law_commands.proofs.Held.{Does, HoldsOf, each_restoration, clones_beside, restorations_beside, each_clone, obeyed_done, marked_after}
+use Rattle.law_invariants.proofs.Bodies.{releasing_is, visible_is}
 
 -- where the namespace of a slot is of no restoration that has switched, its tablet awaits no rows
 pub none_awaited : (m : Master) (changes : List Change) (slot : ℕ) (t : Tablet) (ns : Id) → MasterGood m changes → SlotGood m changes slot t → IsHere m slot ns
@@ -84,12 +85,6 @@ released m changes slot n t operation tablet ns cutoff cs rows w d isin at opene
 
 -- By a restoration
 
-pub releasing_is : (state : RestorationState) (m : Master) (changes : List Change) (r : RestorationRecord) (l : Listed) (cutoff : ℕ) → RestorationStateGood state m changes r → In l r.listed → l.body ≡ Release cutoff → (serving : Id) × (state ≡ Releasing cutoff serving)
-releasing_is Fencing m changes r l cutoff h isin e = absurd (let q : Fence ≡ Release cutoff = sym (h.bodies l isin) ∙ e in grind arith)
-releasing_is (Restoring point serving) m changes r l cutoff h isin e = absurd (subst (IsAfterSwitch r point serving) e (h.bodies l isin))
-releasing_is (Releasing point serving) m changes r l cutoff h isin e = let q : Release point ≡ Release cutoff = sym (h.bodies l isin) ∙ e in let is : point ≡ cutoff = cc in (serving, ap (λ z. Releasing z serving) is)
-releasing_is _ m changes r l cutoff h isin e = absurd (none_in r.listed l h.empty isin)
-
 by_restoration : (m : Master) (changes : List Change) (slot n : ℕ) (t : Tablet) (operation tablet : Id) (cutoff : ℕ) (cs : List Command) (rows : List KeyedRow) → Does m changes slot n t operation tablet (Release cutoff) cs
     → OfRestoration m operation slot (record { tablet = tablet; slot = slot; body = Release cutoff; acked = false })
     → HoldsOf m changes slot (processed (record { operation = operation; tablet = tablet; body = Release cutoff } ∷ cs) rows n t)
@@ -119,14 +114,6 @@ by_restoration m changes slot n t operation tablet cutoff cs rows d k =
     (clones_beside m changes slot t u r d.operations d.good here k.kept k.unfinished refl)
 
 -- By a clone
-
-pub visible_is : (state : CloneState) (m : Master) (c : CloneRecord) (l : Listed) (cutoff : ℕ) → CloneStateGood state m c → In l c.listed → l.body ≡ Release cutoff → (serving : Id) × ((at : ℕ) × (state ≡ CloneReleasing serving at))
-visible_is Accepted m c l cutoff h isin e = absurd (none_in c.listed l h isin)
-visible_is (CloneSnapshot own) m c l cutoff h isin e = absurd (none_in c.listed l h.empty isin)
-visible_is (Copying serving at) m c l cutoff h isin e =
-    absurd (let b = h.bodies l isin in let q : Release cutoff ≡ Copy b.pair.source_slot serving c.to at b.pair.table b.pair.low b.pair.high 1 = sym e ∙ b.body_is in grind arith)
-visible_is (CloneReleasing serving at) m c l cutoff h isin e = (serving, (at, refl))
-visible_is (CloneComplete serving at) m c l cutoff h isin e = absurd (none_in c.listed l h isin)
 
 by_clone : (m : Master) (changes : List Change) (slot n : ℕ) (t : Tablet) (operation tablet : Id) (cutoff : ℕ) (cs : List Command) (rows : List KeyedRow) → Does m changes slot n t operation tablet (Release cutoff) cs
     → OfClone m operation slot (record { tablet = tablet; slot = slot; body = Release cutoff; acked = false })

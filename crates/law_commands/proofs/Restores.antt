@@ -1,76 +1,41 @@
 -- A tablet that takes back its rows keeps what holds: they are those of the view at the time to which its namespace is taken back.
-use Rattle.std.proofs.Common.{ℕ, ◌≡◌, ◌≤◌, ◌<◌, ◌+◌, List, [], ◌∷◌, ◌++◌, Option, Some, None, true, false, cond, ◌&&◌, ◌||◌, inl, inr, refl, sym, ap, subst, ◌∙◌, arith, not, leb, leb-true, le-leb, ltb-true, le_trans, le_of_lt, lt_of_lt_of_le}
+use Rattle.std.proofs.Common.{ℕ, ◌≡◌, ◌≤◌, ◌<◌, ◌+◌, List, [], ◌∷◌, ◌++◌, Some, None, true, false, cond, ◌&&◌, inl, refl, sym, ap, subst, ◌∙◌, arith, not, ltb-true, le_of_lt, lt_of_lt_of_le}
 use Rattle.std.proofs.lemmas.Bool.{true≢false}
-use Rattle.std.proofs.lemmas.Bool.Decides.{nat_tests}
+use Rattle.std.specs.Option.{option_map}
 use Rattle.row_values.specs.Codes.{code_of}
 use Rattle.row_values.specs.declared.rows.KeyedRow.{KeyedRow}
-use Rattle.row_values.specs.Ids.{Id, same}
+use Rattle.row_values.specs.Ids.{Id}
 use Rattle.row_values.specs.Elements.{In}
 use Rattle.model.specs.Times.{before_end, ended_by}
 use Rattle.row_values.specs.Store.{Version, Below, read_of, rows_at, of_rows}
 use Rattle.row_values.specs.Ranges.{in_range}
 use Rattle.model.specs.Catalog.{owner_of}
-use Rattle.model.specs.Activity.{Interval, active_at, active_within}
+use Rattle.model.specs.Activity.{Interval}
 use Rattle.model.specs.Journal.{Change, row_at}
-use Rattle.model.specs.Tablets.{Tablet, ServingPart, HiddenPart, Command, Mark, Fence, Freeze, RestoreFrom, Release, Copy, FenceKind, FreezeKind, RestoreFromKind, FrozenSet, set_of, rows_of_set, cutoff_of_set, processed, kind_of, is_done, is_empty, is_serving}
-use Rattle.model.specs.Records.{Listed, RestorationRecord, RestorationState, Fencing, Restoring, Releasing, Restored, CloneRecord, CloneState, Accepted, CloneSnapshot, Copying, CloneReleasing, CloneComplete, is_restored, point_of}
+use Rattle.model.specs.Tablets.{Tablet, ServingPart, HiddenPart, Command, Mark, Freeze, RestoreFrom, FenceKind, FreezeKind, RestoreFromKind, set_of, rows_of_set, processed, kind_of, is_done, is_empty, is_serving}
+use Rattle.model.specs.Records.{Listed, RestorationRecord, Restoring, is_restored, point_of}
 use Rattle.model.specs.Stands.{awaited_in, awaited_of, before_restore, AreRowsAt}
 use Rattle.model.specs.Parts.{Master}
-use Rattle.law_store.proofs.Keys.{either_way}
+use Rattle.model.specs.Retained.{ReachesBack, from_set}
 use Rattle.law_store.proofs.Listing.{restored_reads, sorted_restored, below_of_rows}
 use Rattle.law_store.proofs.Members.{keys_of_rows, keys_rows_at}
 use Rattle.law_store.proofs.Restoring.{are_rows_restored}
 use Rattle.law_store.specs.Sorted.{Sorted, EachKey}
-use Rattle.law_invariants.specs.Invariant.{MasterGood, TurnsAt, ComesFrom, SlotGood, SlotWorks, OverBy, is_awaited, StandsIn}
-use Rattle.law_invariants.specs.Operations.{IsAfterSwitch, IsServing, RestoringGood, RestorationStateGood, CloneStateGood, OperationsGood}
+use Rattle.law_invariants.specs.Invariant.{MasterGood, TurnsAt, ComesFrom, SlotGood, OverBy, is_awaited, StandsIn}
+use Rattle.law_invariants.specs.Operations.{RestoringGood, RestorationStateGood}
 use Rattle.law_invariants.specs.Orders.{FencePlace, RestoringSlot, RestorationSlot}
-use Rattle.law_invariants.proofs.Finding.{both_pass, passes_both, none_or_some}
+use Rattle.law_invariants.proofs.Finding.{none_or_some}
 use Rattle.law_invariants.proofs.Ticking.{over_later}
-use Rattle.law_rows.proofs.Writing.{settled_none}
-use Rattle.law_commands.proofs.Marks.{done_still, done_beside, done_now}
-use Rattle.law_commands.proofs.Pending.{IsPending, BySnapshot, ByRestoration as RestorationPends, ByClone as ClonePends, none_in}
+use Rattle.law_invariants.proofs.Awaiting.{settled_none}
+use Rattle.law_invariants.proofs.DoneMarks.{done_still, done_beside, done_now}
+use Rattle.law_invariants.proofs.Commanded.{IsPending, BySnapshot, ByRestoration as RestorationPends, ByClone as ClonePends}
 use Rattle.law_invariants.proofs.Awaits.{Awaits, awaits_is, listed_any}
 use Rattle.law_commands.proofs.Doing.{mark_of, mark_pending, orders_done, IsHere, table_here, owner_here}
 use Rattle.law_commands.proofs.Hiding.{no_end}
 use Rattle.law_commands.proofs.Held.{Does, HoldsOf, each_restoration, clones_beside, obeyed_done, marked_after}
+use Rattle.law_invariants.proofs.Bodies.{serves_then, restoring_is, no_clone_restore}
 
 -- Frozen sets that serve a time
-
-pub set_in : (fs : List FrozenSet) (id : Id) (f : FrozenSet) → set_of fs id ≡ Some f → In f fs
-set_in [] id f e = absurd (let q = e in grind arith)
-set_in (g ∷ fs) id f e = either_way (same g.snapshot id)
-    (λ b. inl (let q : Some g ≡ Some f = rw b at e in let is : g ≡ f = cc in is))
-    (λ b. inr (set_in fs id f (rw b at e)))
-
-before_earlier : (to : Option ℕ) (x y : ℕ) → x ≤ y → before_end y to ≡ true → before_end x to ≡ true
-before_earlier None x y le h = refl
-before_earlier (Some e) x y le h = grind (arith, nat_tests)
-
-pub within : (i : Interval) (after at to : ℕ) → after < to → to ≤ at → active_at to i ≡ true → active_within after at i ≡ true
-within i after at to less reaches active =
-    let b = both_pass (leb i.from to) (before_end to i.to) active in
-    let from : i.from ≤ to = leb-true i.from to b.0 in
-    passes_both (leb i.from at) (before_end (after + 1) i.to) (le-leb i.from at (le_trans from reaches)) (before_earlier i.to (after + 1) to (omega arith) b.1)
-
--- the frozen set from which a tablet that was active at a time takes rows, where a complete snapshot serves it
-pub record Serves (m : Master) (slot : ℕ) (t : Tablet) (snapshot : Id) (to : ℕ) : Type 0 where
-  pub set : FrozenSet
-  pub held : set_of t.frozen snapshot ≡ Some set
-  pub isin : In set t.frozen
-  pub reaches : to ≤ set.at
-
-pub serves_then : (m : Master) (changes : List Change) (slot : ℕ) (t : Tablet) (snapshot ns : Id) (to : ℕ) (i : Interval) → OperationsGood m changes → SlotGood m changes slot t → SlotWorks m changes slot t → IsServing m snapshot ns to
-    → In i m.activity → i.slot ≡ slot → owner_of m.catalog.owners i.table ≡ Some ns → active_at to i ≡ true → Serves m slot t snapshot to
-serves_then m changes slot t snapshot ns to i ops good works serves isin at owned active =
-    let s = serves.serving in
-    let g = good.each i isin at in
-    let k = (ops.snapshots s serves.kept).lists i isin (owned ∙ ap Some (sym serves.namespace_is)) (within i s.after s.at to serves.after serves.reaches active) in
-    let did = works.obeyed.snapshots s k.line serves.kept k.listed (k.slot_is ∙ at) (ap (λ b. b || k.line.acked) serves.complete) (g.tablet_is ∙ sym k.tablet_is) g.present in
-    let h = works.orders.holds s serves.kept did in
-    let held : set_of t.frozen snapshot ≡ Some h.set = ap (set_of t.frozen) (sym serves.id_is) ∙ h.held in
-    let time = h.time in
-    let reaches = serves.reaches in
-    record { set = h.set; held = held; isin = set_in t.frozen snapshot h.set held; reaches = omega (arith, time, reaches) }
 
 -- What a tablet awaits
 
@@ -126,28 +91,11 @@ slot_restored m changes slot t n version vs point to operation inbox done le beg
 
 -- The body
 
-pub restoring_is : (state : RestorationState) (m : Master) (changes : List Change) (r : RestorationRecord) (l : Listed) (snapshot : Id) (to at version : ℕ) → RestorationStateGood state m changes r → In l r.listed → l.body ≡ RestoreFrom snapshot to at version
-    → (state ≡ Restoring at snapshot) × (to ≡ r.to)
-restoring_is Fencing m changes r l snapshot to at version h isin e = absurd (let q : Fence ≡ RestoreFrom snapshot to at version = sym (h.bodies l isin) ∙ e in grind arith)
-restoring_is (Restoring point serving) m changes r l snapshot to at version h isin e =
-    let q = subst (IsAfterSwitch r point serving) e (h.bodies l isin) in (ap (λ p. Restoring p serving) (sym q.1.1) ∙ ap (Restoring at) (sym q.0), q.1.0)
-restoring_is (Releasing point serving) m changes r l snapshot to at version h isin e = absurd (let q : Release point ≡ RestoreFrom snapshot to at version = sym (h.bodies l isin) ∙ e in grind arith)
-restoring_is (Restored point serving) m changes r l snapshot to at version h isin e = absurd (none_in r.listed l h.empty isin)
-restoring_is _ m changes r l snapshot to at version h isin e = absurd (none_in r.listed l h.empty isin)
-
-pub no_clone_restore : (state : CloneState) (m : Master) (c : CloneRecord) (l : Listed) (snapshot : Id) (to at version : ℕ) → CloneStateGood state m c → In l c.listed → l.body ≡ RestoreFrom snapshot to at version → ⊥
-no_clone_restore Accepted m c l snapshot to at version h isin e = none_in c.listed l h isin
-no_clone_restore (CloneSnapshot own) m c l snapshot to at version h isin e = none_in c.listed l h.empty isin
-no_clone_restore (Copying serving copied) m c l snapshot to at version h isin e =
-    let b = h.bodies l isin in let q : RestoreFrom snapshot to at version ≡ Copy b.pair.source_slot serving c.to copied b.pair.table b.pair.low b.pair.high 1 = sym e ∙ b.body_is in grind arith
-no_clone_restore (CloneReleasing serving copied) m c l snapshot to at version h isin e = let q : RestoreFrom snapshot to at version ≡ Release h.since = sym e ∙ h.bodies l isin in grind arith
-no_clone_restore (CloneComplete serving copied) m c l snapshot to at version h isin e = none_in c.listed l h isin
-
 point_same : (p q : ℕ) (a b : Id) → Restoring p a ≡ Restoring q b → p ≡ q
 point_same p q a b e = cc
 
 restored_by : (m : Master) (changes : List Change) (slot n : ℕ) (t : Tablet) (operation tablet snapshot : Id) (at version : ℕ) (cs : List Command) (rows : List KeyedRow) (r : RestorationRecord) → In r m.restorations → r.id ≡ operation
-    → r.state ≡ Restoring at snapshot → In (record { tablet = tablet; slot = slot; body = RestoreFrom snapshot r.to at version; acked = false }) r.listed → cutoff_of_set (set_of t.frozen snapshot) ≤ r.to
+    → r.state ≡ Restoring at snapshot → In (record { tablet = tablet; slot = slot; body = RestoreFrom snapshot r.to at version; acked = false }) r.listed → ReachesBack (option_map from_set (set_of t.frozen snapshot)) r.to
     → Does m changes slot n t operation tablet (RestoreFrom snapshot r.to at version) cs
     → HoldsOf m changes slot (processed (record { operation = operation; tablet = tablet; body = RestoreFrom snapshot r.to at version } ∷ cs) rows n t)
 restored_by m changes slot n t operation tablet snapshot at version cs rows r known id_is is lists cut d =
@@ -172,7 +120,7 @@ restored_by m changes slot n t operation tablet snapshot at version cs rows r kn
     let gn = d.good.each b.now b.kept_now b.slot_now in
     let s = serves_then m changes slot t snapshot r.namespace r.to then_ d.operations d.good d.works good.serves b.kept_then at_then (d.master.listed_of r l known lists then_ b.kept_then b.tablet_then) b.active in
     let f = s.set in
-    let low : f.cutoff ≤ r.to = subst (λ k. cutoff_of_set k ≤ r.to) s.held cut in
+    let low : f.cutoff ≤ r.to = subst (λ k. ReachesBack (option_map from_set k) r.to) s.held cut in
     let less : at < t.clock = d.after.point r at known id_is (ap point_of is) refl in
     let sorted = d.good.good.set_sorted f s.isin in
     let keys = d.good.good.set_keys f s.isin in
@@ -245,13 +193,13 @@ restored_by m changes slot n t operation tablet snapshot at version cs rows r kn
     let rows_are : rows_of_set (set_of t.frozen snapshot) r.to ≡ rows_at f.versions r.to = ap (λ k. rows_of_set k r.to) s.held in
     subst (λ rs. HoldsOf m changes slot (back_with t n version (of_rows rs at) at operation cs done)) (sym rows_are) result
 
-pub restore_done : (m : Master) (changes : List Change) (slot n : ℕ) (t : Tablet) (operation tablet snapshot : Id) (to at version : ℕ) (cs : List Command) (rows : List KeyedRow) → cutoff_of_set (set_of t.frozen snapshot) ≤ to
+pub restore_done : (m : Master) (changes : List Change) (slot n : ℕ) (t : Tablet) (operation tablet snapshot : Id) (to at version : ℕ) (cs : List Command) (rows : List KeyedRow) → ReachesBack (option_map from_set (set_of t.frozen snapshot)) to
     → Does m changes slot n t operation tablet (RestoreFrom snapshot to at version) cs → IsPending m operation slot (record { tablet = tablet; slot = slot; body = RestoreFrom snapshot to at version; acked = false })
     → HoldsOf m changes slot (processed (record { operation = operation; tablet = tablet; body = RestoreFrom snapshot to at version } ∷ cs) rows n t)
 restore_done m changes slot n t operation tablet snapshot to at version cs rows cut d (RestorationPends k) =
     let r = k.restoration in
     let found = restoring_is r.state m changes r _ snapshot to at version (d.operations.restorations r k.kept).in_state k.line.listed refl in
-    subst (λ x. In (record { tablet = tablet; slot = slot; body = RestoreFrom snapshot x at version; acked = false }) r.listed → cutoff_of_set (set_of t.frozen snapshot) ≤ x → Does m changes slot n t operation tablet (RestoreFrom snapshot x at version) cs
+    subst (λ x. In (record { tablet = tablet; slot = slot; body = RestoreFrom snapshot x at version; acked = false }) r.listed → ReachesBack (option_map from_set (set_of t.frozen snapshot)) x → Does m changes slot n t operation tablet (RestoreFrom snapshot x at version) cs
     → HoldsOf m changes slot (processed (record { operation = operation; tablet = tablet; body = RestoreFrom snapshot x at version } ∷ cs) rows n t))
     (sym found.1) (restored_by m changes slot n t operation tablet snapshot at version cs rows r k.kept k.id_is found.0) k.line.listed cut d
 restore_done m changes slot n t operation tablet snapshot to at version cs rows cut d (BySnapshot k) =

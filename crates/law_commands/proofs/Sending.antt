@@ -27,9 +27,9 @@ use Rattle.law_invariants.proofs.Undoing.{same_rows, journal_on}
 use Rattle.law_invariants.proofs.Working.{tables_drawn, all_listed, same_fixed, onward_ticked, work_later}
 use Rattle.law_invariants.proofs.Frame.{touched, slot_told}
 use Rattle.law_invariants.proofs.Hearing.{clocks_rise, rows_on}
-use Rattle.law_rows.proofs.Keeping.{clock_before, has_second}
-use Rattle.law_commands.proofs.Marks.{command_there, command_held}
-use Rattle.law_commands.proofs.Pending.{IsPending, BySnapshot, ByRestoration, ByClone, pending_is, pending_line, after_pending}
+use Rattle.law_invariants.proofs.Told.{clock_before, has_second}
+use Rattle.law_invariants.proofs.DoneMarks.{command_there, command_held}
+use Rattle.law_invariants.proofs.Commanded.{IsPending, BySnapshot, ByRestoration, ByClone, pending_is, pending_line, after_pending}
 
 orders_inbox : (m : Master) (slot : ℕ) (t : Tablet) (n : ℕ) (inbox : List Command) → t.clock ≤ n → ((c : Command) → In c inbox → IsOrder m slot n c) → NoneTwice inbox
     → ((c : Command) → In c inbox → is_done t.done c.operation (kind_of c.body) ≡ false) → OrdersGood m slot t → OrdersGood m slot (record t { clock = n; inbox = inbox })
@@ -125,7 +125,7 @@ is_line l slot at unacked = ap (λ s. record { tablet = l.tablet; slot = s; body
 
 sent_by : (found : Option Listed) (ps : Parts) (activity : List Interval) (changes : List Change) (n : ℕ) (operation : Id) (slot : ℕ) → pending ps.master operation slot ≡ found → Later (slots_of (Send operation slot)) ps n → 1 ≤ slot
     → Inv ps activity changes → KeepsAll (Send operation slot) n ps activity changes (sending found operation slot)
-sent_by None ps activity changes n operation slot e later from inv = refused_keeps (Send operation slot) (NotPending operation) n ps activity changes later inv tt refl
+sent_by None ps activity changes n operation slot e later from inv = refused_keeps (Send operation slot) (NotPending operation) n ps activity changes later inv refl
 sent_by (Some l) ps activity changes n operation slot e later from inv =
     let m = ps.master in
     let t = ps.tablet slot in
@@ -144,27 +144,23 @@ sent_by (Some l) ps activity changes n operation slot e later from inv =
     let floors : FloorsHold m (record m { clock = n; sent = s }) = record { clock = early; schedules = refl; restorations = refl; clones = refl } in
     let tells_ = sending (Some l) operation slot in
     record {
-      right = tt;
-      inv = record {
-        master = master_marked (record m { clock = n }) s changes (master_ticked m n changes early inv.master);
-        slots = λ i. slot_ticked m n changes i _ early
-            (slot_told (SlotGood m changes) act SentTo slot (Offer c) n ps later (second_sent operation slot from) (λ j u le h. tablet_ticked m n changes j u le h) (λ j apart. inv.slots j)
-            (inbox_changed m changes slot t n (offered c n t).inbox before (inv.slots slot)) i);
-        remembered = remembered_on m (record m { clock = n; sent = s }) activity floors refl refl (le_refl _) (le_refl _) inv.remembered;
-        cover = inv.cover;
-        operations = operations_sent m n m.catalog m.activity m.drawn s changes changes o (λ ns. le_trans (inv.operations.kept ns) (floor_rises m (record m { clock = n; sent = s }) ns floors)) inv.operations.owners
-            (λ mark isin. marks_sent m changes operation slot l mark p inv.operations isin) (all_listed m changes inv.master) inv.operations;
-        rows_past = rows_on m n m.catalog m.activity m.drawn s changes changes ps.tablet _ early (clocks_rise act tells_ n ps (λ i b. tablet_before (slots_of act) ps n i later b))
-            (λ i isin. inl isin) (λ b table key op isin is. isin) inv.rows_past;
-        journal = journal_on m n m.catalog m.activity m.drawn s changes changes (same_rows changes) (λ ns to. refl) (le_refl _) (le_refl _) (λ table lower. refl) inv.journal;
-        works = λ i. (
-            let w = slot_told (SlotWorks m changes) act SentTo slot (Offer c) n ps later (second_sent operation slot from) (λ j u le h. work_later m n changes j u le h) (λ j apart. inv.works j)
-            (offered_works m changes slot t n c before order (inv.works slot)) i in record {
-              orders = orders_on m n m.catalog m.activity m.drawn s changes changes i _ o w.orders;
-              obeyed = obeyed_on m n m.catalog m.activity m.drawn s changes changes i _ o (λ k serving at d key isin is paired. refl) inv.operations w.obeyed;
-            });
-        late = inv.late;
-      };
+      master = master_marked (record m { clock = n }) s changes (master_ticked m n changes early inv.master);
+      slots = λ i. slot_ticked m n changes i _ early
+          (slot_told (SlotGood m changes) act SentTo slot (Offer c) n ps later (second_sent operation slot from) (λ j u le h. tablet_ticked m n changes j u le h) (λ j apart. inv.slots j)
+          (inbox_changed m changes slot t n (offered c n t).inbox before (inv.slots slot)) i);
+      remembered = remembered_on m (record m { clock = n; sent = s }) activity floors refl refl (le_refl _) (le_refl _) inv.remembered;
+      cover = inv.cover;
+      operations = operations_sent m n m.catalog m.activity m.drawn s changes changes o (λ ns. le_trans (inv.operations.kept ns) (floor_rises m (record m { clock = n; sent = s }) ns floors)) inv.operations.owners
+          (λ mark isin. marks_sent m changes operation slot l mark p inv.operations isin) (all_listed m changes inv.master) inv.operations;
+      rows_past = rows_on m n m.catalog m.activity m.drawn s changes changes ps.tablet _ early (clocks_rise act tells_ n ps (λ i b. tablet_before (slots_of act) ps n i later b))
+          (λ i isin. inl isin) (λ b table key op isin is. isin) inv.rows_past;
+      journal = journal_on m n m.catalog m.activity m.drawn s changes changes (same_rows changes) (λ ns to. refl) (le_refl _) (le_refl _) (λ table lower. refl) inv.journal;
+      works = λ i. (
+          let w = slot_told (SlotWorks m changes) act SentTo slot (Offer c) n ps later (second_sent operation slot from) (λ j u le h. work_later m n changes j u le h) (λ j apart. inv.works j)
+          (offered_works m changes slot t n c before order (inv.works slot)) i in record {
+            orders = orders_on m n m.catalog m.activity m.drawn s changes changes i _ o w.orders;
+            obeyed = obeyed_on m n m.catalog m.activity m.drawn s changes changes i _ o (λ k serving at d key isin is paired. refl) inv.operations w.obeyed;
+          });
     }
 
 pub send_keeps : (ps : Parts) (activity : List Interval) (changes : List Change) (n : ℕ) (operation : Id) (slot : ℕ) → Later (slots_of (Send operation slot)) ps n → 1 ≤ slot → Inv ps activity changes

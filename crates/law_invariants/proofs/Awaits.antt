@@ -1,4 +1,5 @@
 -- A tablet that awaits rows is listed for them by a restoration that has switched.
+use Rattle.std.specs.Option.{option_or}
 use Rattle.std.proofs.Common.{ℕ, ◌≡◌, List, [], ◌∷◌, Some, None, true, false, cond, ◌&&◌, inl, inr, refl, sym, ap, ◌∙◌, not, arith}
 use Rattle.std.specs.List.{list_any}
 use Rattle.std.proofs.lemmas.Bool.{true≢false}
@@ -6,7 +7,7 @@ use Rattle.row_values.specs.Ids.{Id, same}
 use Rattle.row_values.specs.Elements.{In}
 use Rattle.model.specs.Tablets.{Mark, RestoreFromKind, is_done}
 use Rattle.model.specs.Records.{Listed, RestorationRecord, RestorationState, Restoring}
-use Rattle.model.specs.Stands.{awaited_in, awaited_of, first_of_two, is_restore}
+use Rattle.model.specs.Stands.{awaited_in, awaited_of, is_restore}
 use Rattle.law_store.proofs.Keys.{either_way}
 use Rattle.law_invariants.proofs.Finding.{either_is, both_pass, passes_both, none_or_some, same_equal, same_self}
 use Rattle.law_invariants.proofs.Ticking.{not_true}
@@ -56,12 +57,12 @@ pub awaits_is : (rs : List RestorationRecord) (tablet : Id) (done : List Mark) (
 awaits_is [] tablet done point e = absurd (let q = e in grind arith)
 awaits_is (r ∷ rs) tablet done point e = none_or_some (awaited_of r.state r tablet done)
     (λ none.
-    let q : first_of_two (awaited_of r.state r tablet done) (awaited_in rs tablet done) ≡ Some point = e in
+    let q : option_or (awaited_of r.state r tablet done) (awaited_in rs tablet done) ≡ Some point = e in
     let k : awaited_in rs tablet done ≡ Some point = rw none at q in
     let w = awaits_is rs tablet done point k in
     record { restoration = w.restoration; known = inr w.known; serving = w.serving; state_is = w.state_is; line = w.line; listed = w.listed; tablet_is = w.tablet_is; restores = w.restores; undone = w.undone })
     (λ at some.
-    let q : first_of_two (awaited_of r.state r tablet done) (awaited_in rs tablet done) ≡ Some point = e in
+    let q : option_or (awaited_of r.state r tablet done) (awaited_in rs tablet done) ≡ Some point = e in
     let k : Some at ≡ Some point = rw some at q in
     let is : at ≡ point = cc in
     let w = awaiting_is r.state r tablet done point (some ∙ k) in

@@ -14,7 +14,7 @@ use Rattle.model.specs.Journal.{Change, TableMade, TableDropped, table_at}
 use Rattle.model.specs.History.{with}
 use Rattle.law_store.proofs.Keys.{either_way}
 use Rattle.law_invariants.specs.Invariant.{Covered}
-use Rattle.model.specs.Strict.{HasRange}
+use Rattle.model.specs.Stands.{HasRange}
 use Rattle.law_invariants.proofs.Finding.{in_append, in_mapped, same_equal}
 use Rattle.law_invariants.proofs.Holding.{one, holders_append, none_hold, ended_less, ended_early, ended_others, shares_early, shares_others, shares_hold, share_ranges}
 use Rattle.law_invariants.proofs.Journaling.{IsQuiet, made_before, made_others, dropped_before, dropped_others, dropped_here}

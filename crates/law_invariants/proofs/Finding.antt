@@ -1,8 +1,8 @@
 -- Members of lists, and the first member that passes a test.
 use Rattle.std.proofs.Common.{ℕ, ◌≡◌, ◌≢◌, ◌<◌, Bool, true, false, cond, ◌&&◌, ◌||◌, List, [], ◌∷◌, ◌++◌, Option, Some, None, ◌⊎◌, inl, inr, map, refl, sym, ap, subst, ◌∙◌, eqb, eqb-true, arith}
 use Rattle.std.specs.List.{filter, find}
-use Rattle.std.specs.Option.{option_map, is_some, is_none, unwrap_or}
-use Rattle.std.proofs.lemmas.Bool.{cond_both}
+use Rattle.std.specs.Option.{option_map, is_some, is_none, unwrap_or, option_or}
+use Rattle.std.proofs.lemmas.Bool.{cond_both, true≢false}
 use Rattle.std.proofs.lemmas.Bool.Decides.{nat_tests}
 use Rattle.row_values.specs.Ids.{Kind, Namespace, Table, Tablet, Schedule, Snapshot, Restoration, Clone, Id, same_kind, same}
 use Rattle.row_values.specs.Elements.{In}
@@ -214,3 +214,19 @@ find_beside test (x ∷ xs) y n = ap (cond (test x) (Some x)) (find_beside test 
 pub find_before : {A : Type 0} (test : A → Bool) (xs ys : List A) (a : A) → find test xs ≡ Some a → find test (xs ++ ys) ≡ Some a
 find_before test [] ys a e = cc
 find_before test (x ∷ xs) ys a e = either_way (test x) (λ t. rw t (rw t at e)) (λ n. rw n (find_before test xs ys a (rw n at e)))
+
+pub not_either : {A : Type 0} (a b : Option A) → is_some (option_or a b) ≡ false → is_some b ≡ false
+not_either None b e = e
+not_either (Some x) b e = absurd (true≢false e)
+
+pub find_only : {A : Type 0} (test : A → Bool) (xs : List A) (a : A) → In a xs → test a ≡ true → ((b : A) → In b xs → test b ≡ true → b ≡ a) → find test xs ≡ Some a
+find_only test [] a isin t only = absurd isin
+find_only test (x ∷ xs) a isin t only = either_way (test x)
+    (λ b. ap (λ c. cond c (Some x) (find test xs)) b ∙ ap Some (only x (inl refl) b))
+    (λ b.
+    let rest : In a xs = elim isin [ inl e ↦ absurd (true≢false (sym t ∙ ap test (sym e) ∙ b)) | inr rest ↦ rest ] in
+    ap (λ c. cond c (Some x) (find test xs)) b ∙ find_only test xs a rest t (λ y h. only y (inr h)))
+
+pub find_in_first : {A : Type 0} (test : A → Bool) (xs ys : List A) → ((a : A) → In a ys → test a ≡ false) → find test (xs ++ ys) ≡ find test xs
+find_in_first test [] ys none = none_found test ys none
+find_in_first test (x ∷ xs) ys none = ap (cond (test x) (Some x)) (find_in_first test xs ys none)

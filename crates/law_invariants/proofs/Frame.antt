@@ -7,7 +7,6 @@ use Rattle.model.specs.Journal.{Change}
 use Rattle.model.specs.Tablets.{Tablet, TabletAct, Clock, act_for, effect}
 use Rattle.model.specs.Acts.{Act, Reply}
 use Rattle.model.specs.Parts.{Parts, Outcome, Ticks}
-use Rattle.model.specs.Right.{NothingLate}
 use Rattle.model.specs.Entries.{slots_of}
 use Rattle.model.specs.History.{told}
 use Rattle.law_store.proofs.Keys.{either_way}
@@ -51,8 +50,8 @@ rows_told act reply slot what n ps changes later h =
 pub one_told : (act : Act) (reply : Reply) (slot : ℕ) (what : TabletAct) (n : ℕ) (ps : Parts) (activity : List Interval) (new : List Change) → Later (slots_of act) ps n → touched act slot ≡ true
     → MasterGood ps.master new → ((i : ℕ) → eqb slot i ≡ false → SlotGood ps.master new i (ps.tablet i)) → SlotGood ps.master new slot (effect what n (ps.tablet slot))
     → OperationsGood ps.master new → JournalGood ps.master new → RowsPast ps.master (told act (tells slot what reply) n ps).tablet new → ((i : ℕ) → eqb slot i ≡ false → SlotWorks ps.master new i (ps.tablet i)) → SlotWorks ps.master new slot (effect what n (ps.tablet slot))
-    → Remembered ps.master activity → Covered activity new → NothingLate new → Inv (told act (tells slot what reply) n ps) (activity_after act (tells slot what reply) n ps activity) new
-one_told act reply slot what n ps activity new later is master others mine operations journal rows others_work mine_works remembered cover late =
+    → Remembered ps.master activity → Covered activity new → Inv (told act (tells slot what reply) n ps) (activity_after act (tells slot what reply) n ps activity) new
+one_told act reply slot what n ps activity new later is master others mine operations journal rows others_work mine_works remembered cover =
     let early = master_before (slots_of act) ps n later in
     let drawn = tables_drawn ps.master activity remembered in
     subst (λ is. Inv (told act (tells slot what reply) n ps) is new) (sym (activity_stays act (record { slot = slot; act = what } ∷ []) reply n ps activity)) (record {
@@ -66,5 +65,4 @@ one_told act reply slot what n ps activity new later is master others mine opera
       journal = journal_ticked_if (has (slots_of act) 0) ps.master n new journal;
       works = λ i. works_ticked_if (has (slots_of act) 0) ps.master n new i _ early drawn operations
           (slot_told (SlotWorks ps.master new) act reply slot what n ps later is (λ j t le h. work_later ps.master n new j t le h) others_work mine_works i);
-      late = late;
     })

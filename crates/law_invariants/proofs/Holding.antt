@@ -8,7 +8,7 @@ use Rattle.row_values.specs.Ids.{Id, same}
 use Rattle.row_values.specs.Elements.{In}
 use Rattle.model.specs.Times.{before_end, ended}
 use Rattle.row_values.specs.Ranges.{in_range, IsRange}
-use Rattle.model.specs.Strict.{HasRange}
+use Rattle.model.specs.Stands.{HasRange}
 use Rattle.model.specs.Activity.{Interval, active_at, end_table_tablets}
 use Rattle.model.specs.Stands.{holders}
 use Rattle.model.specs.Changed.{begins, shares, next_tablet}

@@ -7,8 +7,8 @@ use Rattle.row_values.specs.Rows.{absent_row}
 use Rattle.row_values.specs.declared.rows.Row.{Row}
 use Rattle.row_values.specs.Ids.{Id, same}
 use Rattle.row_values.specs.Schema.{Column}
+use Rattle.model.specs.Right.{is_fixed}
 use Rattle.model.specs.Journal.{Change, ChangeAct, NamespaceMade, NamespaceDropped, TableMade, TableRenamed, TableDropped, ColumnAdded, ColumnDropped, RowChanged, NamespaceRestored, NamespaceCloned, TableView, moved_to, renamed, with_column, without_column, restored_table, cloned_table, restored_row, cloned_row, source_of, table_after, row_after, table_at, row_at}
-use Rattle.model.specs.Right.{is_fixed, NothingLate}
 use Rattle.model.specs.History.{with}
 use Rattle.law_store.proofs.Keys.{either_way}
 use Rattle.law_invariants.proofs.Finding.{same_self}
@@ -196,8 +196,3 @@ no_rows (c ∷ earlier) x table key e = either_way (leb c.stamp x)
     let k : table_at earlier x table ≡ None = rw b at q in
     ap (λ w. cond w (row_after c.act table key (table_at earlier x) (table_at earlier) (row_at earlier x) (row_at earlier)) (row_at earlier x table key)) b
     ∙ no_rows earlier x table key k)
-
--- a change that comes after all fixed times is not late
-pub nothing_late : (n : ℕ) (act : ChangeAct) (changes : List Change) (clock : ℕ) → clock < n → ((ns : Id) (to : ℕ) → is_fixed changes ns to ≡ true → to ≤ clock) → NothingLate changes
-    → NothingLate (with n act changes)
-nothing_late n act changes clock l past late = (late, λ ns t is of. (let p : t ≤ clock = past ns t is in omega arith))

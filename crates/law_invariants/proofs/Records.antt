@@ -154,7 +154,7 @@ ended_same : (x at from : ℕ) (to : Option ℕ) → x < at → holds_at x from 
 ended_same x at from None l = ap (λ b. leb from x && b) (grind (arith, nat_tests))
 ended_same x at from (Some to) l = refl
 
-end_same : (b : Bool) (x at from : ℕ) (to : Option ℕ) → x < at → holds_at x from (cond b (ended at to) to) ≡ holds_at x from to
+pub end_same : (b : Bool) (x at from : ℕ) (to : Option ℕ) → x < at → holds_at x from (cond b (ended at to) to) ≡ holds_at x from to
 end_same true x at from to l = ended_same x at from to l
 end_same false x at from to l = refl
 

@@ -5,9 +5,13 @@ use Rattle.std.proofs.lemmas.Bool.Decides.{nat_tests}
 use Rattle.row_values.specs.Ids.{Id, same}
 use Rattle.row_values.specs.Elements.{In}
 use Rattle.model.specs.Times.{is_open, ended, ended_by}
-use Rattle.model.specs.Catalog.{TableRecord, end_table}
+use Rattle.model.specs.Catalog.{TableRecord, end_table, latest_from, latest}
 use Rattle.law_invariants.specs.Invariant.{EndsBy, IsPast, RecordsRise}
-use Rattle.law_invariants.proofs.Finding.{same_self, in_append, in_mapped}
+use Rattle.law_invariants.proofs.Finding.{same_self, in_append, in_mapped, same_equal}
+use Rattle.std.specs.Option.{unwrap_or}
+use Rattle.row_values.specs.Schema.{Schema}
+use Rattle.model.specs.Restored.{newest}
+use Rattle.law_store.proofs.Keys.{either_way}
 
 -- what had ended stays so
 ended_stays : (b : Bool) (n x : ℕ) (to : Option ℕ) → ended_by x to ≡ true → ended_by x (cond b (ended n to) to) ≡ true
@@ -57,3 +61,31 @@ rise_over r id time n e past le =
     over : (to : Option ℕ) → EndsBy time r.from to → ended_by n (ended n to) ≡ true
     over None h = grind (arith, nat_tests)
     over (Some f) h = let l : f ≤ time = h.1 in grind (arith, nat_tests)
+
+later_least : (rs : List TableRecord) (id : Id) (s : Schema) (low : ℕ) → low ≤ s.next → ((q : TableRecord) → In q rs → q.id ≡ id → low ≤ q.schema.next) → (k : Schema) × ((latest_from rs id (Some s) ≡ Some k) × (low ≤ k.next))
+later_least [] id s low le each = (s, (refl, le))
+later_least (r ∷ rs) id s low le each = either_way (same r.id id)
+    (λ b. let k = later_least rs id r.schema low (each r (inl refl) (same_equal r.id id b)) (λ q isin. each q (inr isin)) in (k.0, (ap (λ c. latest_from rs id (cond c (Some r.schema) (Some s))) b ∙ k.1.0, k.1.1)))
+    (λ b. let k = later_least rs id s low le (λ q isin. each q (inr isin)) in (k.0, (ap (λ c. latest_from rs id (cond c (Some r.schema) (Some s))) b ∙ k.1.0, k.1.1)))
+
+latest_most : (rs : List TableRecord) (found : Option Schema) (q : TableRecord) → RecordsRise rs → In q rs → (k : Schema) × ((latest_from rs q.id found ≡ Some k) × (q.schema.next ≤ k.next))
+latest_most [] found q rise isin = absurd isin
+latest_most (r ∷ rs) found q rise (inl e) =
+    let here : same r.id q.id ≡ true = ap (λ x. same x.id q.id) e ∙ same_self q.id in
+    let k = later_least rs q.id r.schema q.schema.next (let n : r.schema.next ≡ q.schema.next = ap (λ x. x.schema.next) e in omega arith)
+    (λ p there is. let l = (rise.0 p there (is ∙ ap (λ x. x.id) (sym e))).0 in let n : r.schema.next ≡ q.schema.next = ap (λ x. x.schema.next) e in omega arith) in
+    (k.0, (ap (λ c. latest_from rs q.id (cond c (Some r.schema) found)) here ∙ k.1.0, k.1.1))
+latest_most (r ∷ rs) found q rise (inr isin) = latest_most rs (cond (same r.id q.id) (Some r.schema) found) q rise.1 isin
+
+pub newest_most : (rs : List TableRecord) (q r : TableRecord) → RecordsRise rs → In q rs → q.id ≡ r.id → q.schema.next ≤ (newest rs r).next
+newest_most rs q r rise isin e =
+    let k = latest_most rs None q rise isin in
+    let is : latest rs r.id ≡ Some k.0 = ap (latest rs) (sym e) ∙ k.1.0 in
+    subst (λ o. q.schema.next ≤ (unwrap_or o r.schema).next) (sym is) k.1.1
+
+pub rise_append : (xs ys : List TableRecord) → RecordsRise xs → RecordsRise ys → ((x y : TableRecord) → In x xs → In y ys → y.id ≡ x.id → (x.schema.next ≤ y.schema.next) × (ended_by y.from x.to ≡ true)) → RecordsRise (xs ++ ys)
+rise_append [] ys h g between = g
+rise_append (x ∷ xs) ys h g between = (
+  (λ q isin e. elim (in_append xs ys q isin) [ inl old ↦ h.0 q old e | inr new ↦ between x q (inl refl) new e ]),
+  rise_append xs ys h.1 g (λ a b in_a. between a b (inr in_a)),
+)

@@ -1,5 +1,5 @@
 -- The records of tables stand for the view through each change of the catalog.
-use Rattle.std.proofs.Common.{ℕ, ◌≡◌, ◌<◌, ◌≤◌, ◌+◌, true, false, cond, ◌&&◌, not, List, [], ◌∷◌, ◌++◌, Option, Some, None, refl, sym, ap, subst, ◌∙◌, arith, le_trans, le_refl, le-leb, leb, leb-true, leb-false, eqb}
+use Rattle.std.proofs.Common.{ℕ, ◌≡◌, ◌<◌, ◌≤◌, ◌+◌, true, false, cond, ◌&&◌, not, List, [], ◌∷◌, ◌++◌, Option, Some, None, refl, sym, ap, subst, ◌∙◌, arith, le_trans, le_refl, le-leb, leb, leb-true, leb-false, eqb, ◌⊎◌, inl, inr}
 use Rattle.std.specs.List.{filter}
 use Rattle.std.specs.Option.{option_map}
 use Rattle.std.proofs.lemmas.Bool.{cond_both, true≢false}
@@ -9,7 +9,6 @@ use Rattle.row_values.specs.declared.value.Item.{Item}
 use Rattle.row_values.specs.Ids.{Id, same}
 use Rattle.row_values.specs.Elements.{In}
 use Rattle.model.specs.Times.{is_open, holds_at, ended_by}
-use Rattle.row_values.specs.Schema as schema
 use Rattle.row_values.specs.Schema.{Schema, Column, ColumnKind, NewColumn, column_named, first_schema}
 use Rattle.model.specs.Catalog.{Catalog, NamespaceRecord, TableRecord, KeptFrom, Owner, table_named, current_named, end_table, change_table, owner_of, kept_from, set_kept_from}
 use Rattle.model.specs.Restored.{record_at}
@@ -24,6 +23,7 @@ use Rattle.law_invariants.proofs.Names.{names_kept}
 use Rattle.law_invariants.proofs.Columns.{columns_made, columns_added, columns_dropped, dropped_alike}
 use Rattle.law_invariants.proofs.Records.{has_title, is_named_at, table_named_found, now_holds, current_named_at, record_fresh, named_first, named_last, record_first, record_last, record_beside, end_one, table_end_past, end_held, end_over, named_ended, record_ended, record_gone, record_other, view_before, record_at_is, owners_first, owners_beside, owner_last, owner_beside, kept_rises, kept_by}
 use Rattle.law_invariants.proofs.Ticking.{past_later}
+use Rattle.row_values.specs.Schema as schema
 
 -- The view after a change
 
@@ -366,3 +366,17 @@ tables_renamed c time drawn n t name changes le isin current free h =
     tables_changed c time drawn n t name t.schema (TableRenamed t.id name) changes le isin current
     (λ r e. let q : None ≡ Some r = sym free ∙ e in cc) (h.columns t isin) (le_refl _)
     (record { turn = renamed name; after = λ k before then_. refl; turned = refl; none = refl; inside = λ v w e. let q : record v { name = name } ≡ w = cc in sym (ap (λ u. u.namespace) q) }) h
+
+-- of one table, or of one name in one namespace
+abbrev pub Alike : TableRecord → TableRecord → Type 0
+Alike a b = (a.id ≡ b.id) ⊎ ((a.namespace ≡ b.namespace) × (a.name ≡ b.name))
+
+pub alike_back : (a b : TableRecord) → Alike a b → Alike b a
+alike_back a b (inl e) = inl (sym e)
+alike_back a b (inr e) = inr (sym e.0, sym e.1)
+
+pub old_one : (c : Catalog) (time drawn : ℕ) (changes : List Change) (x : ℕ) (a b : TableRecord) → TablesStand c time drawn changes → In a c.tables → In b c.tables → holds_at x a.from a.to ≡ true → holds_at x b.from b.to ≡ true → Alike a b → a ≡ b
+old_one c time drawn changes x a b h in_a in_b held_a held_b (inl e) =
+    let q : Some a ≡ Some b = sym (h.found x a in_a held_a) ∙ ap (λ i. record_at c.tables i x) e ∙ h.found x b in_b held_b in cc
+old_one c time drawn changes x a b h in_a in_b held_a held_b (inr e) =
+    let q : Some a ≡ Some b = sym (h.unique x a in_a held_a) ∙ ap (λ i. table_named c.tables i a.name x) e.0 ∙ ap (λ i. table_named c.tables b.namespace i x) e.1 ∙ h.unique x b in_b held_b in cc

@@ -15,9 +15,8 @@ use Rattle.model.specs.Acts.{Act, Reply, Refused, Refusal}
 use Rattle.model.specs.Parts.{Master, Parts, Check, If, Names, Fault, Outcome, judged, refused, answered, decided}
 use Rattle.model.specs.Entries.{slots_of, clock_at}
 use Rattle.model.specs.History.{told, with_changes}
-use Rattle.model.specs.Replies.{ReplyRight}
 use Rattle.law_invariants.specs.Remembered.{activity_after, Remembered}
-use Rattle.law_invariants.specs.Invariant.{EndsBy, OverBy, IsPast, NamespacesStand, TablesStand, IsGood, SlotGood, Covered, MasterGood, Inv, Keeps, Later, Passes, IsGoodIn, TakesWritesIn}
+use Rattle.law_invariants.specs.Invariant.{EndsBy, OverBy, IsPast, NamespacesStand, TablesStand, IsGood, SlotGood, Covered, MasterGood, Inv, Later, Passes, IsGoodIn, TakesWritesIn}
 use Rattle.law_invariants.proofs.Remembering.{activity_stays, remembered_ticked_if}
 use Rattle.law_invariants.proofs.Hearing.{clocks_rise, rows_ticked_if}
 use Rattle.law_invariants.proofs.Undoing.{journal_ticked_if}
@@ -143,20 +142,17 @@ nothing_told act reply n ps activity changes later inv = let is = sym (activity_
       (work_later_if ps.master n changes slot (has (slots_of act) slot && not (eqb slot 0)) (ps.tablet slot) (tablet_before (slots_of act) ps n slot later) (inv.works slot));
   slots = λ slot. slot_ticked_if (has (slots_of act) 0) ps.master n changes slot _ (master_before (slots_of act) ps n later)
       (slots_ticked ps.master n changes slot (has (slots_of act) slot && not (eqb slot 0)) (ps.tablet slot) (tablet_before (slots_of act) ps n slot later) (inv.slots slot));
-  late = inv.late;
 }
 
--- what is to be shown of an act's outcome
+-- what is to be shown of an act's outcome: that it keeps what holds
 abbrev pub KeepsAll : Act → ℕ → Parts → List Interval → List Change → Outcome → Type 0
-KeepsAll act n ps activity changes o = Keeps act o n ps (told act o n ps) (activity_after act o n ps activity) changes
+KeepsAll act n ps activity changes o = Inv (told act o n ps) (activity_after act o n ps activity) (with_changes act o n ps changes)
 
--- an act that is refused keeps what holds, where its reply says nothing more
+-- an act that is refused keeps what holds
 pub refused_keeps : (act : Act) (why : Refusal) (n : ℕ) (ps : Parts) (activity : List Interval) (changes : List Change) → Later (slots_of act) ps n → Inv ps activity changes
-    → ReplyRight act (Refused why) n ps changes → with_changes act (refused why) n ps changes ≡ changes → KeepsAll act n ps activity changes (refused why)
-refused_keeps act why n ps activity changes later inv right same_ = record {
-  right = right;
-  inv = subst (Inv (told act (refused why) n ps) (activity_after act (refused why) n ps activity)) (sym same_) (nothing_told act (Refused why) n ps activity changes later inv);
-}
+    → with_changes act (refused why) n ps changes ≡ changes → KeepsAll act n ps activity changes (refused why)
+refused_keeps act why n ps activity changes later inv same_ =
+    subst (Inv (told act (refused why) n ps) (activity_after act (refused why) n ps activity)) (sym same_) (nothing_told act (Refused why) n ps activity changes later inv)
 
 -- an act keeps what holds where each refusal does, and the outcome where none comes
 pub by_checks : (act : Act) (n : ℕ) (ps : Parts) (activity : List Interval) (changes : List Change) (checks : List Check) (o : Outcome)

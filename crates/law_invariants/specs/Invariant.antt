@@ -20,12 +20,9 @@ use Rattle.model.specs.Stands.{awaited_in, awaited_of, holders, before_restore}
 use Rattle.model.specs.Records.{Listed, RestorationRecord, ScheduledNamespace}
 use Rattle.model.specs.Schedules.{complete_to}
 use Rattle.model.specs.Entries.{clock_at}
-use Rattle.model.specs.Acts.{Act}
-use Rattle.model.specs.Right.{is_fixed, NothingLate}
-use Rattle.model.specs.Replies.{ReplyRight}
-use Rattle.model.specs.Strict.{HasRange}
-use Rattle.model.specs.History.{with_changes}
-use Rattle.model.specs.Parts.{Master, Parts, Check, If, Names, Fault, Outcome}
+use Rattle.model.specs.Right.{is_fixed}
+use Rattle.model.specs.Stands.{HasRange}
+use Rattle.model.specs.Parts.{Master, Parts, Check, If, Names, Fault}
 use Rattle.law_store.specs.Sorted.{Sorted, EachKey}
 use Rattle.law_invariants.specs.Remembered.{Remembered}
 use Rattle.law_invariants.specs.Operations.{is_switched, OperationsGood, JournalGood}
@@ -257,13 +254,6 @@ pub record Inv (ps : Parts) (activity : List Interval) (changes : List Change) :
   pub journal : JournalGood ps.master changes
   pub rows_past : RowsPast ps.master ps.tablet changes
   pub works : (slot : ℕ) → SlotWorks ps.master changes slot (ps.tablet slot)
-  pub late : NothingLate changes
-
--- an act keeps what holds, and its reply is right. `activity` is that of all tablets after it
-pub record Keeps (act : Act) (o : Outcome) (n : ℕ) (before after : Parts) (activity : List Interval)
-    (changes : List Change) : Type 0 where
-  pub right : ReplyRight act o.reply n before changes
-  pub inv : Inv after activity (with_changes act o n before changes)
 
 -- the clocks of the slots that an act names are below its stamp
 abbrev pub Later : List ℕ → Parts → ℕ → Type 0

@@ -1,38 +1,27 @@
 -- The records of tables after a switch: those of the namespace have ended by the point, and those of the time are current again from it on.
-use Rattle.std.proofs.Common.{ℕ, ◌≡◌, ◌≤◌, ◌<◌, List, [], ◌∷◌, ◌++◌, map, Option, Some, None, Bool, true, false, cond, ◌&&◌, ◌⊎◌, inl, inr, refl, sym, ap, subst, ◌∙◌, arith, leb, ltb, le-leb, leb-true, leb-false, ltb-true, le_trans, le_refl, le_of_lt}
+use Rattle.std.proofs.Common.{ℕ, ◌≡◌, ◌≤◌, ◌<◌, List, [], ◌∷◌, map, Option, Some, None, Bool, true, false, cond, ◌&&◌, inl, inr, refl, sym, ap, subst, ◌∙◌, arith, leb, ltb, le-leb, leb-true, leb-false, ltb-true, le_trans, le_refl, le_of_lt}
 use Rattle.std.specs.List.{filter, find}
-use Rattle.std.specs.Option.{option_map, unwrap_or}
+use Rattle.std.specs.Option.{option_map}
 use Rattle.std.specs.Str.{bytes_eq}
 use Rattle.std.proofs.lemmas.Bool.{true≢false, cond_both}
 use Rattle.std.proofs.lemmas.Bool.Decides.{nat_tests}
 use Rattle.row_values.specs.Ids.{Id, same}
 use Rattle.row_values.specs.Elements.{In}
 use Rattle.model.specs.Times.{holds_at, ended, ended_by, before_end}
-use Rattle.row_values.specs.Schema.{Schema}
-use Rattle.model.specs.Catalog.{Catalog, TableRecord, owner_of, owns, is_owned_by, kept_from, put_table, by_id, tables_at, latest_from, latest, table_named, end_tables}
+use Rattle.model.specs.Catalog.{Catalog, TableRecord, owner_of, owns, is_owned_by, kept_from, put_table, by_id, tables_at, end_tables}
 use Rattle.model.specs.Restored.{newest, back_at, tables_back, restored_tables, record_at}
 use Rattle.model.specs.Journal.{Change}
 use Rattle.law_store.proofs.Keys.{either_way, equal_keys, key_self}
 use Rattle.law_invariants.specs.Invariant.{IsPast, EndsBy, view_of, view_at, ColumnsStand, RecordsRise, TablesStand}
-use Rattle.law_invariants.proofs.Finding.{both_pass, passes_both, first_fails, second_fails, none_or_some, same_equal, same_self, in_append, in_second, in_mapped, map_in, in_filter, filter_in, none_found, find_through}
+use Rattle.law_invariants.proofs.Finding.{both_pass, passes_both, first_fails, second_fails, none_or_some, same_equal, same_self, in_append, in_second, in_mapped, map_in, in_filter, filter_in, none_found, find_through, find_only, find_in_first}
 use Rattle.law_invariants.proofs.Records.{has_title, is_named_at, is_table_at, table_named_found, record_at_found, record_at_is, end_held}
 use Rattle.law_invariants.proofs.Undoing.{owned_is}
 use Rattle.law_moves.proofs.Viewing.{Inside, restore, restored_before, table_back, table_other}
-use Rattle.law_moves.proofs.Using.{mapped_is}
+use Rattle.law_invariants.proofs.Using.{mapped_is}
+use Rattle.law_invariants.proofs.Rising.{rise_append, newest_most}
+use Rattle.law_invariants.proofs.Tables.{Alike, alike_back, old_one}
 
 -- Lists
-
-pub find_only : {A : Type 0} (test : A → Bool) (xs : List A) (a : A) → In a xs → test a ≡ true → ((b : A) → In b xs → test b ≡ true → b ≡ a) → find test xs ≡ Some a
-find_only test [] a isin t only = absurd isin
-find_only test (x ∷ xs) a isin t only = either_way (test x)
-    (λ b. ap (λ c. cond c (Some x) (find test xs)) b ∙ ap Some (only x (inl refl) b))
-    (λ b.
-    let rest : In a xs = elim isin [ inl e ↦ absurd (true≢false (sym t ∙ ap test (sym e) ∙ b)) | inr rest ↦ rest ] in
-    ap (λ c. cond c (Some x) (find test xs)) b ∙ find_only test xs a rest t (λ y h. only y (inr h)))
-
-pub find_in_first : {A : Type 0} (test : A → Bool) (xs ys : List A) → ((a : A) → In a ys → test a ≡ false) → find test (xs ++ ys) ≡ find test xs
-find_in_first test [] ys none = none_found test ys none
-find_in_first test (x ∷ xs) ys none = ap (cond (test x) (Some x)) (find_in_first test xs ys none)
 
 put_only : (t : TableRecord) (us : List TableRecord) (a : TableRecord) → In a (put_table t us) → In a (t ∷ us)
 put_only t [] a isin = isin
@@ -98,27 +87,6 @@ end_same true x point from None l = ap (λ b. leb from x && b) (grind (arith, na
 
 -- The newest schema
 
-later_least : (rs : List TableRecord) (id : Id) (s : Schema) (low : ℕ) → low ≤ s.next → ((q : TableRecord) → In q rs → q.id ≡ id → low ≤ q.schema.next) → (k : Schema) × ((latest_from rs id (Some s) ≡ Some k) × (low ≤ k.next))
-later_least [] id s low le each = (s, (refl, le))
-later_least (r ∷ rs) id s low le each = either_way (same r.id id)
-    (λ b. let k = later_least rs id r.schema low (each r (inl refl) (same_equal r.id id b)) (λ q isin. each q (inr isin)) in (k.0, (ap (λ c. latest_from rs id (cond c (Some r.schema) (Some s))) b ∙ k.1.0, k.1.1)))
-    (λ b. let k = later_least rs id s low le (λ q isin. each q (inr isin)) in (k.0, (ap (λ c. latest_from rs id (cond c (Some r.schema) (Some s))) b ∙ k.1.0, k.1.1)))
-
-latest_most : (rs : List TableRecord) (found : Option Schema) (q : TableRecord) → RecordsRise rs → In q rs → (k : Schema) × ((latest_from rs q.id found ≡ Some k) × (q.schema.next ≤ k.next))
-latest_most [] found q rise isin = absurd isin
-latest_most (r ∷ rs) found q rise (inl e) =
-    let here : same r.id q.id ≡ true = ap (λ x. same x.id q.id) e ∙ same_self q.id in
-    let k = later_least rs q.id r.schema q.schema.next (let n : r.schema.next ≡ q.schema.next = ap (λ x. x.schema.next) e in omega arith)
-    (λ p there is. let l = (rise.0 p there (is ∙ ap (λ x. x.id) (sym e))).0 in let n : r.schema.next ≡ q.schema.next = ap (λ x. x.schema.next) e in omega arith) in
-    (k.0, (ap (λ c. latest_from rs q.id (cond c (Some r.schema) found)) here ∙ k.1.0, k.1.1))
-latest_most (r ∷ rs) found q rise (inr isin) = latest_most rs (cond (same r.id q.id) (Some r.schema) found) q rise.1 isin
-
-pub newest_most : (rs : List TableRecord) (q r : TableRecord) → RecordsRise rs → In q rs → q.id ≡ r.id → q.schema.next ≤ (newest rs r).next
-newest_most rs q r rise isin e =
-    let k = latest_most rs None q rise isin in
-    let is : latest rs r.id ≡ Some k.0 = ap (latest rs) (sym e) ∙ k.1.0 in
-    subst (λ o. q.schema.next ≤ (unwrap_or o r.schema).next) (sym is) k.1.1
-
 -- The records
 
 abbrev pub over : Id → ℕ → TableRecord → TableRecord
@@ -159,20 +127,6 @@ new_is P rs ns to point old back a isin = elim (in_append (end_tables ns point r
   | inr came ↦ (let k = back_is rs ns to point a came in subst P k.is (back k.was k.kept k.held k.namespace_is))
 ]
 
--- of one table, or of one name in one namespace
-abbrev pub Alike : TableRecord → TableRecord → Type 0
-Alike a b = (a.id ≡ b.id) ⊎ ((a.namespace ≡ b.namespace) × (a.name ≡ b.name))
-
-alike_back : (a b : TableRecord) → Alike a b → Alike b a
-alike_back a b (inl e) = inl (sym e)
-alike_back a b (inr e) = inr (sym e.0, sym e.1)
-
-pub old_one : (c : Catalog) (time drawn : ℕ) (changes : List Change) (x : ℕ) (a b : TableRecord) → TablesStand c time drawn changes → In a c.tables → In b c.tables → holds_at x a.from a.to ≡ true → holds_at x b.from b.to ≡ true → Alike a b → a ≡ b
-old_one c time drawn changes x a b h in_a in_b held_a held_b (inl e) =
-    let q : Some a ≡ Some b = sym (h.found x a in_a held_a) ∙ ap (λ i. record_at c.tables i x) e ∙ h.found x b in_b held_b in cc
-old_one c time drawn changes x a b h in_a in_b held_a held_b (inr e) =
-    let q : Some a ≡ Some b = sym (h.unique x a in_a held_a) ∙ ap (λ i. table_named c.tables i a.name x) e.0 ∙ ap (λ i. table_named c.tables b.namespace i x) e.1 ∙ h.unique x b in_b held_b in cc
-
 -- one that is alike to a table of the namespace is of the namespace
 of_it : (c : Catalog) (time drawn : ℕ) (changes : List Change) (ns : Id) (a b : TableRecord) → TablesStand c time drawn changes → In a c.tables → In b c.tables → b.namespace ≡ ns → Alike a b → a.namespace ≡ ns
 of_it c time drawn changes ns a b h in_a in_b is (inl e) =
@@ -211,13 +165,6 @@ rise_over (r ∷ rs) ns point h = (
     ended_stays b n x None h = absurd (true≢false (sym h))
     ended_stays true n x (Some e) h = h
     ended_stays false n x (Some e) h = h
-
-pub rise_append : (xs ys : List TableRecord) → RecordsRise xs → RecordsRise ys → ((x y : TableRecord) → In x xs → In y ys → y.id ≡ x.id → (x.schema.next ≤ y.schema.next) × (ended_by y.from x.to ≡ true)) → RecordsRise (xs ++ ys)
-rise_append [] ys h g between = g
-rise_append (x ∷ xs) ys h g between = (
-  (λ q isin e. elim (in_append xs ys q isin) [ inl old ↦ h.0 q old e | inr new ↦ between x q (inl refl) new e ]),
-  rise_append xs ys h.1 g (λ a b in_a. between a b (inr in_a)),
-)
 
 rise_apart : (ts rs : List TableRecord) (point : ℕ) → NoneSame ts → RecordsRise (map (back_at rs point) ts)
 rise_apart [] rs point h = tt

@@ -11,7 +11,7 @@ use Rattle.model.specs.Changes.{planned}
 use Rattle.model.specs.History.{outcome}
 use Rattle.law_invariants.specs.Invariant.{Inv, Later}
 use Rattle.law_invariants.proofs.Ticking.{KeepsAll}
-use Rattle.law_changes.proofs.Changing.{change_keeps}
+use Rattle.law_invariants.proofs.Stale.{change_keeps}
 use Rattle.law_moves.specs.Commands.{IsOfSchedules}
 use Rattle.law_moves.proofs.Schedules.{create_schedule_keeps, delete_schedule_keeps}
 use Rattle.law_moves.proofs.Editing.{edit_schedule_keeps}

@@ -20,13 +20,13 @@ use Rattle.law_invariants.specs.Invariant.{Inv, Later}
 use Rattle.law_invariants.proofs.Finding.{same_equal, same_self, filter_in, in_mapped, map_in}
 use Rattle.law_invariants.proofs.Remembering.{floor_rises}
 use Rattle.law_invariants.proofs.Ticking.{KeepsAll, not_true}
-use Rattle.law_moves.proofs.Recording.{Records, recorded, SnapshotOn, SnapshotCame, Onto}
-use Rattle.law_moves.proofs.Staying.{schedule_on, scheduled_on}
-use Rattle.law_moves.proofs.Slots.{records_keep}
-use Rattle.law_moves.proofs.Acting.{alone_keeps}
-use Rattle.law_moves.proofs.Advancing.{moves, advance_by, mapped_some, no_restoration, no_clone}
-use Rattle.law_moves.proofs.Pending.{point_is, pending_drawn, pending_unmoved, pending_stays, fence_stays, unfinished_snapshot_is, unacked_is}
-use Rattle.law_moves.proofs.Using.{mapped_is, alone_mapped}
+use Rattle.law_invariants.proofs.Recording.{Records, recorded, SnapshotOn, SnapshotCame, Onto}
+use Rattle.law_invariants.proofs.Staying.{schedule_on, scheduled_on}
+use Rattle.law_invariants.proofs.Slots.{records_keep}
+use Rattle.law_invariants.proofs.Acting.{alone_keeps}
+use Rattle.law_invariants.proofs.Advancing.{moves, advance_by, mapped_some, no_restoration, no_clone}
+use Rattle.law_invariants.proofs.Pending.{point_is, pending_drawn, pending_unmoved, pending_stays, fence_stays, unfinished_snapshot_is, unacked_is}
+use Rattle.law_invariants.proofs.Using.{mapped_is, alone_mapped, one_snapshot}
 
 stays_complete : (b complete : Bool) → complete ≡ true → cond b true complete ≡ true
 stays_complete true complete e = refl
@@ -41,13 +41,6 @@ was_another true complete e = e
 was_another false complete e = refl
 
 -- Snapshots rise, so each has an identifier of its own
-
-pub one_snapshot : (rs : List SnapshotRecord) (q r : SnapshotRecord) → SnapshotsRise rs → In q rs → In r rs → q.id ≡ r.id → q ≡ r
-one_snapshot [] q r h in_q in_r e = absurd in_q
-one_snapshot (s ∷ rs) q r h (inl a) (inl b) e = sym a ∙ b
-one_snapshot (s ∷ rs) q r h (inl a) (inr b) e = absurd (let l = (h.0 r b).0 in let k : s.id.number ≡ r.id.number = ap (λ x. x.id.number) a ∙ ap (λ i. i.number) e in omega arith)
-one_snapshot (s ∷ rs) q r h (inr a) (inl b) e = absurd (let l = (h.0 q a).0 in let k : s.id.number ≡ q.id.number = ap (λ x. x.id.number) b ∙ ap (λ i. i.number) (sym e) in omega arith)
-one_snapshot (s ∷ rs) q r h (inr a) (inr b) e = one_snapshot rs q r h.1 a b e
 
 -- The records after the move
 
@@ -283,6 +276,6 @@ advance_snapshot_keeps ps activity changes n operation later kind inv =
     let quiet : with_either (unfinished_restoration m.restorations operation) (unfinished_clone m.clones operation) n changes ≡ changes =
     ap (λ o. with_either o (unfinished_clone m.clones operation) n changes) (no_restoration m changes operation inv.operations (λ e. let q : Snapshot ≡ Restoration = sym kind ∙ e in grind arith))
     ∙ ap (λ o. with_either None o n changes) (no_clone m changes operation inv.operations (λ e. let q : Snapshot ≡ Clone = sym kind ∙ e in grind arith)) in
-    alone_keeps (Advance operation) (moves operation p.next) n ps activity activity changes changes (recorded m w) refl refl (moved_is m refl) (ap (λ k. k.activity) (moved_is (record m { activity = activity }) refl)) tt quiet
+    alone_keeps (Advance operation) (moves operation p.next) n ps activity activity changes changes (recorded m w) refl refl (moved_is m refl) (ap (λ k. k.activity) (moved_is (record m { activity = activity }) refl)) quiet
     (records_keep ps activity changes w
     (finished_onto ps activity changes n r before there.0 (λ l isin. acked l (subst (λ q. In l q.listed) found.1.1 isin)) inv) inv))

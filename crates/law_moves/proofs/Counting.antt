@@ -13,7 +13,7 @@ use Rattle.model.specs.Activity.{Interval, active_at}
 use Rattle.model.specs.Restored.{begun_at, end_namespace_tablets}
 use Rattle.model.specs.Journal.{Change}
 use Rattle.model.specs.Stands.{holders}
-use Rattle.model.specs.Strict.{HasRange}
+use Rattle.model.specs.Stands.{HasRange}
 use Rattle.law_store.proofs.Keys.{either_way}
 use Rattle.law_invariants.specs.Invariant.{Covered}
 use Rattle.law_invariants.proofs.Finding.{same_equal, both_pass, passes_both, first_fails, second_fails, in_append, in_mapped, filter_in}

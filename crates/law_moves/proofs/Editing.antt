@@ -18,12 +18,12 @@ use Rattle.law_invariants.specs.Invariant.{Inv, Later}
 use Rattle.law_invariants.proofs.Finding.{in_mapped, map_in}
 use Rattle.law_invariants.proofs.Remembering.{floor_up}
 use Rattle.law_invariants.proofs.Ticking.{by_judgement, refused_keeps, KeepsAll}
-use Rattle.law_moves.proofs.Recording.{Records, recorded, Onto}
-use Rattle.law_moves.proofs.Staying.{schedule_on, scheduled_on}
-use Rattle.law_moves.proofs.Slots.{records_keep}
-use Rattle.law_moves.proofs.Acting.{alone_keeps}
-use Rattle.law_moves.proofs.Pending.{point_complete, pending_drawn, pending_unmoved, pending_stays, fence_stays}
-use Rattle.law_moves.proofs.Using.{same_on, mapped_is, alone_mapped, mapped_rise}
+use Rattle.law_invariants.proofs.Recording.{Records, recorded, Onto}
+use Rattle.law_invariants.proofs.Staying.{schedule_on, scheduled_on}
+use Rattle.law_invariants.proofs.Slots.{records_keep}
+use Rattle.law_invariants.proofs.Acting.{alone_keeps}
+use Rattle.law_invariants.proofs.Pending.{point_complete, pending_drawn, pending_unmoved, pending_stays, fence_stays}
+use Rattle.law_invariants.proofs.Using.{same_on, mapped_is, alone_mapped, mapped_rise}
 
 abbrev with_edit : Id → ℕ → ℕ → ℕ → Master → Records
 with_edit id interval retention n m = record {
@@ -127,8 +127,8 @@ edit_schedule_keeps ps activity changes n interval retention schedule [] later p
     let act = Change (EditSchedule schedule interval retention) [] in
     let before : m.clock < n = later 0 refl in
     by_judgement act n ps activity changes (judge_edit_schedule schedule interval retention m) _
-    (λ why. refused_keeps act why n ps activity changes later inv tt refl)
+    (λ why. refused_keeps act why n ps activity changes later inv refl)
     (λ s found.
     let w = with_edit s.id interval retention n m in
-    alone_keeps act (accepts (EditsSchedule s.id interval retention) [] []) n ps activity activity changes changes (recorded m w) refl refl refl refl tt refl
+    alone_keeps act (accepts (EditsSchedule s.id interval retention) [] []) n ps activity activity changes changes (recorded m w) refl refl refl refl refl
     (records_keep ps activity changes w (edited_onto ps activity changes n interval retention s.id before inv) inv))

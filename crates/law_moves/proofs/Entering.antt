@@ -10,7 +10,7 @@ use Rattle.model.specs.Journal.{Change}
 use Rattle.model.specs.Tablets.{Mark, is_empty}
 use Rattle.model.specs.Records.{Listed, RestorationRecord, RestorationState, Fencing, CloneRecord, is_restored, point_of, unsent, is_cloned, Schedule}
 use Rattle.model.specs.Schedules.{floor, least_low}
-use Rattle.model.specs.Stands.{awaited_in, awaited_of, first_of_two}
+use Rattle.model.specs.Stands.{awaited_in, awaited_of}
 use Rattle.model.specs.Coordination.{unfinished_restoration}
 use Rattle.model.specs.Operations.{restoration_of, clone_with, time_of_user}
 use Rattle.model.specs.Cleanup.{floor_of}
@@ -22,11 +22,11 @@ use Rattle.law_invariants.specs.Invariant.{Inv}
 use Rattle.law_invariants.proofs.Finding.{same_equal, same_self, filter_in, in_mapped, map_in, passes_both}
 use Rattle.law_invariants.proofs.Remembering.{floor_rises}
 use Rattle.law_invariants.proofs.Ticking.{not_true}
-use Rattle.law_moves.proofs.Recording.{Records, recorded, RestorationCame, Onto, NewRestoration, MovedRestoration}
-use Rattle.law_moves.proofs.Staying.{schedule_on, scheduled_on}
-use Rattle.law_moves.proofs.Slots.{parts_with, records_keep}
-use Rattle.law_moves.proofs.Pending.{point_complete, pending_drawn, pending_unmoved, pending_stays, fence_stays, unfinished_restoration_is, unacked_is}
-use Rattle.law_moves.proofs.Using.{same_on, mapped_is, alone_mapped}
+use Rattle.law_invariants.proofs.Recording.{Records, recorded, RestorationCame, Onto, NewRestoration, MovedRestoration}
+use Rattle.law_invariants.proofs.Staying.{schedule_on, scheduled_on}
+use Rattle.law_invariants.proofs.Slots.{parts_with, records_keep}
+use Rattle.law_invariants.proofs.Pending.{point_complete, pending_drawn, pending_unmoved, pending_stays, fence_stays, unfinished_restoration_is, unacked_is}
+use Rattle.law_invariants.proofs.Using.{same_on, mapped_is, alone_mapped}
 
 abbrev pub entered : RestorationRecord → RestorationState → List Listed → RestorationRecord
 entered r state listed = record r { listed = listed; state = state }
@@ -112,7 +112,7 @@ pub awaited_mapped : (rs : List RestorationRecord) (f : RestorationRecord → Re
     → awaited_in (map f rs) tablet done ≡ awaited_in rs tablet done
 awaited_mapped [] f tablet done each = refl
 awaited_mapped (x ∷ rs) f tablet done each =
-    ap (λ a. first_of_two a (awaited_in (map f rs) tablet done)) (each x (inl refl)) ∙ ap (first_of_two (awaited_of x.state x tablet done)) (awaited_mapped rs f tablet done (λ y isin. each y (inr isin)))
+    ap (λ a. option_or a (awaited_in (map f rs) tablet done)) (each x (inl refl)) ∙ ap (option_or (awaited_of x.state x tablet done)) (awaited_mapped rs f tablet done (λ y isin. each y (inr isin)))
 
 -- the records go on to be each of their own
 pub entered_apart : (m : Master) (r : RestorationRecord) (state : RestorationState) (listed : List Listed) → In r m.restorations → is_restored r.state ≡ false → OperationsApart m.schedules m.scheduled m.snapshots m.restorations m.clones

@@ -8,7 +8,7 @@ use Rattle.model.specs.Parts.{Parts}
 use Rattle.model.specs.Moves.{Progress, progress_of, advance}
 use Rattle.law_invariants.specs.Invariant.{Inv, Later}
 use Rattle.law_invariants.proofs.Ticking.{KeepsAll}
-use Rattle.law_moves.proofs.Advancing.{advance_by}
+use Rattle.law_invariants.proofs.Advancing.{advance_by}
 use Rattle.law_moves.proofs.Completing.{advance_snapshot_keeps}
 use Rattle.law_moves.proofs.Switched.{advance_restoration_keeps}
 

@@ -7,7 +7,7 @@ use Rattle.row_values.specs.Ids.{Id, same}
 use Rattle.row_values.specs.Elements.{In}
 use Rattle.model.specs.Activity.{Interval}
 use Rattle.model.specs.Journal.{Change}
-use Rattle.model.specs.Tablets.{Body, Fence, RestoreFrom, Hide, Release, BodyKind, RestoreFromKind, HideKind, ReleaseKind, same_body, Mark, is_mark, is_done, kind_of}
+use Rattle.model.specs.Tablets.{Body, RestoreFrom, Hide, Release, BodyKind, RestoreFromKind, HideKind, ReleaseKind, is_done, kind_of}
 use Rattle.model.specs.Records.{Listed, RestorationRecord, RestorationState, Restoring, Releasing, Restored, CloneRecord, is_restored, point_of}
 use Rattle.model.specs.Schedules.{floor, least_low}
 use Rattle.model.specs.Stands.{awaited_of, is_restore}
@@ -19,20 +19,14 @@ use Rattle.law_store.proofs.Keys.{either_way}
 use Rattle.law_invariants.specs.Operations.{Uses, IsPoint, IsAfterSwitch, RestoringGood, ReleasingGood, RestorationStateGood}
 use Rattle.law_invariants.specs.Orders.{restoring_stage, stage_of_restoration, FencePlace, RestoringSlot, ReleasingSlot, RestorationSlot}
 use Rattle.law_invariants.specs.Invariant.{Inv}
-use Rattle.law_invariants.proofs.Finding.{body_equal, same_equal, same_self, in_mapped, map_in, both_pass, first_fails, second_fails, filter_in, in_filter}
+use Rattle.law_invariants.proofs.Finding.{same_equal, same_self, in_mapped, map_in, both_pass, first_fails, second_fails, filter_in, in_filter}
 use Rattle.law_invariants.proofs.Remembering.{floor_rises}
-use Rattle.law_moves.proofs.Recording.{Records, recorded}
-use Rattle.law_moves.proofs.Using.{none_restores, none_clones}
+use Rattle.law_invariants.proofs.Recording.{Records, recorded}
+use Rattle.law_invariants.proofs.Using.{none_restores, none_clones}
 use Rattle.law_moves.proofs.Entering.{entered, entering, enters, Enters, by_record, times_stay, going_floors}
+use Rattle.law_invariants.proofs.Slots.{done_is}
 
 -- Marks
-
-pub done_is : (marks : List Mark) (operation : Id) (kind : BodyKind) → is_done marks operation kind ≡ true → (mark : Mark) × (In mark marks × ((mark.operation ≡ operation) × (mark.kind ≡ kind)))
-done_is [] operation kind e = absurd (true≢false (sym e))
-done_is (m ∷ ms) operation kind e = either_way (is_mark operation kind m)
-    (λ is. let b = both_pass (same m.operation operation) (same_body m.kind kind) is in
-    (m, (inl refl, (same_equal m.operation operation b.0, body_equal m.kind kind b.1))))
-    (λ not_. let k : is_done ms operation kind ≡ true = sym (ap (λ b. b || is_done ms operation kind) not_) ∙ e in let r = done_is ms operation kind k in (r.0, (inr r.1.0, r.1.1)))
 
 -- a restoration has given no command of a later stage
 pub not_yet : (ps : Parts) (activity : List Interval) (changes : List Change) (r : RestorationRecord) (slot : ℕ) (kind : BodyKind) → Inv ps activity changes → In r ps.master.restorations → stage_of_restoration r.state < restoring_stage kind

@@ -16,7 +16,7 @@ use Rattle.law_invariants.specs.Orders.{FencePlace, IsFence, IsAfter, IsMark, Or
 use Rattle.law_invariants.specs.Invariant.{SlotWorks}
 use Rattle.law_invariants.proofs.Finding.{in_mapped, map_in, same_equal}
 use Rattle.law_invariants.proofs.Working.{before_any}
-use Rattle.law_moves.proofs.Pending.{FindsOn, pending_stays, unfinished_restoration_is, unacked_is}
+use Rattle.law_invariants.proofs.Pending.{FindsOn, pending_stays, unfinished_restoration_is, unacked_is}
 use Rattle.law_moves.proofs.Moving.{not_yet}
 use Rattle.law_moves.proofs.Entering.{entering, entering_it, entering_other, enters, by_record, found_still}
 use Rattle.law_moves.proofs.Viewing.{row_other}

@@ -21,13 +21,13 @@ use Rattle.law_invariants.specs.Orders.{stage_of_restoration, FencePlace, Fencin
 use Rattle.law_invariants.specs.Invariant.{Inv, EndsBy}
 use Rattle.law_invariants.proofs.Finding.{passes_both, in_second}
 use Rattle.law_invariants.proofs.Undoing.{before_all, owned_is}
-use Rattle.law_moves.proofs.Recording.{recorded}
-use Rattle.law_moves.proofs.Slots.{parts_with}
-use Rattle.law_moves.proofs.Snapshots.{taken}
-use Rattle.law_moves.proofs.Completing.{one_snapshot}
+use Rattle.law_invariants.proofs.Recording.{recorded}
+use Rattle.law_invariants.proofs.Slots.{parts_with, done_is}
+use Rattle.law_invariants.proofs.Taking.{taken}
+use Rattle.law_invariants.proofs.Using.{one_snapshot}
 use Rattle.law_moves.proofs.Entering.{enters, Enters, going_floors}
-use Rattle.law_moves.proofs.Moving.{done_is, point_moves}
-use Rattle.law_moves.proofs.Serving.{served, serving_some, floor_restores, complete_is}
+use Rattle.law_moves.proofs.Moving.{point_moves}
+use Rattle.law_invariants.proofs.Serving.{served, serving_some, floor_restores, complete_is}
 
 -- What a restoration undoes is before its point, once all have told that they are fenced
 

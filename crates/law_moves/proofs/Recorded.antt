@@ -18,9 +18,9 @@ use Rattle.law_store.proofs.Keys.{either_way}
 use Rattle.law_invariants.specs.Operations.{Uses, IsKnown, IsListed, SnapshotGood, IsPoint, BeforePoint, IsAfterSwitch, IsComing, RestorationStateGood, RestorationGood, CloneStateGood, CloneGood, OperationsGood, PairIn, IsSource, IsReserved}
 use Rattle.law_invariants.proofs.Finding.{in_mapped, map_in, filter_in, same_equal, both_pass, passes_both}
 use Rattle.law_invariants.proofs.Ticking.{not_true}
-use Rattle.law_moves.proofs.Staying.{schedule_on, scheduled_on}
-use Rattle.law_moves.proofs.Using.{same_on}
-use Rattle.law_moves.proofs.Listing.{one_place}
+use Rattle.law_invariants.proofs.Staying.{schedule_on, scheduled_on}
+use Rattle.law_invariants.proofs.Using.{same_on}
+use Rattle.law_invariants.proofs.Listing.{one_place}
 use Rattle.law_moves.proofs.Entering.{entering, entering_other, enters, by_record, going_floors, entered_apart}
 use Rattle.law_moves.proofs.Counting.{ended_in}
 use Rattle.law_moves.proofs.Backing.{over_other, new_is}

@@ -16,12 +16,12 @@ use Rattle.model.specs.Moves.{progress_of, restoration_progress, awaited_by_rest
 use Rattle.model.specs.History.{with_either, with_restoration}
 use Rattle.law_invariants.specs.Invariant.{Inv, Later}
 use Rattle.law_invariants.proofs.Ticking.{KeepsAll}
-use Rattle.law_moves.proofs.Recording.{Records, recorded}
-use Rattle.law_moves.proofs.Slots.{parts_with, records_keep}
-use Rattle.law_moves.proofs.Acting.{alone_keeps}
-use Rattle.law_moves.proofs.Advancing.{moves, advance_by, mapped_some}
-use Rattle.law_moves.proofs.Pending.{unfinished_restoration_is}
-use Rattle.law_moves.proofs.Snapshots.{taken, MayTake, taken_onto}
+use Rattle.law_invariants.proofs.Recording.{Records, recorded}
+use Rattle.law_invariants.proofs.Slots.{parts_with, records_keep}
+use Rattle.law_invariants.proofs.Acting.{alone_keeps}
+use Rattle.law_invariants.proofs.Advancing.{moves, advance_by, mapped_some}
+use Rattle.law_invariants.proofs.Pending.{unfinished_restoration_is}
+use Rattle.law_invariants.proofs.Taking.{taken, MayTake, taken_onto}
 use Rattle.law_moves.proofs.Entering.{enters, entered_keeps}
 use Rattle.law_moves.proofs.Moving.{releases, finishes}
 use Rattle.law_moves.proofs.Preparing.{snapshots_own, serves_it}
@@ -45,7 +45,6 @@ quiet_keeps ps activity changes n operation r state w later v is master stays qu
     alone_keeps (Advance operation) (moves operation (after_restoration ps.master r)) n ps activity activity changes changes (recorded ps.master w) refl refl
     (moved_is operation r n ps.master v.kind v.found ∙ ap (λ st. restoration_moved st r n ps.master) is ∙ master)
     (ap (λ k. k.activity) (moved_is operation r n (record ps.master { activity = activity }) v.kind v.found) ∙ ap (λ st. (restoration_moved st r n (record ps.master { activity = activity })).activity) is ∙ stays)
-    tt
     (ap (λ o. with_either o (unfinished_clone ps.master.clones operation) n changes) v.found ∙ ap (λ st. with_restoration st r changes) is ∙ quiet) inv
 
 fencing_keeps : (ps : Parts) (activity : List Interval) (changes : List Made) (n : ℕ) (operation : Id) (r : RestorationRecord) → Later (0 ∷ []) ps n → Moved ps operation r → r.state ≡ Fencing → Inv ps activity changes

@@ -1,9 +1,7 @@
 -- A restoration of a schedule's namespace begins.
-use Rattle.std.proofs.Common.{ℕ, ◌≡◌, ◌≤◌, ◌<◌, ◌+◌, List, [], ◌∷◌, ◌++◌, Option, Some, None, true, false, cond, ◌&&◌, ◌⊎◌, inl, inr, refl, sym, ap, subst, ◌∙◌, arith, not, leb, ltb, ltb-true, leb-true, le_trans, le_refl, le_of_lt}
-use Rattle.std.specs.Prelude.{is_some}
-use Rattle.std.specs.Option.{option_or, option_map, ok_or}
-use Rattle.std.proofs.lemmas.Bool.{true≢false}
-use Rattle.std.proofs.lemmas.Bool.Decides.{nat_tests}
+use Rattle.std.proofs.Common.{ℕ, ◌≡◌, ◌≤◌, ◌<◌, ◌+◌, List, [], ◌∷◌, ◌++◌, Some, None, true, false, cond, ◌&&◌, ◌⊎◌, inl, inr, refl, sym, ap, subst, ◌∙◌, arith, not, le_trans, le_refl, le_of_lt}
+use Rattle.std.specs.Option.{option_or, option_map}
+use Rattle.std.proofs.lemmas.Bool.{true≢false, ltb-false, leb-false}
 use Rattle.row_values.specs.Ids.{Kind, Restoration, Id, same}
 use Rattle.row_values.specs.Elements.{In}
 use Rattle.row_values.specs.Slots.{same_slots}
@@ -13,30 +11,29 @@ use Rattle.model.specs.Journal.{Change as Made}
 use Rattle.model.specs.Tablets.{Fence, FenceKind, Mark}
 use Rattle.model.specs.Records.{Listed, Schedule, RestorationRecord, Fencing, is_restored, point_of, schedule_with}
 use Rattle.model.specs.Schedules.{floor, low, least_with, least_low}
-use Rattle.model.specs.Stands.{awaited_in, awaited_of, first_of_two}
+use Rattle.model.specs.Stands.{awaited_in, awaited_of}
 use Rattle.model.specs.Drawn.{drawn_of}
-use Rattle.model.specs.Acts.{Reply, Refusal, Refused, Ok, Restore, Change, UnknownSchedule, Busy, TooEarly, Future}
-use Rattle.model.specs.Operations.{user, time_of_user, restoration_of, clone_with}
+use Rattle.model.specs.Acts.{Restore, Change, UnknownSchedule}
+use Rattle.model.specs.Operations.{time_of_user, restoration_of, clone_with}
 use Rattle.model.specs.Cleanup.{floor_of}
 use Rattle.model.specs.Lists.{active_tablets, listing}
-use Rattle.model.specs.Parts.{Master, Parts, Drawn, BeginsRestoration, Check, If, Outcome, either, checked, decided, refused}
-use Rattle.model.specs.Changes.{accepts, restore_checks, restore}
+use Rattle.model.specs.Parts.{Master, Parts, Drawn, BeginsRestoration}
+use Rattle.model.specs.Changes.{accepts, restore_checks, judge_restore, found_schedule, restore}
 use Rattle.model.specs.Changed.{next_restoration}
-use Rattle.model.specs.Replies.{WindowRight, RestoreRight}
 use Rattle.law_store.proofs.Keys.{either_way}
 use Rattle.law_invariants.specs.Operations.{IsKnown, IsOpenOf, Uses}
 use Rattle.law_invariants.specs.Invariant.{Inv, Later}
 use Rattle.law_invariants.proofs.Finding.{same_equal, in_append, in_added, in_first, passes_both}
 use Rattle.law_invariants.proofs.Remembering.{has_low, floor_rises}
-use Rattle.law_invariants.proofs.Judging.{step_if, step_names}
-use Rattle.law_invariants.proofs.Ticking.{refused_keeps, KeepsAll}
-use Rattle.law_moves.proofs.Recording.{Records, recorded, RestorationCame, Onto}
-use Rattle.law_moves.proofs.Staying.{schedule_on, scheduled_on}
-use Rattle.law_moves.proofs.Slots.{records_keep, done_mark}
-use Rattle.law_moves.proofs.Acting.{alone_keeps}
-use Rattle.law_moves.proofs.Listing.{IsLineOf, listing_only, listing_has, active_only, active_has, one_place}
-use Rattle.law_moves.proofs.Pending.{point_complete, pending_drawn, pending_unmoved, pending_stays, fence_stays, restoration_added}
-use Rattle.law_moves.proofs.Using.{alone_added, same_on, schedule_with_is, NotUsed, not_used, none_restores, no_time}
+use Rattle.law_invariants.proofs.Judging.{checked_is, found_is}
+use Rattle.law_invariants.proofs.Ticking.{refused_keeps, KeepsAll, by_judgement}
+use Rattle.law_invariants.proofs.Recording.{Records, recorded, RestorationCame, Onto}
+use Rattle.law_invariants.proofs.Staying.{schedule_on, scheduled_on}
+use Rattle.law_invariants.proofs.Slots.{records_keep, done_mark}
+use Rattle.law_invariants.proofs.Acting.{alone_keeps}
+use Rattle.law_invariants.proofs.Listing.{IsLineOf, listing_only, listing_has, active_only, active_has, one_place}
+use Rattle.law_invariants.proofs.Pending.{point_complete, pending_drawn, pending_unmoved, pending_stays, fence_stays, restoration_added}
+use Rattle.law_invariants.proofs.Using.{alone_added, same_on, schedule_with_is, NotUsed, not_used, none_restores, no_time}
 
 -- The restorations with one more
 
@@ -50,9 +47,9 @@ restoration_last (q ∷ rs) r ns none is = either_way (same q.namespace ns && no
     (λ b. absurd (let k : Some q ≡ None = rw b at none in grind arith))
     (λ b. rw b (restoration_last rs r ns (rw b at none) is))
 
-awaited_beside : (rs : List RestorationRecord) (r : RestorationRecord) (tablet : Id) (done : List Mark) → awaited_of r.state r tablet done ≡ None → awaited_in (rs ++ r ∷ []) tablet done ≡ awaited_in rs tablet done
-awaited_beside [] r tablet done e = ap (λ x. first_of_two x None) e
-awaited_beside (q ∷ rs) r tablet done e = ap (first_of_two (awaited_of q.state q tablet done)) (awaited_beside rs r tablet done e)
+pub awaited_beside : (rs : List RestorationRecord) (r : RestorationRecord) (tablet : Id) (done : List Mark) → awaited_of r.state r tablet done ≡ None → awaited_in (rs ++ r ∷ []) tablet done ≡ awaited_in rs tablet done
+awaited_beside [] r tablet done e = ap (λ x. option_or x None) e
+awaited_beside (q ∷ rs) r tablet done e = ap (option_or (awaited_of q.state q tablet done)) (awaited_beside rs r tablet done e)
 
 abbrev new_restoration : Schedule → ℕ → Master → RestorationRecord
 new_restoration s to m = record {
@@ -220,44 +217,18 @@ begun_onto ps activity changes n to s before may inv =
       unmoved = λ operation slot l r e v is. pending_unmoved m changes operation slot l r ops e v is;
     }
 
-pub at_least : (a b : ℕ) → ltb a b ≡ false → b ≤ a
-at_least a b e = grind (arith, nat_tests)
-
-pub below : (a b : ℕ) → leb a b ≡ false → b < a
-below a b e = grind (arith, nat_tests)
-
--- by the schedule that is found
-restore_found : (found : Option Schedule) (ps : Parts) (activity : List Interval) (changes : List Made) (n : ℕ) (schedule : Id) (to : ℕ) → Later (0 ∷ []) ps n → schedule_with ps.master.schedules schedule ≡ found → Inv ps activity changes
-    → KeepsAll (Change (Restore schedule to) []) n ps activity changes
-    (decided (checked (ok_or found UnknownSchedule) (λ s. restore_checks s to n ps.master)) (λ s. accepts (BeginsRestoration s to) [] (next_restoration ps.master ∷ [])))
-restore_found None ps activity changes n schedule to later e inv =
-    refused_keeps (Change (Restore schedule to) []) UnknownSchedule n ps activity changes later inv (subst (λ o. RestoreRight o (Refused UnknownSchedule) ps.master n to) (sym e) tt) refl
-restore_found (Some s) ps activity changes n schedule to later e inv =
-    let m = ps.master in
-    let act = Change (Restore schedule to) [] in
-    let before : m.clock < n = later 0 refl in
-    let go : Schedule → Outcome = λ s. accepts (BeginsRestoration s to) [] (next_restoration m ∷ []) in
-    let P : Option Refusal → Type 0 = λ why. KeepsAll act n ps activity changes (decided (either why s) go) in
-    let right : (reply : Reply) → (user m s.namespace ≡ None → WindowRight reply (low s n) n to) → RestoreRight (schedule_with m.schedules schedule) reply m n to =
-    λ reply h. subst (λ o. RestoreRight o reply m n to) (sym e) h in
-    let refuse : (why : Refusal) → (user m s.namespace ≡ None → WindowRight (Refused why) (low s n) n to) → KeepsAll act n ps activity changes (refused why) =
-    λ why h. refused_keeps act why n ps activity changes later inv (right (Refused why) h) refl in
-    let future : List Check = If (leb n to) (Future n) ∷ [] in
-    let early : List Check = If (ltb to (low s n)) (TooEarly (low s n)) ∷ future in
-    step_names P (user m s.namespace) Busy early
-    (λ by used. refuse (Busy by) (λ free. absurd (let q : None ≡ Some by = sym free ∙ used in grind arith)))
-    (λ free. step_if P (ltb to (low s n)) (TooEarly (low s n)) future
-    (λ l. refuse (TooEarly (low s n)) (λ _. (refl, ltb-true to (low s n) l)))
-    (λ l. step_if P (leb n to) (Future n) []
-    (λ g. refuse (Future n) (λ _. (refl, (at_least to (low s n) l, leb-true n to g))))
-    (λ g.
-    let is = schedule_with_is m.schedules schedule s e in
-    let may : MayRestore m s to n = record { there = is.0; free = not_used m s.namespace (ap is_some free); from = at_least to (low s n) l; before = below n to g } in
-    alone_keeps act (go s) n ps activity activity changes changes (recorded m (begun s to n m)) refl refl refl refl (right (Ok (next_restoration m ∷ [])) (λ _. (may.from, may.before))) refl
-    (records_keep ps activity changes (begun s to n m) (begun_onto ps activity changes n to s before may inv) inv))))
-
 pub restore_keeps : (ps : Parts) (activity : List Interval) (changes : List Made) (n : ℕ) (schedule : Id) (to : ℕ) (slots : List ℕ) → Later (0 ∷ slots) ps n → same_slots slots [] ≡ true → Inv ps activity changes
     → KeepsAll (Change (Restore schedule to) slots) n ps activity changes (restore schedule to n ps.master)
 unfolding restore
 restore_keeps ps activity changes n schedule to (slot ∷ slots) later plan inv = absurd (true≢false (sym plan))
-restore_keeps ps activity changes n schedule to [] later plan inv = restore_found (schedule_with ps.master.schedules schedule) ps activity changes n schedule to later refl inv
+restore_keeps ps activity changes n schedule to [] later plan inv =
+    let m = ps.master in
+    let act = Change (Restore schedule to) [] in
+    by_judgement act n ps activity changes (judge_restore schedule to n m) _
+    (λ why. refused_keeps act why n ps activity changes later inv refl)
+    (λ s found.
+    let judged = checked_is (found_schedule m schedule) (λ s. restore_checks s to n m) s found in
+    let is = schedule_with_is m.schedules schedule s (found_is (schedule_with m.schedules schedule) UnknownSchedule s judged.0) in
+    let may : MayRestore m s to n = record { there = is.0; free = not_used m s.namespace judged.1.0; from = ltb-false to (low s n) judged.1.1.0; before = leb-false n to judged.1.1.1.0 } in
+    alone_keeps act (accepts (BeginsRestoration s to) [] (next_restoration m ∷ [])) n ps activity activity changes changes (recorded m (begun s to n m)) refl refl refl refl refl
+    (records_keep ps activity changes (begun s to n m) (begun_onto ps activity changes n to s (later 0 refl) may inv) inv))

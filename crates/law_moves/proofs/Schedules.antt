@@ -28,12 +28,12 @@ use Rattle.law_invariants.proofs.Remembering.{floor_rises, lows_left, lows_added
 use Rattle.law_invariants.proofs.Ticking.{by_judgement, refused_keeps, KeepsAll}
 use Rattle.law_invariants.proofs.Judging.{checked_is}
 use Rattle.law_invariants.proofs.Cataloguing.{namespace_is}
-use Rattle.law_moves.proofs.Recording.{Records, recorded, WasSchedule, NewSchedule, Onto}
-use Rattle.law_moves.proofs.Staying.{schedule_on, scheduled_on}
-use Rattle.law_moves.proofs.Slots.{records_keep}
-use Rattle.law_moves.proofs.Acting.{alone_keeps}
-use Rattle.law_moves.proofs.Pending.{point_complete, pending_drawn, pending_unmoved, pending_stays, fence_stays}
-use Rattle.law_moves.proofs.Using.{alone_added, same_on, schedule_of_is, schedule_is, unfinished_none, neither_is, NotUsed, not_used, no_time, schedule_there}
+use Rattle.law_invariants.proofs.Recording.{Records, recorded, WasSchedule, NewSchedule, Onto}
+use Rattle.law_invariants.proofs.Staying.{schedule_on, scheduled_on}
+use Rattle.law_invariants.proofs.Slots.{records_keep}
+use Rattle.law_invariants.proofs.Acting.{alone_keeps}
+use Rattle.law_invariants.proofs.Pending.{point_complete, pending_drawn, pending_unmoved, pending_stays, fence_stays}
+use Rattle.law_invariants.proofs.Using.{alone_added, same_on, schedule_of_is, schedule_is, unfinished_none, neither_is, NotUsed, not_used, no_time, schedule_there}
 
 abbrev made_schedule : Id → ℕ → ℕ → ℕ → Master → Schedule
 made_schedule ns interval retention n m = record { id = next_schedule m; namespace = ns; interval = interval; retention = retention; made = n; kept_low = n; last = None }
@@ -242,7 +242,7 @@ create_schedule_keeps ps activity changes n interval retention namespace [] late
     let act = Change (CreateSchedule interval retention namespace) [] in
     let before : m.clock < n = later 0 refl in
     by_judgement act n ps activity changes (judge_create_schedule interval retention namespace m) _
-    (λ why. refused_keeps act why n ps activity changes later inv tt refl)
+    (λ why. refused_keeps act why n ps activity changes later inv refl)
     (λ ns found.
     let judged = checked_is (found_namespace m namespace) (λ ns. create_schedule_checks ns interval retention m) ns found in
     let is = named_is m.catalog.namespaces namespace ns (namespace_is m namespace ns judged.0) in
@@ -251,7 +251,7 @@ create_schedule_keeps ps activity changes n interval retention namespace [] late
     let k = scheduled_in m.scheduled ns in
     let may : MayMake m k ns = record { found_is = refl; drawn = drawn; free = not_held m ns judged.1.0 } in
     let w = with_schedule k s n m in
-    alone_keeps act (accepts (MakesSchedule ns interval retention) [] (next_schedule m ∷ [])) n ps activity activity changes changes (recorded m w) refl refl refl refl tt refl
+    alone_keeps act (accepts (MakesSchedule ns interval retention) [] (next_schedule m ∷ [])) n ps activity activity changes changes (recorded m w) refl refl refl refl refl
     (records_keep ps activity changes w (made_onto k ps activity changes n s before refl refl may inv) inv))
 
 -- A schedule is deleted
@@ -356,11 +356,11 @@ delete_schedule_keeps ps activity changes n schedule [] later plan inv =
     let act = Change (DeleteSchedule schedule) [] in
     let before : m.clock < n = later 0 refl in
     by_judgement act n ps activity changes (judge_delete_schedule schedule m) _
-    (λ why. refused_keeps act why n ps activity changes later inv tt refl)
+    (λ why. refused_keeps act why n ps activity changes later inv refl)
     (λ s found.
     let judged = checked_is (found_schedule m schedule) (λ s. delete_schedule_checks s m) s found in
     let is = schedule_is m schedule s judged.0 in
     let neither = neither_is (user m s.namespace) (unfinished_of m.snapshots s.namespace) judged.1.0 in
     let w : Records = deleted s.id n m in
     let onto : Onto ps changes w = deleted_onto ps activity changes n s before is.0 neither.1 (not_used m s.namespace (ap is_some neither.0)) inv in
-    alone_keeps act (accepts (DeletesSchedule s.id) [] []) n ps activity activity changes changes (recorded m w) refl refl refl refl tt refl (records_keep ps activity changes w onto inv))
+    alone_keeps act (accepts (DeletesSchedule s.id) [] []) n ps activity activity changes changes (recorded m w) refl refl refl refl refl (records_keep ps activity changes w onto inv))

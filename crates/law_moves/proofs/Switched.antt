@@ -16,18 +16,17 @@ use Rattle.model.specs.Records.{RestorationRecord, Switching}
 use Rattle.model.specs.Coordination.{unfinished_clone}
 use Rattle.model.specs.Cleanup.{floor_of}
 use Rattle.model.specs.Acts.{Advance}
-use Rattle.model.specs.Right.{is_fixed}
 use Rattle.model.specs.Parts.{Master, Parts}
 use Rattle.model.specs.Moves.{restoration_moved, after_restoration, advance}
 use Rattle.model.specs.History.{with_either, with_restoration}
 use Rattle.law_invariants.specs.Remembered.{Remembered, IsForgotten}
 use Rattle.law_invariants.specs.Invariant.{Inv, Later}
-use Rattle.law_invariants.proofs.Finding.{in_append, in_mapped, in_filter, filter_in, both_pass, same_equal}
+use Rattle.law_invariants.proofs.Finding.{in_append, in_mapped, in_filter, filter_in, both_pass}
 use Rattle.law_invariants.proofs.Ticking.{KeepsAll}
 use Rattle.law_invariants.proofs.Undoing.{owned_is}
-use Rattle.law_moves.proofs.Acting.{alone_keeps}
-use Rattle.law_moves.proofs.Advancing.{moves}
-use Rattle.law_moves.proofs.Serving.{floor_restores}
+use Rattle.law_invariants.proofs.Acting.{alone_keeps}
+use Rattle.law_invariants.proofs.Advancing.{moves}
+use Rattle.law_invariants.proofs.Serving.{floor_restores}
 use Rattle.law_moves.proofs.Counting.{ended_in, of_then, switched_covers}
 use Rattle.law_moves.proofs.Switching.{IsSwitch, activity_then, turned, after, unfinished_yet, good_yet, ended_there, begun_there, origin}
 use Rattle.law_moves.proofs.Turned.{slot_turned, master_turned, journal_turned, rows_turned}
@@ -148,7 +147,6 @@ switched_inv ps activity changes n r point serving_ s =
       journal = journal_turned ps activity changes n r point serving_ s;
       rows_past = rows_turned ps activity changes n r point serving_ s;
       works = λ slot. works_turned ps activity changes n r point serving_ slot s;
-      late = (s.inv.late, λ ns t fixed of. good.is_point.fixed t (subst (λ i. is_fixed changes i t ≡ true) (sym (same_equal r.namespace ns of)) fixed));
     }
 
 switch_keeps : (ps : Parts) (activity : List Interval) (changes : List Change) (n : ℕ) (operation : Id) (r : RestorationRecord) (point : ℕ) (serving_ : Id) → Later (0 ∷ []) ps n → Moved ps operation r → r.state ≡ Switching point serving_ → Inv ps activity changes
@@ -159,7 +157,6 @@ switch_keeps ps activity changes n operation r point serving_ later v is inv =
     alone_keeps (Advance operation) (moves operation (after_restoration ps.master r)) n ps activity (all_then m r point activity) changes (after r point changes) (turned m r point serving_ n) refl refl
     (moved_is operation r n m v.kind v.found ∙ ap (λ st. restoration_moved st r n m) is)
     (ap (λ k. k.activity) (moved_is operation r n (record m { activity = activity }) v.kind v.found) ∙ ap (λ st. (restoration_moved st r n (record m { activity = activity })).activity) is)
-    tt
     (ap (λ o. with_either o (unfinished_clone m.clones operation) n changes) v.found ∙ ap (λ st. with_restoration st r changes) is)
     (switched_inv ps activity changes n r point serving_ s)
 

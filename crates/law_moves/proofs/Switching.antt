@@ -1,4 +1,5 @@
 -- The switch: what the master has after it, which intervals, and which tablets are listed for their rows.
+use Rattle.std.specs.Option.{option_or}
 use Rattle.std.proofs.Common.{ℕ, ◌≡◌, ◌<◌, List, [], ◌∷◌, ◌++◌, map, Option, Some, None, Bool, true, false, cond, ◌&&◌, ◌||◌, ◌⊎◌, inl, inr, refl, sym, ap, subst, ◌∙◌, arith, not, le_trans, le_of_lt}
 use Rattle.std.specs.List.{list_any}
 use Rattle.std.proofs.lemmas.Bool.{true≢false}
@@ -12,7 +13,7 @@ use Rattle.model.specs.Journal.{Change}
 use Rattle.model.specs.Lists.{once, intervals_in, active_tablets, tablets_active_at}
 use Rattle.model.specs.Tablets.{RestoreFrom, Hide, RestoreFromKind, Mark, is_done}
 use Rattle.model.specs.Records.{Listed, RestorationRecord, RestorationState, Switching, Restoring, is_restored, point_of, unsent}
-use Rattle.model.specs.Stands.{awaited_in, awaited_of, first_of_two, is_restore}
+use Rattle.model.specs.Stands.{awaited_in, awaited_of, is_restore}
 use Rattle.model.specs.Parts.{Master, Parts}
 use Rattle.law_store.proofs.Keys.{either_way}
 use Rattle.law_invariants.specs.Operations.{has_switched, is_switched, IsOpenOf, SwitchingGood, RestorationStateGood}
@@ -21,8 +22,8 @@ use Rattle.law_invariants.specs.Invariant.{Inv}
 use Rattle.law_invariants.proofs.Finding.{in_append, in_first, in_second, in_mapped, map_in, in_filter, filter_in, same_equal, same_self, both_pass, passes_both, first_fails}
 use Rattle.law_invariants.proofs.Placing.{ordered_has, ordered_only}
 use Rattle.law_invariants.proofs.Undoing.{owned_is}
-use Rattle.law_moves.proofs.Listing.{once_only, once_has, namespace_only, namespace_has, active_only, active_has, one_place}
-use Rattle.law_moves.proofs.Serving.{floor_restores}
+use Rattle.law_invariants.proofs.Listing.{once_only, once_has, namespace_only, namespace_has, active_only, active_has, one_place}
+use Rattle.law_invariants.proofs.Serving.{floor_restores}
 use Rattle.law_moves.proofs.Moving.{not_yet}
 use Rattle.law_moves.proofs.Entering.{entered, entering, by_record, awaited_mapped}
 use Rattle.law_moves.proofs.Viewing.{restore}
@@ -266,15 +267,15 @@ any_only (l ∷ ls) tablet e = either_way (same l.tablet tablet && is_restore l.
 
 awaited_none : (rs : List RestorationRecord) (f : RestorationRecord → RestorationRecord) (tablet : Id) (done : List Mark) → ((x : RestorationRecord) → In x rs → awaited_of (f x).state (f x) tablet done ≡ None) → awaited_in (map f rs) tablet done ≡ None
 awaited_none [] f tablet done each = refl
-awaited_none (x ∷ rs) f tablet done each = ap (λ a. first_of_two a (awaited_in (map f rs) tablet done)) (each x (inl refl)) ∙ awaited_none rs f tablet done (λ y isin. each y (inr isin))
+awaited_none (x ∷ rs) f tablet done each = ap (λ a. option_or a (awaited_in (map f rs) tablet done)) (each x (inl refl)) ∙ awaited_none rs f tablet done (λ y isin. each y (inr isin))
 
 awaited_some : (rs : List RestorationRecord) (f : RestorationRecord → RestorationRecord) (tablet : Id) (done : List Mark) (point : ℕ) (r : RestorationRecord) → In r rs → awaited_of (f r).state (f r) tablet done ≡ Some point
     → ((x : RestorationRecord) → In x rs → (awaited_of (f x).state (f x) tablet done ≡ None) ⊎ (awaited_of (f x).state (f x) tablet done ≡ Some point)) → awaited_in (map f rs) tablet done ≡ Some point
 awaited_some [] f tablet done point r isin is each = absurd isin
 awaited_some (x ∷ rs) f tablet done point r isin is each = elim (each x (inl refl)) [
-  | inl none ↦ ap (λ a. first_of_two a (awaited_in (map f rs) tablet done)) none
+  | inl none ↦ ap (λ a. option_or a (awaited_in (map f rs) tablet done)) none
       ∙ awaited_some rs f tablet done point r (elim isin as (λ _. In r rs) [ inl e ↦ absurd (let q : None ≡ Some point = sym none ∙ ap (λ y. awaited_of (f y).state (f y) tablet done) e ∙ is in grind arith) | inr rest ↦ rest ]) is (λ y h. each y (inr h))
-  | inr some ↦ ap (λ a. first_of_two a (awaited_in (map f rs) tablet done)) some
+  | inr some ↦ ap (λ a. option_or a (awaited_in (map f rs) tablet done)) some
 ]
 
 -- a tablet whose rows a restoration is to bring is of its namespace
@@ -315,7 +316,7 @@ awaited_yet ps activity changes n r point serving_ slot i s h owner = none_of ps
         (λ b. let e : x ≡ r = s.inv.operations.apart.restoration_ids x r (sub x (inl refl)) s.there (same_equal x.id r.id b) in
         ap (λ st. awaited_of st x (ps.tablet slot).tablet (ps.tablet slot).done) (ap (λ q. q.state) e ∙ s.is))
         (λ b. none_other ps activity changes n r point serving_ slot i x s h owner (sub x (inl refl)) b) in
-        ap (λ a. first_of_two a (awaited_in rs (ps.tablet slot).tablet (ps.tablet slot).done)) here ∙ none_of rs (λ y isin. sub y (inr isin))
+        ap (λ a. option_or a (awaited_in rs (ps.tablet slot).tablet (ps.tablet slot).done)) here ∙ none_of rs (λ y isin. sub y (inr isin))
 
 -- and after it those that are listed for their rows do
 back_awaited : (ps : Parts) (activity : List Interval) (changes : List Change) (n : ℕ) (r : RestorationRecord) (point : ℕ) (serving_ : Id) (slot : ℕ) → IsSwitch ps activity changes n r point serving_

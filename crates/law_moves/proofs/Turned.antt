@@ -25,7 +25,7 @@ use Rattle.law_invariants.proofs.Names.{names_kept}
 use Rattle.law_invariants.proofs.Undoing.{before_none, owned_is}
 use Rattle.law_invariants.proofs.Working.{before_any}
 use Rattle.law_invariants.proofs.Ticking.{past_later}
-use Rattle.law_moves.proofs.Listing.{one_place}
+use Rattle.law_invariants.proofs.Listing.{one_place}
 use Rattle.law_moves.proofs.Entering.{entering, entering_it, by_record, entered_points}
 use Rattle.law_moves.proofs.Viewing.{Inside, restored_before, rows_before, table_back, table_other, row_back, row_other}
 use Rattle.law_moves.proofs.Backing.{new_is, tables_switched}

@@ -21,7 +21,7 @@ use Rattle.model.specs.Lines.{clone_lines, restoration_lines, schedule_lines, sn
 use Rattle.model.specs.Lists.{next_snapshot}
 use Rattle.model.specs.Looks.{Family, found_namespace, plan_of}
 use Rattle.model.specs.Parts.{AddsColumn, BeginsClone, BeginsRestoration, DeletesSchedule, DropsColumn, DropsNamespace, DropsTable, EditsSchedule, If, MakesNamespace, MakesSchedule, MakesTable, Master, MasterAct, Outcome, Parts, RenamesTable, TakesSnapshot, answered, refused}
-use Rattle.model.specs.Records.{Fencing, Schedule, ScheduledNamespace, Switching, scheduled_in}
+use Rattle.model.specs.Records.{Schedule, ScheduledNamespace, scheduled_in}
 use Rattle.model.specs.Retained.{IsTabletOf}
 use Rattle.model.specs.Schedules.{complete_to}
 use Rattle.model.specs.Tablets.{Child, Clock, HideSince, Make, SetVersion, Tablet, TabletAct, Told, act_for, effect, is_empty}
@@ -33,7 +33,7 @@ use Rattle.law_invariants.proofs.Frame.{touched}
 use Rattle.law_invariants.proofs.Lasting.{last_in}
 use Rattle.law_invariants.proofs.Records.{owners_first}
 use Rattle.law_invariants.proofs.Ticking.{tablet_before}
-use Rattle.law_retention.specs.Facts.{Facts, GoesBack}
+use Rattle.law_retention.specs.Facts.{Facts, GoesBack, own_point}
 use Rattle.law_retention.proofs.Outcomes.{by_refusal, decided_by}
 use Rattle.law_retention.proofs.Growing.{ActivityOn, GoOn, IsNew, WasActive, activity_goes_on, activity_grows, ended_go_on, ended_if, last_behind, they_go_on}
 use Rattle.law_retention.proofs.Holding.{HoldsFacts, MasterHolds, MasterLike, StatesGoOn, WasScheduled, answer_holds, back_on, holds_like, like_itself, like_on, own_goes_on, they_are, they_were, told_by}
@@ -202,7 +202,7 @@ catalog_like m k before scheduled owners on snapshots restorations = record {
   activity = on;
   was = λ r there. like_itself m.snapshots r (subst (In r) snapshots there);
   still = λ q there open_. like_itself k.snapshots q (subst (In q) (sym snapshots) there);
-  states = λ r point serving there is. they_are m r point serving (subst (In r) restorations there) is;
+  states = λ r point there is. they_are m r point (subst (In r) restorations there) is;
 }
 
 -- what each command is given
@@ -380,9 +380,9 @@ restoration_begun_holds ps activity changes s to n before inv facts =
       snapshots = refl;
       owned = λ id i inside owned. owned;
       activity = activity_goes_on m k (they_go_on m) facts.latest;
-      states = λ r point serving there is. elim (in_append m.restorations _ r there) [
-        | inl old ↦ they_are m r point serving old is
-        | inr new ↦ elim new [ inl q ↦ absurd (let e : Fencing ≡ Switching point serving = ap (λ x. x.state) q ∙ is in cc) | inr none ↦ absurd none ]
+      states = λ r point there is. elim (in_append m.restorations _ r there) [
+        | inl old ↦ they_are m r point old is
+        | inr new ↦ elim new [ inl q ↦ absurd (let e : None ≡ Some point = ap (λ x. own_point x.state) q ∙ is in cc) | inr none ↦ absurd none ]
       ];
     })
 

@@ -1,41 +1,40 @@
 -- A prune, and the removal of a tablet or of a snapshot, take nothing that a time needs.
-use Rattle.std.proofs.Common.{◌||◌, leb-true, ◌<◌, ◌≤◌, ◌≡◌, ◌∷◌, ◌∙◌, ◌&&◌, ℕ, List, [], Bool, true, false, Option, Some, None, cond, not, map, refl, sym, ap, subst, inl, inr, le_refl, le_trans, le_of_lt, arith, eqb, leb}
+use Rattle.std.proofs.Common.{◌||◌, leb-true, ◌<◌, ◌≤◌, ◌≡◌, ◌∷◌, ◌∙◌, ◌&&◌, ℕ, List, [], Bool, true, false, Option, Some, None, cond, not, map, refl, sym, ap, subst, inl, inr, le_refl, le_trans, le_of_lt, arith, eqb, leb, ltb, ltb-false}
 use Rattle.std.proofs.lemmas.Bool.{cond_both, true≢false}
 use Rattle.std.proofs.lemmas.Bool.Decides.{nat_tests}
 use Rattle.std.specs.List.{filter}
 use Rattle.row_values.specs.Ids.{Id, Kind, Snapshot, Tablet as TabletKind, same}
 use Rattle.row_values.specs.Elements.{In}
 use Rattle.row_values.specs.Slots.{has, same_slots}
-use Rattle.model.specs.Times.{ended_by, holds_at}
+use Rattle.std.specs.Option.{option_map_or}
+use Rattle.model.specs.Times.{before_end, ended_by, holds_at}
 use Rattle.model.specs.Activity.{Interval, active_at, forget, last_of, route}
 use Rattle.model.specs.Acts.{InWindow, Moved, Prune, Refusal, Refused, Remove, Removed, StalePlan, UnknownSnapshot}
-use Rattle.model.specs.Catalog.{NamespaceRecord, by_id, tables_at}
+use Rattle.model.specs.Catalog.{NamespaceRecord, by_id, owner_of, tables_at}
 use Rattle.model.specs.Cleanup.{floor_of_table, hidden_at, is_hidden_as, lister_of_snapshot, lister_of_tablet, remove, removed_of, removing, removing_snapshot, removing_tablet, snapshot_plan, removable_snapshot, removable_tablet, floor_of, is_old_namespace, is_old_table, prune, prune_to, pruned}
 use Rattle.model.specs.Entries.{IsRemovable, slots_of}
 use Rattle.model.specs.History.{told}
 use Rattle.model.specs.Journal.{Change}
 use Rattle.model.specs.Parts.{Fault, If, Master, Outcome, Parts, Removes, refused}
 use Rattle.model.specs.Records.{SnapshotRecord, snapshot_with}
-use Rattle.model.specs.Retained.{IsPresent, Retained, unfinished}
+use Rattle.model.specs.Retained.{unfinished}
 use Rattle.model.specs.Taking.{TakesNothingNeeded, names_at, untimed}
 use Rattle.law_store.proofs.Keys.{either_way}
 use Rattle.law_invariants.specs.Invariant.{Inv, Later}
-use Rattle.law_invariants.proofs.Finding.{both_pass, in_filter, not_passing, passes_both, either_passes, same_equal, same_self}
+use Rattle.law_invariants.proofs.Finding.{both_pass, filter_in, in_filter, not_passing, same_equal, same_self}
 use Rattle.law_invariants.proofs.Frame.{touched}
 use Rattle.law_invariants.proofs.Ticking.{master_before, not_true}
-use Rattle.law_invariants.proofs.Lasting.{last_in}
 use Rattle.model.specs.Tablets.{Clear, Clock, Empty, TabletAct, act_for, standing, DropFrozen, FrozenSet, Tablet, effect, is_empty, set_of}
 use Rattle.row_values.specs.Ranges.{in_range}
-use Rattle.law_cleanup.proofs.Forgetting.{not_false}
-use Rattle.law_cleanup.proofs.Removing.{nothing_keeps}
-use Rattle.law_cleanup.proofs.Discarding.{IsDiscarded, discarding, is_discarded}
 use Rattle.model.specs.Schedules.{serving}
-use Rattle.law_cleanup.proofs.Pruning.{not_holding, prune_floor}
 use Rattle.law_retention.proofs.Outcomes.{by_refusal}
 use Rattle.law_retention.proofs.Sources.{AreLike, CountsIfAny, TabletStays, like_self}
 use Rattle.law_retention.proofs.Staying.{staying_takes_nothing}
 use Rattle.law_retention.proofs.Acting.{answer_takes_nothing, Every, IsHarmless, TakesNothing, every_counts, same_stays, ticked_stays}
-use Rattle.law_invariants.proofs.Remembering.{kept_all}
+use Rattle.law_invariants.proofs.Undoing.{owned_is}
+use Rattle.law_retention.specs.Facts.{Facts}
+use Rattle.law_retention.proofs.Retaining.{ended_over}
+use Rattle.law_invariants.proofs.Unneeded.{removed_below, not_false, nothing_keeps, IsDiscarded, discarding, is_discarded, not_holding, prune_floor}
 
 -- Lists
 
@@ -71,12 +70,14 @@ tables_pruned m n to ns low = ap by_id
 
 pub prune_takes_nothing : IsHarmless Prune prune
 unfolding prune
-prune_takes_nothing n ps activity taken changes later inv retained =
+prune_takes_nothing n ps activity changes later inv later_activity later_changes inv_after facts_after =
     let m = ps.master in
-    staying_takes_nothing Every Prune ps (told Prune (prune n ps) n ps) activity taken retained (record {
+    staying_takes_nothing Every Prune ps (told Prune (prune n ps) n ps) later_activity later_changes inv_after facts_after (record {
       later = master_before (slots_of Prune) ps n later refl;
       owners = refl;
-      known = λ i inside. kept_all inv.remembered i inside;
+      scheduled = refl;
+      schedules = refl;
+      floors = λ ns. refl;
       times = λ s to listed from. record {
         names = names_pruned m n to s.namespace from;
         tables = ap (λ rs. map untimed rs) (tables_pruned m n to s.namespace from);
@@ -86,7 +87,7 @@ prune_takes_nothing n ps activity taken changes later inv retained =
         left_counts = every_counts _;
         places = λ table code there. refl;
       };
-      active = λ i inside there. inside;
+      active = λ s i to listed inside owned low active. inside;
       tablets = λ i inside there. cond_both (touched Prune i.slot) (record (ps.tablet i.slot) { clock = n }) (ps.tablet i.slot) (λ u. TabletStays Every (ps.tablet i.slot) u)
           (λ b. ticked_stays (ps.tablet i.slot) n) (λ b. same_stays (ps.tablet i.slot));
       cutoffs = λ slot. (inv.slots slot).good.cutoff;
@@ -112,28 +113,21 @@ route_left target (i ∷ is) table code x stays =
 still_in : (target : Id) (is : List Interval) (i : Interval) → In i is → same i.tablet target ≡ false → In i (forget target is)
 still_in target is i inside apart = in_filter is (λ j. not (same j.tablet target)) i inside (ap not apart)
 
--- a tablet that is cleared isn't present
-cleared_gone : (ps after : Parts) (i : Interval) (j : Interval) → is_empty (after.tablet j.slot).presence ≡ true → i.slot ≡ j.slot → IsPresent after i.slot i.tablet → ⊥
-cleared_gone ps after i j empty is there = true≢false (sym empty ∙ subst (λ s. is_empty (after.tablet s).presence ≡ false) is there.held)
-
-forgotten_takes_nothing : (ps : Parts) (after : ℕ → Tablet) (activity : List Interval) (taken : List SnapshotRecord) (changes : List Change) (n : ℕ) (target : Id) (slots : List ℕ) (j : Interval)
-    → ps.master.clock ≤ n → Inv ps activity changes → last_of ps.master.activity target ≡ Some j
-    → is_empty (after j.slot).presence ≡ true → ((slot : ℕ) → is_empty (after slot).presence ≡ false → TabletStays Every (ps.tablet slot) (after slot))
-    → Retained (record { master = record ps.master { clock = n; activity = forget target ps.master.activity }; tablet = after }) activity taken
+forgotten_takes_nothing : (ps : Parts) (after : ℕ → Tablet) (activity later_activity : List Interval) (changes later_changes : List Change) (n : ℕ) (target : Id) (slots : List ℕ)
+    → ps.master.clock ≤ n → Inv ps activity changes → ((i : Interval) → In i ps.master.activity → i.tablet ≡ target → ended_by (floor_of_table ps.master i.table n) i.to ≡ true)
+    → ((slot : ℕ) → is_empty (after slot).presence ≡ false → TabletStays Every (ps.tablet slot) (after slot))
+    → Inv (record { master = record ps.master { clock = n; activity = forget target ps.master.activity }; tablet = after }) later_activity later_changes
+    → Facts (record { master = record ps.master { clock = n; activity = forget target ps.master.activity }; tablet = after })
     → TakesNothingNeeded (Remove target slots) ps (record { master = record ps.master { clock = n; activity = forget target ps.master.activity }; tablet = after })
-forgotten_takes_nothing ps after activity taken changes n target slots j before inv last empty tablets retained =
+forgotten_takes_nothing ps after activity later_activity changes later_changes n target slots before inv below tablets inv_after facts_after =
     let m = ps.master in
     let left : Parts = record { master = record m { clock = n; activity = forget target m.activity }; tablet = after } in
-    let found = last_in m.activity target j last in
-    let g = (inv.slots j.slot).each j found.0 refl in
-    let apart : (i : Interval) → In i m.activity → IsPresent left i.slot i.tablet → same i.tablet target ≡ false = λ i inside there.
-    not_passing (same i.tablet target) (λ e.
-    let is : i.tablet ≡ (ps.tablet j.slot).tablet = same_equal i.tablet target e ∙ sym (same_equal j.tablet target found.1) ∙ sym g.tablet_is in
-    cleared_gone ps left i j empty ((inv.slots j.slot).home g.present i inside is) there) in
-    staying_takes_nothing Every (Remove target slots) ps left activity taken retained (record {
+    staying_takes_nothing Every (Remove target slots) ps left later_activity later_changes inv_after facts_after (record {
       later = before;
       owners = refl;
-      known = λ i inside. kept_all inv.remembered i inside;
+      scheduled = refl;
+      schedules = refl;
+      floors = λ ns. refl;
       times = λ s to listed from. record {
         names = refl;
         tables = refl;
@@ -141,9 +135,16 @@ forgotten_takes_nothing ps after activity taken changes n target slots j before 
         left_like = like_self _;
         serving_counts = every_counts _;
         left_counts = every_counts _;
-        places = λ table code there. route_left target m.activity table code to (λ i inside is active. apart i inside (there i inside is active));
+        places = λ table code there. route_left target m.activity table code to
+            (λ i inside is active. not_true (same i.tablet target) (filter_in m.activity (λ j. not (same j.tablet target)) i (there i inside is active)).1);
       };
-      active = λ i inside there. still_in target m.activity i inside (apart i inside there);
+      -- the tablet had ended by the floor
+      active = λ s i to listed inside owned low active. still_in target m.activity i inside
+          (not_passing (same i.tablet target) (λ e.
+          let over = below i inside (same_equal i.tablet target e) in
+          let owner = owned_is (owner_of m.catalog.owners i.table) s.namespace owned in
+          let floor : floor_of_table m i.table n ≡ floor_of m s.namespace n = ap (λ o. option_map_or (λ k. floor_of m k n) o n) owner in
+          ended_over i.to (floor_of m s.namespace n) to low (subst (λ f. ended_by f i.to ≡ true) floor over) (both_pass (leb i.from to) (before_end to i.to) active).1));
       tablets = λ i inside there. tablets i.slot there.held;
       cutoffs = λ slot. (inv.slots slot).good.cutoff;
     })
@@ -210,12 +211,12 @@ unfinished_apart (r ∷ rs) target ns stays = cond_both (same r.namespace ns && 
     (λ yes_ is. true≢false (sym (ap (λ id. same id target) is ∙ same_self target) ∙ stays r (inl refl) (not_true r.complete (both_pass (same r.namespace ns) (not r.complete) yes_).1)))
     (λ no_. unfinished_apart rs target ns (λ q inside. stays q (inr inside)))
 
-discarded_takes_nothing : (ps : Parts) (after : ℕ → Tablet) (activity : List Interval) (taken : List SnapshotRecord) (changes : List Change) (n : ℕ) (target : Id) (slots : List ℕ) (r : SnapshotRecord)
+discarded_takes_nothing : (ps : Parts) (after : ℕ → Tablet) (activity later_activity : List Interval) (changes later_changes : List Change) (n : ℕ) (target : Id) (slots : List ℕ) (r : SnapshotRecord)
     → Inv ps activity changes → IsDiscarded ps.master n target r
     → ((slot : ℕ) → TabletStays (λ snapshot. snapshot ≡ target → ⊥) (ps.tablet slot) (after slot))
-    → Retained (record { master = discarding ps.master n target; tablet = after }) activity taken
+    → Inv (record { master = discarding ps.master n target; tablet = after }) later_activity later_changes → Facts (record { master = discarding ps.master n target; tablet = after })
     → TakesNothingNeeded (Remove target slots) ps (record { master = discarding ps.master n target; tablet = after })
-discarded_takes_nothing ps after activity taken changes n target slots r inv d tablets retained =
+discarded_takes_nothing ps after activity later_activity changes later_changes n target slots r inv d tablets inv_after facts_after =
     let m = ps.master in
     let left : Parts = record { master = discarding m n target; tablet = after } in
     let young : (ns : Id) (to : ℕ) → floor_of m ns n ≤ to → (q : SnapshotRecord) → In q m.snapshots → q.namespace ≡ ns → to ≤ q.at → same q.id target ≡ false = λ ns to from q inside of late.
@@ -227,10 +228,12 @@ discarded_takes_nothing ps after activity taken changes n target slots r inv d t
     omega arith) in
     let open_ : (q : SnapshotRecord) → In q m.snapshots → q.complete ≡ false → same q.id target ≡ false = λ q inside open_.
     not_passing (same q.id target) (λ e. true≢false (sym d.complete ∙ sym (ap (λ x. x.complete) (d.alone q inside (same_equal q.id target e))) ∙ open_)) in
-    staying_takes_nothing (λ snapshot. snapshot ≡ target → ⊥) (Remove target slots) ps left activity taken retained (record {
+    staying_takes_nothing (λ snapshot. snapshot ≡ target → ⊥) (Remove target slots) ps left later_activity later_changes inv_after facts_after (record {
       later = le_of_lt d.before;
       owners = refl;
-      known = λ i inside. kept_all inv.remembered i inside;
+      scheduled = refl;
+      schedules = refl;
+      floors = λ ns. refl;
       times = λ s to listed from. record {
         names = refl;
         tables = refl;
@@ -240,7 +243,7 @@ discarded_takes_nothing ps after activity taken changes n target slots r inv d t
         left_counts = unfinished_apart m.snapshots target s.namespace open_;
         places = λ table code there. refl;
       };
-      active = λ i inside there. inside;
+      active = λ s i to listed inside owned low active. inside;
       tablets = λ i inside there. tablets i.slot;
       cutoffs = λ slot. (inv.slots slot).good.cutoff;
     })
@@ -252,9 +255,9 @@ pub either_told : (P : TabletAct → Type 0) (slots : List ℕ) (what : TabletAc
 either_told P [] what slot told_ quiet = quiet
 either_told P (i ∷ slots) what slot told_ quiet = cond_both (eqb i slot) what (act_for (map (λ j. record { slot = j; act = what }) slots) slot) P (λ e. told_) (λ e. either_told P slots what slot told_ quiet)
 
-refused_removal : (target : Id) (slots : List ℕ) (n : ℕ) (ps : Parts) (activity : List Interval) (taken : List SnapshotRecord) (changes : List Change) → Later (slots_of (Remove target slots)) ps n → Inv ps activity changes
-    → (why : Refusal) → TakesNothing (Remove target slots) n ps activity taken (refused why)
-refused_removal target slots n ps activity taken changes later inv why = answer_takes_nothing (Remove target slots) (Refused why) n ps activity taken changes later inv
+refused_removal : (target : Id) (slots : List ℕ) (n : ℕ) (ps : Parts) (activity : List Interval) (changes : List Change) → Later (slots_of (Remove target slots)) ps n → Inv ps activity changes
+    → (why : Refusal) → TakesNothing (Remove target slots) n ps (refused why)
+refused_removal target slots n ps activity changes later inv why = answer_takes_nothing (Remove target slots) (Refused why) n ps activity changes later inv
 
 pub has_only : (slots : List ℕ) (slot : ℕ) → same_slots slots (slot ∷ []) ≡ true → has slots slot ≡ true
 has_only [] slot same_ = absurd (true≢false (sym same_))
@@ -262,60 +265,56 @@ has_only (i ∷ slots) slot same_ = ap (λ b. b || has slots slot) (both_pass (e
 
 -- a tablet's removal
 
-removing_tablet_takes_nothing : (found : Option Interval) (target : Id) (slots : List ℕ) (n : ℕ) (ps : Parts) (activity : List Interval) (taken : List SnapshotRecord) (changes : List Change)
+removing_tablet_takes_nothing : (found : Option Interval) (target : Id) (slots : List ℕ) (n : ℕ) (ps : Parts) (activity : List Interval) (changes : List Change)
     → last_of ps.master.activity target ≡ found → target.kind ≡ TabletKind → Later (slots_of (Remove target slots)) ps n → Inv ps activity changes
-    → TakesNothing (Remove target slots) n ps activity taken (removing_tablet found target slots n ps)
-removing_tablet_takes_nothing None target slots n ps activity taken changes e kind later inv =
-    by_refusal (TakesNothing (Remove target slots) n ps activity taken) (If (not (same_slots slots [])) (StalePlan []) ∷ []) (refused (Moved 0 Empty))
-    (refused_removal target slots n ps activity taken changes later inv)
-    (λ passes. refused_removal target slots n ps activity taken changes later inv (Moved 0 Empty))
-removing_tablet_takes_nothing (Some i) target slots n ps activity taken changes e kind later inv =
+    → TakesNothing (Remove target slots) n ps (removing_tablet found target slots n ps)
+removing_tablet_takes_nothing None target slots n ps activity changes e kind later inv =
+    by_refusal (TakesNothing (Remove target slots) n ps) (If (not (same_slots slots [])) (StalePlan []) ∷ []) (refused (Moved 0 Empty))
+    (refused_removal target slots n ps activity changes later inv)
+    (λ passes. refused_removal target slots n ps activity changes later inv (Moved 0 Empty))
+removing_tablet_takes_nothing (Some i) target slots n ps activity changes e kind later inv =
     let t = ps.tablet i.slot in
     let o : Outcome = record { master = Removes target; tablets = record { slot = i.slot; act = Clear } ∷ []; reply = Removed } in
-    by_refusal (TakesNothing (Remove target slots) n ps activity taken)
+    by_refusal (TakesNothing (Remove target slots) n ps)
     (If (not (same_slots slots (i.slot ∷ []))) (StalePlan (i.slot ∷ []))
     ∷ If (not (is_hidden_as target t)) (Moved i.slot (standing t))
     ∷ Fault (removable_tablet (hidden_at t.presence) (floor_of_table ps.master i.table n) (lister_of_tablet ps.master target))
     ∷ [])
     o
-    (refused_removal target slots n ps activity taken changes later inv)
+    (refused_removal target slots n ps activity changes later inv)
     (λ passes.
     let act = Remove target slots in
     let after = (told act o n ps).tablet in
-    let at : has slots i.slot ≡ true = has_only slots i.slot (not_false (same_slots slots (i.slot ∷ [])) passes.0) in
-    let g = (inv.slots i.slot).each i (last_in ps.master.activity target i e).0 refl in
-    let from : 1 ≤ i.slot = g.slot_from in
-    let positive : eqb i.slot 0 ≡ false = grind (arith, nat_tests) in
-    let touches : touched act i.slot ≡ true = passes_both (has (0 ∷ slots) i.slot) (not (eqb i.slot 0)) (either_passes (eqb 0 i.slot) (has slots i.slot) at) (ap not positive) in
-    let self : eqb i.slot i.slot ≡ true = grind (arith, nat_tests) in
-    let empty : is_empty (after i.slot).presence ≡ true = rw touches (rw self refl) in
+    let unneeded = nothing_keeps (ltb (floor_of_table ps.master i.table n) (hidden_at t.presence)) (lister_of_tablet ps.master target) (InWindow (hidden_at t.presence) (floor_of_table ps.master i.table n)) passes.1.1.0 in
+    let below = removed_below ps activity changes n target i inv e (not_false (is_hidden_as target t) passes.1.0) (ltb-false _ _ unneeded.0) unneeded.1 in
     let tablets : (slot : ℕ) → is_empty (after slot).presence ≡ false → TabletStays Every (ps.tablet slot) (after slot) = λ slot.
     cond_both (touched act slot) (effect (act_for o.tablets slot) n (ps.tablet slot)) (ps.tablet slot) (λ u. is_empty u.presence ≡ false → TabletStays Every (ps.tablet slot) u)
     (λ b. cond_both (eqb i.slot slot) Clear Clock (λ a. is_empty (effect a n (ps.tablet slot)).presence ≡ false → TabletStays Every (ps.tablet slot) (effect a n (ps.tablet slot)))
     (λ c held. absurd (true≢false held)) (λ c held. ticked_stays (ps.tablet slot) n))
     (λ b held. same_stays (ps.tablet slot)) in
-    subst (λ k. Retained (record { master = removed_of k target n ps.master; tablet = after }) activity taken → TakesNothingNeeded act ps (record { master = removed_of k target n ps.master; tablet = after })) (sym kind)
-    (forgotten_takes_nothing ps after activity taken changes n target slots i (master_before (slots_of act) ps n later refl) inv e empty tablets))
+    subst (λ k. (later_activity : List Interval) (later_changes : List Change) → Inv (record { master = removed_of k target n ps.master; tablet = after }) later_activity later_changes → Facts (record { master = removed_of k target n ps.master; tablet = after })
+    → TakesNothingNeeded act ps (record { master = removed_of k target n ps.master; tablet = after })) (sym kind)
+    (λ later_activity later_changes. forgotten_takes_nothing ps after activity later_activity changes later_changes n target slots (master_before (slots_of act) ps n later refl) inv below tablets))
 
 -- a snapshot's removal
 
-removing_snapshot_takes_nothing : (found : Option SnapshotRecord) (target : Id) (slots : List ℕ) (n : ℕ) (ps : Parts) (activity : List Interval) (taken : List SnapshotRecord) (changes : List Change)
+removing_snapshot_takes_nothing : (found : Option SnapshotRecord) (target : Id) (slots : List ℕ) (n : ℕ) (ps : Parts) (activity : List Interval) (changes : List Change)
     → snapshot_with ps.master.snapshots target ≡ found → target.kind ≡ Snapshot → Later (slots_of (Remove target slots)) ps n → Inv ps activity changes
-    → TakesNothing (Remove target slots) n ps activity taken (removing_snapshot found target slots n ps)
-removing_snapshot_takes_nothing None target slots n ps activity taken changes e kind later inv =
-    by_refusal (TakesNothing (Remove target slots) n ps activity taken) (If (not (same_slots slots [])) (StalePlan []) ∷ []) (refused UnknownSnapshot)
-    (refused_removal target slots n ps activity taken changes later inv)
-    (λ passes. refused_removal target slots n ps activity taken changes later inv UnknownSnapshot)
-removing_snapshot_takes_nothing (Some r) target slots n ps activity taken changes e kind later inv =
+    → TakesNothing (Remove target slots) n ps (removing_snapshot found target slots n ps)
+removing_snapshot_takes_nothing None target slots n ps activity changes e kind later inv =
+    by_refusal (TakesNothing (Remove target slots) n ps) (If (not (same_slots slots [])) (StalePlan []) ∷ []) (refused UnknownSnapshot)
+    (refused_removal target slots n ps activity changes later inv)
+    (λ passes. refused_removal target slots n ps activity changes later inv UnknownSnapshot)
+removing_snapshot_takes_nothing (Some r) target slots n ps activity changes e kind later inv =
     let plan = snapshot_plan ps.master r in
     let floor = floor_of ps.master r.namespace n in
     let o : Outcome = record { master = Removes target; tablets = map (λ slot. record { slot = slot; act = DropFrozen target }) plan; reply = Removed } in
-    by_refusal (TakesNothing (Remove target slots) n ps activity taken)
+    by_refusal (TakesNothing (Remove target slots) n ps)
     (If (not (same_slots slots plan)) (StalePlan plan)
     ∷ Fault (removable_snapshot r.at (floor_of ps.master r.namespace n) (lister_of_snapshot ps.master r))
     ∷ [])
     o
-    (refused_removal target slots n ps activity taken changes later inv)
+    (refused_removal target slots n ps activity changes later inv)
     (λ passes.
     let act = Remove target slots in
     let after = (told act o n ps).tablet in
@@ -328,15 +327,16 @@ removing_snapshot_takes_nothing (Some r) target slots n ps activity taken change
     (λ b. either_told (λ a. TabletStays (λ snapshot. snapshot ≡ target → ⊥) (ps.tablet slot) (effect a n (ps.tablet slot))) plan (DropFrozen target) slot
     (unfrozen_stays (ps.tablet slot) target n) (record { sets = λ snapshot counts. refl; rises = le_refl _; reads = λ key x above past. refl }))
     (λ b. record { sets = λ snapshot counts. refl; rises = le_refl _; reads = λ key x above past. refl }) in
-    subst (λ k. Retained (record { master = removed_of k target n ps.master; tablet = after }) activity taken → TakesNothingNeeded act ps (record { master = removed_of k target n ps.master; tablet = after })) (sym kind)
-    (discarded_takes_nothing ps after activity taken changes n target slots r inv d tablets))
+    subst (λ k. (later_activity : List Interval) (later_changes : List Change) → Inv (record { master = removed_of k target n ps.master; tablet = after }) later_activity later_changes → Facts (record { master = removed_of k target n ps.master; tablet = after })
+    → TakesNothingNeeded act ps (record { master = removed_of k target n ps.master; tablet = after })) (sym kind)
+    (λ later_activity later_changes. discarded_takes_nothing ps after activity later_activity changes later_changes n target slots r inv d tablets))
 
-removing_takes_nothing : (kind : Kind) (target : Id) (slots : List ℕ) (n : ℕ) (ps : Parts) (activity : List Interval) (taken : List SnapshotRecord) (changes : List Change) → target.kind ≡ kind → IsRemovable kind
-    → Later (slots_of (Remove target slots)) ps n → Inv ps activity changes → TakesNothing (Remove target slots) n ps activity taken (removing kind target slots n ps)
-removing_takes_nothing TabletKind target slots n ps activity taken changes kind asked later inv = removing_tablet_takes_nothing (last_of ps.master.activity target) target slots n ps activity taken changes refl kind later inv
-removing_takes_nothing Snapshot target slots n ps activity taken changes kind asked later inv = removing_snapshot_takes_nothing (snapshot_with ps.master.snapshots target) target slots n ps activity taken changes refl kind later inv
-removing_takes_nothing _ target slots n ps activity taken changes kind asked later inv = absurd asked
+removing_takes_nothing : (kind : Kind) (target : Id) (slots : List ℕ) (n : ℕ) (ps : Parts) (activity : List Interval) (changes : List Change) → target.kind ≡ kind → IsRemovable kind
+    → Later (slots_of (Remove target slots)) ps n → Inv ps activity changes → TakesNothing (Remove target slots) n ps (removing kind target slots n ps)
+removing_takes_nothing TabletKind target slots n ps activity changes kind asked later inv = removing_tablet_takes_nothing (last_of ps.master.activity target) target slots n ps activity changes refl kind later inv
+removing_takes_nothing Snapshot target slots n ps activity changes kind asked later inv = removing_snapshot_takes_nothing (snapshot_with ps.master.snapshots target) target slots n ps activity changes refl kind later inv
+removing_takes_nothing _ target slots n ps activity changes kind asked later inv = absurd asked
 
 pub remove_takes_nothing : (target : Id) (slots : List ℕ) → IsRemovable target.kind → IsHarmless (Remove target slots) (remove target slots)
 unfolding remove
-remove_takes_nothing target slots asked n ps activity taken changes later inv = removing_takes_nothing target.kind target slots n ps activity taken changes refl asked later inv
+remove_takes_nothing target slots asked n ps activity changes later inv = removing_takes_nothing target.kind target slots n ps activity changes refl asked later inv

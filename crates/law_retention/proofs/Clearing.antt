@@ -19,14 +19,13 @@ use Rattle.law_store.proofs.Keys.{either_way}
 use Rattle.law_invariants.specs.Invariant.{Inv, Later}
 use Rattle.law_invariants.proofs.Finding.{filter_in, in_mapped, map_in, not_passing, same_equal}
 use Rattle.law_invariants.proofs.Ticking.{master_before}
-use Rattle.law_cleanup.proofs.Discarding.{IsDiscarded, discarding, is_discarded, kept_record, was_record}
-use Rattle.law_cleanup.proofs.Removing.{nothing_keeps}
-use Rattle.law_retention.specs.Facts.{Facts}
+use Rattle.law_retention.specs.Facts.{Facts, own_point}
 use Rattle.law_retention.proofs.Outcomes.{by_refusal}
 use Rattle.law_retention.proofs.Holding.{HasLike, HoldsFacts, MasterLike, TabletOn, WasIn, answer_holds, like_itself, like_on, on_clock, they_are, told_holds}
 use Rattle.law_retention.proofs.Growing.{they_go_on}
 use Rattle.law_retention.proofs.Acts.{KeepsFacts}
 use Rattle.law_retention.proofs.Cleaning.{either_told}
+use Rattle.law_invariants.proofs.Unneeded.{IsDiscarded, discarding, is_discarded, kept_record, was_record, nothing_keeps}
 
 -- Sends
 
@@ -74,9 +73,9 @@ acked_still rs operation slot q inside = record {
   at_is = refl;
 }
 
-restored_was : (m : Master) (operation : Id) (slot : ℕ) (r : RestorationRecord) → In r (acked_restoration operation slot m.restorations) → WasIn m r
-restored_was m operation slot =
-    in_mapped {A = RestorationRecord} {B = RestorationRecord} _ (WasIn m) m.restorations (λ r there. record { was = r; kept = there; namespace_is = refl; state_is = refl })
+restored_was : (m : Master) (operation : Id) (slot point : ℕ) (r : RestorationRecord) → In r (acked_restoration operation slot m.restorations) → own_point r.state ≡ Some point → WasIn m r point
+restored_was m operation slot point =
+    in_mapped {A = RestorationRecord} {B = RestorationRecord} _ (λ r. own_point r.state ≡ Some point → WasIn m r point) m.restorations (λ r there is. record { was = r; kept = there; namespace_is = refl; point_is = is })
 
 acked_on : (kind : Kind) (m : Master) (operation : Id) (slot n : ℕ) → m.clock ≤ n → MasterLike m (acked_by kind operation slot n m)
 acked_on Snapshot m operation slot n before = record {
@@ -95,7 +94,7 @@ acked_on Restoration m operation slot n before = record {
   activity = they_go_on m;
   was = λ r there. like_itself m.snapshots r there;
   still = λ q there open_. like_itself m.snapshots q there;
-  states = λ r point serving there is. restored_was m operation slot r there;
+  states = λ r point there is. restored_was m operation slot point r there is;
 }
 acked_on Clone m operation slot n before = record {
   later = before;

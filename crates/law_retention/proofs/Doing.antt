@@ -9,7 +9,7 @@ use Rattle.row_values.specs.Store.{frozen}
 use Rattle.model.specs.Activity.{Interval, active_at, last_of}
 use Rattle.model.specs.Acts.{Process, Idle, OtherSlot, Done, Refused}
 use Rattle.model.specs.Catalog.{is_owned_by}
-use Rattle.model.specs.Coordination.{gone, process, processing, rows_for, source_slot}
+use Rattle.model.specs.Coordination.{process, processing, rows_for, source_slot}
 use Rattle.model.specs.Entries.{slots_of}
 use Rattle.model.specs.History.{told}
 use Rattle.model.specs.Journal.{Change}
@@ -25,17 +25,13 @@ use Rattle.law_invariants.proofs.Finding.{in_append, same_self, same_equal}
 use Rattle.law_invariants.proofs.Frame.{tells}
 use Rattle.law_invariants.proofs.Lasting.{last_in}
 use Rattle.law_invariants.proofs.Ticking.{master_before}
-use Rattle.law_commands.proofs.Copies.{copying_is, no_restoration_copy}
-use Rattle.law_commands.proofs.Freezing.{no_clone_freeze, no_restoration_freeze, snapshot_alone}
-use Rattle.law_commands.proofs.Hiding.{no_clone_hide}
-use Rattle.law_commands.proofs.Pending.{IsPending, BySnapshot, ByClone, ByRestoration, pending_is}
-use Rattle.law_commands.proofs.Releasing.{releasing_is, visible_is}
-use Rattle.law_commands.proofs.Restores.{no_clone_restore, restoring_is}
+use Rattle.law_invariants.proofs.Commanded.{IsPending, BySnapshot, ByClone, ByRestoration, pending_is}
 use Rattle.law_retention.specs.Facts.{Facts, GoesBack}
 use Rattle.law_retention.proofs.Outcomes.{by_refusal}
 use Rattle.law_retention.proofs.Reaching.{there_live}
 use Rattle.law_retention.proofs.Holding.{HoldsFacts, MasterLike, answer_holds, back_on, holds_like, like_on, on_clock, told_by}
 use Rattle.law_retention.proofs.Acts.{KeepsFacts}
+use Rattle.law_invariants.proofs.Bodies.{copying_is, no_restoration_copy, no_clone_freeze, no_restoration_freeze, snapshot_alone, no_clone_hide, releasing_is, visible_is, no_clone_restore, restoring_is}
 
 -- a tablet that is like another goes back as far
 like_back : (m : Master) (t u : Tablet) → GoesBack m t → u.tablet ≡ t.tablet → u.cutoff ≡ t.cutoff → ((f : FrozenSet) → In f u.frozen → In f t.frozen) → GoesBack m u
@@ -72,7 +68,7 @@ pub record IsHome (ps : Parts) (slot : ℕ) (l : Listed) : Type 0 where
   pub present : is_empty (ps.tablet slot).presence ≡ false
   pub tablet_is : (ps.tablet slot).tablet ≡ l.tablet
 
-known_home : (ps : Parts) (activity : List Interval) (changes : List Change) (slot : ℕ) (l : Listed) → Inv ps activity changes → IsKnown ps.master l → l.slot ≡ slot → IsHome ps slot l
+pub known_home : (ps : Parts) (activity : List Interval) (changes : List Change) (slot : ℕ) (l : Listed) → Inv ps activity changes → IsKnown ps.master l → l.slot ≡ slot → IsHome ps slot l
 known_home ps activity changes slot l inv known at =
     let g = (inv.slots slot).each known.interval known.kept (known.slot_is ∙ at) in
     record { present = g.present; tablet_is = g.tablet_is ∙ known.tablet_is }
@@ -262,7 +258,7 @@ processing_keeps_facts (c ∷ cs) slot other n ps activity changes e later inv f
     let mine : is_empty (effect (tell.Process rows) n (ps.tablet slot)).presence ≡ false → GoesBack m (effect (tell.Process rows) n (ps.tablet slot)) =
     subst (λ q. is_empty (processed q rows n (ps.tablet slot)).presence ≡ false → GoesBack m (processed q rows n (ps.tablet slot))) (sym e)
     (λ here. body_keeps c.body ps activity changes slot n c.operation c.tablet rows cs _ inv facts pends here) in
-    by_refusal (HoldsFacts act n ps) (If (not (eqb other (source_slot slot c.body))) (OtherSlot (source_slot slot c.body)) ∷ gone c.body source.frozen) o
+    by_refusal (HoldsFacts act n ps) (If (not (eqb other (source_slot slot c.body))) (OtherSlot (source_slot slot c.body)) ∷ []) o
     (λ why. answer_holds act (Refused why) n ps activity changes later inv facts)
     (λ passes.
     let k = (told act o n ps).master in

@@ -12,19 +12,19 @@ use Rattle.model.specs.Entries.{slots_of}
 use Rattle.model.specs.History.{master_effect, told}
 use Rattle.model.specs.Journal.{Change}
 use Rattle.model.specs.Parts.{Master, Outcome, Parts, answered}
-use Rattle.model.specs.Records.{RestorationRecord, ScheduledNamespace, SnapshotRecord, Sent, Switching}
+use Rattle.model.specs.Records.{RestorationRecord, RestorationState, Fencing, Snapshotting, Switching, Restoring, Releasing, Restored, ScheduledNamespace, SnapshotRecord, Sent}
 use Rattle.model.specs.Retained.{IsTabletOf}
 use Rattle.model.specs.Schedules.{complete_to}
 use Rattle.model.specs.Tablets.{Clock, FrozenSet, Tablet, TabletAct, act_for, effect, is_empty}
 use Rattle.law_invariants.specs.Invariant.{Inv, Later}
-use Rattle.law_invariants.specs.Operations.{RestorationStateGood, SwitchingGood}
+use Rattle.law_invariants.specs.Operations.{RestorationStateGood}
 use Rattle.law_invariants.proofs.Finding.{none_or_some, same_equal}
 use Rattle.law_invariants.proofs.Frame.{tells, touched}
 use Rattle.law_invariants.proofs.Lasting.{last_in}
 use Rattle.law_invariants.proofs.Ticking.{master_before}
-use Rattle.law_commands.proofs.Freezing.{snapshot_alone}
-use Rattle.law_retention.specs.Facts.{Facts, GoesBack, LastSince, OwnComplete, TimesFollow}
+use Rattle.law_retention.specs.Facts.{Facts, GoesBack, LastSince, OwnComplete, TimesFollow, own_point}
 use Rattle.law_retention.proofs.Growing.{ActivityOn, GoOn, activity_goes_on, begun_from, no_last, they_go_on}
+use Rattle.law_invariants.proofs.Bodies.{snapshot_alone}
 
 -- a snapshot's record is there, but for which tablets are acked
 pub record HasLike (rs : List SnapshotRecord) (r : SnapshotRecord) : Type 0 where
@@ -194,16 +194,16 @@ facts_on ps after activity changes inv facts holds tablets = facts_by ps after a
 
 -- A master that keeps what it has
 
--- the state of a restoration is as it was
-pub record WasIn (m : Master) (r : RestorationRecord) : Type 0 where
+-- a restoration had this point, with its own snapshot complete
+pub record WasIn (m : Master) (r : RestorationRecord) (point : ℕ) : Type 0 where
   pub was : RestorationRecord
   pub kept : In was m.restorations
   pub namespace_is : was.namespace ≡ r.namespace
-  pub state_is : was.state ≡ r.state
+  pub point_is : own_point was.state ≡ Some point
 
--- a restoration that is to switch was so
+-- a restoration that has a point so had it so before
 abbrev pub StatesGoOn : Master → Master → Type 0
-StatesGoOn m k = (r : RestorationRecord) (point : ℕ) (serving : Id) → In r k.restorations → r.state ≡ Switching point serving → WasIn m r
+StatesGoOn m k = (r : RestorationRecord) (point : ℕ) → In r k.restorations → own_point r.state ≡ Some point → WasIn m r point
 
 pub record MasterLike (m k : Master) : Type 0 where
   pub later : m.clock ≤ k.clock
@@ -222,21 +222,28 @@ times_like m k s like times = record {
   last = λ none. times.last (λ r inside of open_. let q = like.still r inside open_ in none q.snapshot q.kept (q.namespace_is ∙ of) (q.complete_is ∙ open_));
 }
 
--- where a restoration is to switch, its own snapshot is complete still
+-- its point is over
+own_begun : (state : RestorationState) (m : Master) (changes : List Change) (r : RestorationRecord) (point : ℕ) → own_point state ≡ Some point → RestorationStateGood state m changes r → point ≤ m.clock
+own_begun (Switching at serving) m changes r point is good = let e : at ≡ point = cc in subst (λ p. p ≤ m.clock) e good.begun
+own_begun (Restoring at serving) m changes r point is good = let e : at ≡ point = cc in subst (λ p. p ≤ m.clock) e good.begun
+own_begun Fencing m changes r point is good = absurd (let q = is in grind arith)
+own_begun (Snapshotting at own) m changes r point is good = absurd (let q = is in grind arith)
+own_begun (Releasing at serving) m changes r point is good = absurd (let q = is in grind arith)
+own_begun (Restored at serving) m changes r point is good = absurd (let q = is in grind arith)
+
+-- where a restoration's own snapshot is complete, it is so still
 pub own_goes_on : (ps : Parts) (activity : List Interval) (changes : List Change) (k : Master) → Inv ps activity changes → OwnComplete ps.master → ((s : ScheduledNamespace) → In s k.scheduled → WasScheduled ps.master s ⊎ (ps.master.clock ≤ complete_to s))
     → StatesGoOn ps.master k → OwnComplete k
-own_goes_on ps activity changes k inv own scheduled states r s point serving inside is listed of =
+own_goes_on ps activity changes k inv own scheduled states r s point inside is listed of =
     let m = ps.master in
-    let q = states r point serving inside is in
-    let was : q.was.state ≡ Switching point serving = q.state_is ∙ is in
+    let q = states r point inside is in
     elim (scheduled s listed) [
       | inl h ↦ (
-          let then_ : point ≤ complete_to h.was + 1 = own q.was h.was point serving q.kept was h.listed (h.namespace_is ∙ of ∙ sym q.namespace_is) in
+          let then_ : point ≤ complete_to h.was + 1 = own q.was h.was point q.kept q.point_is h.listed (h.namespace_is ∙ of ∙ sym q.namespace_is) in
           let later = h.later in
           omega (arith, then_, later))
       | inr newly ↦ (
-          let good : SwitchingGood m changes q.was point serving = subst (λ st. RestorationStateGood st m changes q.was) was (inv.operations.restorations q.was q.kept).in_state in
-          let begun = good.begun in
+          let begun = own_begun q.was.state m changes q.was point q.point_is (inv.operations.restorations q.was q.kept).in_state in
           omega (arith, begun, newly))
     ]
 
@@ -263,7 +270,7 @@ abbrev pub HoldsFacts : Act → ℕ → Parts → Outcome → Type 0
 HoldsFacts act n ps o = Facts (told act o n ps)
 
 pub they_are : (m : Master) → StatesGoOn m m
-they_are m r point serving there is = record { was = r; kept = there; namespace_is = refl; state_is = refl }
+they_are m r point there is = record { was = r; kept = there; namespace_is = refl; point_is = is }
 
 pub on_clock : (m : Master) (n : ℕ) (sent : List Sent) (catalog : Catalog) → catalog.owners ≡ m.catalog.owners → m.clock ≤ n → MasterLike m (record m { clock = n; sent = sent; catalog = catalog })
 on_clock m n sent catalog owners before = record {

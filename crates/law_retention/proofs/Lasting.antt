@@ -1,26 +1,26 @@
--- The rows that a restore's or a clone's command takes are never gone: the frozen set is there, and goes back to the time.
-use Rattle.std.proofs.Common.{◌≤◌, ◌≡◌, ◌∷◌, ◌∙◌, ℕ, List, [], true, false, Option, Some, None, refl, sym, ap, subst, arith, ltb}
-use Rattle.std.proofs.lemmas.Bool.Decides.{nat_tests}
+-- The rows that a restore's or a clone's command takes are there: the frozen set is there, and goes back to the time.
+use Rattle.std.proofs.Common.{◌≡◌, ◌∙◌, ℕ, List, true, false, Some, refl, sym, ap, subst, arith}
+use Rattle.std.specs.Option.{option_map}
 use Rattle.row_values.specs.Ids.{Id}
 use Rattle.row_values.specs.Elements.{In}
 use Rattle.model.specs.Activity.{Interval, active_at}
 use Rattle.model.specs.Catalog.{owner_of}
-use Rattle.model.specs.Coordination.{gone, gone_from, source_slot}
+use Rattle.model.specs.Coordination.{source_slot}
 use Rattle.model.specs.Journal.{Change}
-use Rattle.model.specs.Parts.{Parts, refusal_in}
+use Rattle.model.specs.Parts.{Parts}
 use Rattle.model.specs.Records.{Copying, Listed, is_cloned}
-use Rattle.model.specs.Tablets.{Body, Copy, Fence, Freeze, FrozenSet, Hide, Release, RestoreFrom, Command, cutoff_of_set, set_of}
+use Rattle.model.specs.Tablets.{Body, Copy, Fence, Freeze, Hide, Release, RestoreFrom, set_of}
+use Rattle.model.specs.Retained.{FindsRows, ReachesBack, RowsFound, from_set}
 use Rattle.law_invariants.specs.Invariant.{Inv}
 use Rattle.law_invariants.specs.Operations.{CloneStateGood, CopyingGood, IsServing, RestorationStateGood, RestoringGood}
-use Rattle.law_commands.proofs.Copies.{copying_is, no_restoration_copy}
-use Rattle.law_commands.proofs.Pending.{IsPending, BySnapshot, ByClone, ByRestoration, pending_is}
-use Rattle.law_commands.proofs.Restores.{no_clone_restore, restoring_is, serves_then}
+use Rattle.law_invariants.proofs.Commanded.{IsPending, BySnapshot, ByClone, ByRestoration, pending_is}
 use Rattle.law_retention.specs.Facts.{Facts}
 use Rattle.law_retention.proofs.Reaching.{set_is}
+use Rattle.law_invariants.proofs.Bodies.{copying_is, no_restoration_copy, no_clone_restore, restoring_is, serves_then}
 
 -- a frozen set of a snapshot that serves a time, of a tablet that was active then, goes back to the time
 set_reaches : (ps : Parts) (activity : List Interval) (changes : List Change) (slot : ℕ) (snapshot ns : Id) (to : ℕ) (i : Interval) → Inv ps activity changes → Facts ps → IsServing ps.master snapshot ns to
-    → In i ps.master.activity → i.slot ≡ slot → owner_of ps.master.catalog.owners i.table ≡ Some ns → active_at to i ≡ true → cutoff_of_set (set_of (ps.tablet slot).frozen snapshot) ≤ to
+    → In i ps.master.activity → i.slot ≡ slot → owner_of ps.master.catalog.owners i.table ≡ Some ns → active_at to i ≡ true → ReachesBack (option_map from_set (set_of (ps.tablet slot).frozen snapshot)) to
 set_reaches ps activity changes slot snapshot ns to i inv facts serves inside at owned active =
     let m = ps.master in
     let t = ps.tablet slot in
@@ -28,14 +28,11 @@ set_reaches ps activity changes slot snapshot ns to i inv facts serves inside at
     let g = (inv.slots slot).each i inside at in
     let of = set_is t.frozen snapshot s.set s.held in
     let back = (facts.tablets slot g.present).sets s.set serves.serving i to of.0 serves.kept (serves.id_is ∙ sym of.1) inside (sym g.tablet_is) active serves.after serves.reaches in
-    subst (λ o. cutoff_of_set o ≤ to) (sym s.held) back
-
-not_gone_from : (set : Option FrozenSet) (to : ℕ) → cutoff_of_set set ≤ to → refusal_in (gone_from set to ∷ []) ≡ None
-not_gone_from set to reaches = let e : ltb to (cutoff_of_set set) ≡ false = grind (arith, nat_tests) in rw e refl
+    subst (λ o. ReachesBack (option_map from_set o) to) (sym s.held) back
 
 restore_reaches : (ps : Parts) (activity : List Interval) (changes : List Change) (slot : ℕ) (operation tablet snapshot : Id) (to point version : ℕ) → Inv ps activity changes → Facts ps
     → IsPending ps.master operation slot (record { tablet = tablet; slot = slot; body = RestoreFrom snapshot to point version; acked = false })
-    → cutoff_of_set (set_of (ps.tablet slot).frozen snapshot) ≤ to
+    → ReachesBack (option_map from_set (set_of (ps.tablet slot).frozen snapshot)) to
 restore_reaches ps activity changes slot operation tablet snapshot to point version inv facts (BySnapshot k) =
     absurd (let q : RestoreFrom snapshot to point version ≡ Freeze k.snapshot.id k.snapshot.at = (inv.operations.snapshots k.snapshot k.kept).bodies _ k.line.listed in grind arith)
 restore_reaches ps activity changes slot operation tablet snapshot to point version inv facts (ByClone k) =
@@ -51,12 +48,12 @@ restore_reaches ps activity changes slot operation tablet snapshot to point vers
     let now = (inv.slots slot).each b.now b.kept_now b.slot_now in
     let there : b.then_.slot ≡ slot = (inv.slots slot).home now.present b.then_ b.kept_then (b.tablet_then ∙ sym b.tablet_now ∙ sym now.tablet_is) in
     let owned = inv.master.listed_of r l k.kept k.line.listed b.then_ b.kept_then b.tablet_then in
-    subst (λ x. cutoff_of_set (set_of (ps.tablet slot).frozen snapshot) ≤ x) (sym found.1)
+    subst (λ x. ReachesBack (option_map from_set (set_of (ps.tablet slot).frozen snapshot)) x) (sym found.1)
     (set_reaches ps activity changes slot snapshot r.namespace r.to b.then_ inv facts good.serves b.kept_then there owned b.active)
 
 copy_reaches : (ps : Parts) (activity : List Interval) (changes : List Change) (slot : ℕ) (operation tablet : Id) (source : ℕ) (snapshot : Id) (to stamp : ℕ) (table : Id) (low high version : ℕ) → Inv ps activity changes → Facts ps
     → IsPending ps.master operation slot (record { tablet = tablet; slot = slot; body = Copy source snapshot to stamp table low high version; acked = false })
-    → cutoff_of_set (set_of (ps.tablet source).frozen snapshot) ≤ to
+    → ReachesBack (option_map from_set (set_of (ps.tablet source).frozen snapshot)) to
 copy_reaches ps activity changes slot operation tablet source snapshot to stamp table low high version inv facts (BySnapshot k) =
     absurd (let q : Copy source snapshot to stamp table low high version ≡ Freeze k.snapshot.id k.snapshot.at = (inv.operations.snapshots k.snapshot k.kept).bodies _ k.line.listed in grind arith)
 copy_reaches ps activity changes slot operation tablet source snapshot to stamp table low high version inv facts (ByRestoration k) =
@@ -78,24 +75,23 @@ copy_reaches ps activity changes slot operation tablet source snapshot to stamp 
     let snapshot_is : serving ≡ snapshot = cc in
     let to_is : c.to ≡ to = cc in
     let reaches = set_reaches ps activity changes copied.pair.source_slot serving c.source c.to from.interval inv facts good.serves from.kept from.slot_is from.owned from.active in
-    subst (λ x. cutoff_of_set (set_of (ps.tablet source).frozen snapshot) ≤ x) to_is
-    (subst (λ id. cutoff_of_set (set_of (ps.tablet source).frozen id) ≤ c.to) snapshot_is
-    (subst (λ s. cutoff_of_set (set_of (ps.tablet s).frozen serving) ≤ c.to) slot_is reaches))
+    subst (λ x. ReachesBack (option_map from_set (set_of (ps.tablet source).frozen snapshot)) x) to_is
+    (subst (λ id. ReachesBack (option_map from_set (set_of (ps.tablet source).frozen id)) c.to) snapshot_is
+    (subst (λ s. ReachesBack (option_map from_set (set_of (ps.tablet s).frozen serving)) c.to) slot_is reaches))
 
-body_never_gone : (b : Body) (ps : Parts) (activity : List Interval) (changes : List Change) (slot : ℕ) (operation tablet : Id) → Inv ps activity changes → Facts ps
-    → IsPending ps.master operation slot (record { tablet = tablet; slot = slot; body = b; acked = false }) → refusal_in (gone b (ps.tablet (source_slot slot b)).frozen) ≡ None
-body_never_gone Fence ps activity changes slot operation tablet inv facts pends = refl
-body_never_gone (Freeze snapshot at) ps activity changes slot operation tablet inv facts pends = refl
-body_never_gone (Hide ended) ps activity changes slot operation tablet inv facts pends = refl
-body_never_gone (Release cutoff) ps activity changes slot operation tablet inv facts pends = refl
-body_never_gone (RestoreFrom snapshot to point version) ps activity changes slot operation tablet inv facts pends =
-    not_gone_from (set_of (ps.tablet slot).frozen snapshot) to (restore_reaches ps activity changes slot operation tablet snapshot to point version inv facts pends)
-body_never_gone (Copy source snapshot to stamp table low high version) ps activity changes slot operation tablet inv facts pends =
-    not_gone_from (set_of (ps.tablet source).frozen snapshot) to (copy_reaches ps activity changes slot operation tablet source snapshot to stamp table low high version inv facts pends)
+body_finds : (b : Body) (ps : Parts) (activity : List Interval) (changes : List Change) (slot : ℕ) (operation tablet : Id) → Inv ps activity changes → Facts ps
+    → IsPending ps.master operation slot (record { tablet = tablet; slot = slot; body = b; acked = false }) → FindsRows b (ps.tablet (source_slot slot b)).frozen
+body_finds Fence ps activity changes slot operation tablet inv facts pends = tt
+body_finds (Freeze snapshot at) ps activity changes slot operation tablet inv facts pends = tt
+body_finds (Hide ended) ps activity changes slot operation tablet inv facts pends = tt
+body_finds (Release cutoff) ps activity changes slot operation tablet inv facts pends = tt
+body_finds (RestoreFrom snapshot to point version) ps activity changes slot operation tablet inv facts pends =
+    restore_reaches ps activity changes slot operation tablet snapshot to point version inv facts pends
+body_finds (Copy source snapshot to stamp table low high version) ps activity changes slot operation tablet inv facts pends =
+    copy_reaches ps activity changes slot operation tablet source snapshot to stamp table low high version inv facts pends
 
 -- a command that lies in an inbox finds its rows
-pub never_gone : (ps : Parts) (activity : List Interval) (changes : List Change) (slot : ℕ) (c : Command) → Inv ps activity changes → Facts ps → In c (ps.tablet slot).inbox
-    → refusal_in (gone c.body (ps.tablet (source_slot slot c.body)).frozen) ≡ None
-never_gone ps activity changes slot c inv facts lies =
+pub rows_found : (ps : Parts) (activity : List Interval) (changes : List Change) → Inv ps activity changes → Facts ps → RowsFound ps
+rows_found ps activity changes inv facts slot c lies =
     let order = (inv.works slot).orders.orders c lies in
-    body_never_gone c.body ps activity changes slot c.operation c.tablet inv facts (pending_is ps.master c.operation slot _ order.is_pending)
+    body_finds c.body ps activity changes slot c.operation c.tablet inv facts (pending_is ps.master c.operation slot _ order.is_pending)

@@ -3,10 +3,12 @@ pub mod Staying
 pub mod Outcomes
 pub mod Acting
 pub mod Growing
+pub mod Before
 pub mod Cleaning
 pub mod Marking
 pub mod Reaching
 pub mod Retaining
+pub mod Untaken
 pub mod Holding
 pub mod Scheduling
 pub mod Acts
@@ -14,6 +16,9 @@ pub mod Clearing
 pub mod Lasting
 pub mod Doing
 pub mod Changing
+pub mod Commands
 pub mod Moving
+pub mod Advances
+pub mod Obeying
 pub mod Recounting
 pub mod Taking

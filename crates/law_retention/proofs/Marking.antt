@@ -11,9 +11,8 @@ use Rattle.model.specs.Parts.{Master}
 use Rattle.model.specs.Taking.{MarkRaised, untimed}
 use Rattle.law_invariants.specs.Invariant.{MasterGood}
 use Rattle.law_invariants.proofs.Finding.{both_pass, same_equal, same_self}
-use Rattle.law_cleanup.proofs.Forgetting.{any_in}
-use Rattle.law_cleanup.proofs.Pruning.{has_table, raised_rises, raised_to, raised_within}
 use Rattle.law_retention.proofs.Cleaning.{filter_left, young}
+use Rattle.law_invariants.proofs.Unneeded.{any_in, has_table, raised_rises, raised_to, raised_within}
 
 first_most : (a b : ℕ) → a ≤ max a b
 first_most a b = omega arith
@@ -49,6 +48,7 @@ prune_marks m n changes ns good =
             let marked = raised_to m.catalog.kept_from m n r.namespace (good.marks.tables r inside) (has_table m r inside) in
             let mark : prune_to m r.namespace n ≤ to = le_trans marked (subst (λ id. kept_from (map (raised_mark m n) m.catalog.kept_from) id ≤ to) (sym is) from) in
             young to (prune_to m r.namespace n) r.from r.to mark both.0));
+        owners = λ table owned. owned;
         kept = from;
       };
     }

@@ -22,7 +22,7 @@ use Rattle.law_invariants.specs.Operations.{OperationsGood, RestorationStateGood
 use Rattle.law_invariants.proofs.Finding.{both_pass, filter_in, in_append, in_mapped, map_in, same_equal, same_self}
 use Rattle.law_invariants.proofs.Ticking.{not_true}
 use Rattle.law_invariants.proofs.Undoing.{owned_is}
-use Rattle.law_retention.specs.Facts.{Facts}
+use Rattle.law_retention.specs.Facts.{Facts, own_point}
 use Rattle.law_retention.proofs.Growing.{Begins, GoOn, IsNew, activity_begins, activity_goes_on, activity_grows, ended_go_on, ended_if, they_go_on}
 use Rattle.law_retention.proofs.Holding.{MasterHolds, StatesGoOn, WasIn, answer_holds, back_on, holds_like, like_itself, like_on, own_goes_on, they_are, they_were, told_by}
 use Rattle.law_retention.proofs.Scheduling.{IsLater, IsStill, reached_follows, reached_were, they_were_taken, unfinished_found}
@@ -85,27 +85,35 @@ completed_holds ps activity changes n r found kept open_ later ops =
 -- A restoration's moves
 
 entered_states : (m k : Master) (r : RestorationRecord) (state : RestorationState) (listed : List Listed) (n : ℕ) → k.restorations ≡ (restoration_enters r state listed n m).restorations
-    → ((point : ℕ) (serving : Id) → state ≡ Switching point serving → ⊥) → StatesGoOn m k
-entered_states m k r state listed n e other q point serving inside is =
+    → ((x : RestorationRecord) → In x m.restorations → same x.id r.id ≡ true → x ≡ r) → ((point : ℕ) → own_point state ≡ Some point → own_point r.state ≡ Some point) → StatesGoOn m k
+entered_states m k r state listed n e alone had q point inside is =
     in_mapped {A = RestorationRecord} {B = RestorationRecord} (λ x. record x { listed = cond (same x.id r.id) listed x.listed; state = cond (same x.id r.id) state x.state })
-    (λ x. x.state ≡ Switching point serving → WasIn m x) m.restorations
+    (λ x. own_point x.state ≡ Some point → WasIn m x point) m.restorations
     (λ x there now. either_way (same x.id r.id)
-    (λ b. absurd (other point serving (ap (λ c. cond c state x.state) (sym b) ∙ now)))
-    (λ b. record { was = x; kept = there; namespace_is = refl; state_is = ap (λ c. cond c state x.state) (sym b) }))
+    (λ b. record {
+      was = x;
+      kept = there;
+      namespace_is = refl;
+      point_is = ap (λ y. own_point y.state) (alone x there b) ∙ had point (ap (λ c. own_point (cond c state x.state)) (sym b) ∙ now);
+    })
+    (λ b. record { was = x; kept = there; namespace_is = refl; point_is = ap (λ c. own_point (cond c state x.state)) (sym b) ∙ now }))
     q (subst (In q) e inside) is
 
+alone_of : (ps : Parts) (activity : List Interval) (changes : List Change) (n : ℕ) (r : RestorationRecord) → IsFound ps activity changes n → In r ps.master.restorations → (x : RestorationRecord) → In x ps.master.restorations → same x.id r.id ≡ true → x ≡ r
+alone_of ps activity changes n r found kept x there b = found.inv.operations.apart.restoration_ids x r there kept (same_equal x.id r.id b)
+
 -- it enters a state that is none of a switch
-enters : (ps : Parts) (activity : List Interval) (changes : List Change) (n : ℕ) (r : RestorationRecord) (state : RestorationState) (listed : List Listed) → IsFound ps activity changes n
-    → ((point : ℕ) (serving : Id) → state ≡ Switching point serving → ⊥) → MoveHolds ps (restoration_enters r state listed n ps.master)
-enters ps activity changes n r state listed found other later ops =
+enters : (ps : Parts) (activity : List Interval) (changes : List Change) (n : ℕ) (r : RestorationRecord) (state : RestorationState) (listed : List Listed) → IsFound ps activity changes n → In r ps.master.restorations
+    → ((point : ℕ) → own_point state ≡ Some point → own_point r.state ≡ Some point) → MoveHolds ps (restoration_enters r state listed n ps.master)
+enters ps activity changes n r state listed found kept had later ops =
     let k = restoration_enters r state listed n ps.master in
-    alike ps activity changes n k found refl refl refl refl refl (entered_states ps.master k r state listed n refl other)
+    alike ps activity changes n k found refl refl refl refl refl (entered_states ps.master k r state listed n refl (alone_of ps activity changes n r found kept) had)
 
 pub record IsRestoring (rs : List RestorationRecord) (r : RestorationRecord) : Type 0 where
   pub kept : In r rs
   pub open_is : is_restored r.state ≡ false
 
-restoration_found : (rs : List RestorationRecord) (id : Id) (r : RestorationRecord) → unfinished_restoration rs id ≡ Some r → IsRestoring rs r
+pub restoration_found : (rs : List RestorationRecord) (id : Id) (r : RestorationRecord) → unfinished_restoration rs id ≡ Some r → IsRestoring rs r
 restoration_found [] id r e = cc
 restoration_found (q ∷ rs) id r e = either_way (same q.id id && not (is_restored q.state))
     (λ b.
@@ -151,22 +159,22 @@ to_switch ps activity changes n r point own serving listed found kept is later o
         taken = λ q inside. inl (they_were_taken m q inside);
       };
       times = λ s listed_. (let t = found.facts.times s listed_ in record { complete = t.complete; unfinished = t.unfinished; last = t.last });
-      own = λ q s at to inside now scheduled of.
+      own = λ q s at inside now scheduled of.
           in_mapped {A = RestorationRecord} {B = RestorationRecord} (λ x. record x { listed = cond (same x.id r.id) listed x.listed; state = cond (same x.id r.id) state x.state })
-          (λ x. x.state ≡ Switching at to → s.namespace ≡ x.namespace → at ≤ complete_to s + 1) m.restorations
+          (λ x. own_point x.state ≡ Some at → s.namespace ≡ x.namespace → at ≤ complete_to s + 1) m.restorations
           (λ x there now_ of_. either_way (same x.id r.id)
           (λ b.
           let one : x ≡ r = found.inv.operations.apart.restoration_ids x r there kept (same_equal x.id r.id b) in
-          let point_is : state ≡ Switching at to = ap (λ c. cond c state x.state) (sym b) ∙ now_ in
+          let point_is : Some point ≡ Some at = ap (λ c. own_point (cond c state x.state)) (sym b) ∙ now_ in
           let same_point : point ≡ at = cc in
           subst (λ p. p ≤ complete_to s + 1) same_point (own_complete ps activity changes n r point own serving listed later found kept is ops s scheduled (of_ ∙ ap (λ y. y.namespace) one)))
-          (λ b. found.facts.own x s at to there (ap (λ c. cond c state x.state) (sym b) ∙ now_) scheduled of_))
+          (λ b. found.facts.own x s at there (ap (λ c. own_point (cond c state x.state)) (sym b) ∙ now_) scheduled of_))
           q inside now of;
     }
 
 -- The switch
 
-begun_of : (m : Master) (ns : Id) (to : ℕ) (i : Interval) → In i (tablets_active_at m.catalog.owners m.activity ns to) → In i m.activity × (owner_of m.catalog.owners i.table ≡ Some ns)
+pub begun_of : (m : Master) (ns : Id) (to : ℕ) (i : Interval) → In i (tablets_active_at m.catalog.owners m.activity ns to) → In i m.activity × (owner_of m.catalog.owners i.table ≡ Some ns)
 begun_of m ns to i there =
     let h = filter_in (intervals_in m.catalog.owners m.activity ns) (active_at to) i there in
     let of = filter_in m.activity (λ j. owns m.catalog.owners ns j.table) i h.0 in
@@ -201,7 +209,7 @@ switch_begins ps activity changes n r point serving k found kept is scheduled ow
           let owner_h : owner_of m.catalog.owners h.table ≡ Some s.namespace = owned_is (owner_of m.catalog.owners h.table) s.namespace (subst (λ os. owns os s.namespace h.table ≡ true) owners owned) in
           let both : Some s.namespace ≡ Some r.namespace = sym owner_h ∙ ap (owner_of m.catalog.owners) (sym w.1.1.1 ∙ table) ∙ owner in
           let ns : s.namespace ≡ r.namespace = cc in
-          let own : point ≤ complete_to s + 1 = found.facts.own r s point serving kept is (subst (In s) scheduled listed) ns in
+          let own : point ≤ complete_to s + 1 = found.facts.own r s point kept (ap own_point is) (subst (In s) scheduled listed) ns in
           omega (arith, own, late);
     }
 
@@ -228,7 +236,7 @@ switch_holds ps activity changes n r point serving found kept is later ops =
       snapshots = refl;
       owned = λ id i inside owned. owned;
       activity = activity_begins m k is_ js point refl on begins found.facts.latest;
-      states = entered_states m k r (Restoring point serving) _ n refl (λ p s e. cc);
+      states = entered_states m k r (Restoring point serving) _ n refl (alone_of ps activity changes n r found kept) (λ p e. ap own_point is ∙ e);
     })
 
 restoration_holds : (state : RestorationState) (ps : Parts) (activity : List Interval) (changes : List Change) (n : ℕ) (r : RestorationRecord) → IsFound ps activity changes n → In r ps.master.restorations → r.state ≡ state
@@ -238,12 +246,12 @@ restoration_holds Fencing ps activity changes n r found kept is later ops =
     let k = restoration_moved Fencing r n m in
     snapshot_holds ps activity changes k later r.namespace r.schedule n found.facts
     (record { inv = found.inv; times = found.facts.times; ops = ops; snapshots_are = refl; scheduled_are = refl }) (le_of_lt found.before) refl refl
-    (entered_states m k r (Snapshotting (n + 1) (next_snapshot m)) _ n refl (λ p s e. cc))
+    (entered_states m k r (Snapshotting (n + 1) (next_snapshot m)) _ n refl (alone_of ps activity changes n r found kept) (λ p e. cc))
 restoration_holds (Snapshotting point own) ps activity changes n r found kept is later ops =
     to_switch ps activity changes n r point own _ _ found kept is later ops
 restoration_holds (Switching point serving) ps activity changes n r found kept is later ops = switch_holds ps activity changes n r point serving found kept is later ops
-restoration_holds (Restoring point serving) ps activity changes n r found kept is later ops = enters ps activity changes n r (Releasing point serving) _ found (λ p s e. cc) later ops
-restoration_holds (Releasing point serving) ps activity changes n r found kept is later ops = enters ps activity changes n r (Restored point serving) _ found (λ p s e. cc) later ops
+restoration_holds (Restoring point serving) ps activity changes n r found kept is later ops = enters ps activity changes n r (Releasing point serving) _ found kept (λ p e. cc) later ops
+restoration_holds (Releasing point serving) ps activity changes n r found kept is later ops = enters ps activity changes n r (Restored point serving) _ found kept (λ p e. cc) later ops
 restoration_holds (Restored point serving) ps activity changes n r found kept is later ops = ticks ps activity changes n found later ops
 
 -- A clone's moves
@@ -255,7 +263,7 @@ pub record IsCloning (cs : List CloneRecord) (c : CloneRecord) : Type 0 where
   pub kept : In c cs
   pub open_is : is_cloned c.state ≡ false
 
-clone_found : (cs : List CloneRecord) (id : Id) (c : CloneRecord) → unfinished_clone cs id ≡ Some c → IsCloning cs c
+pub clone_found : (cs : List CloneRecord) (id : Id) (c : CloneRecord) → unfinished_clone cs id ≡ Some c → IsCloning cs c
 clone_found [] id c e = cc
 clone_found (d ∷ cs) id c e = either_way (same d.id id && not (is_cloned d.state))
     (λ b.
@@ -323,7 +331,7 @@ moved_holds Clone id ps activity changes n found =
     (λ c e. clone_holds c.state ps activity changes n c found (clone_found m.clones id c e).kept refl) (ticks ps activity changes n found)
 moved_holds _ id ps activity changes n found = ticks ps activity changes n found
 
-moving_holds : (on : Option Id) (operation : Id) (next : State) (n : ℕ) (ps : Parts) (activity : List Interval) (changes : List Change) → Later (slots_of (Advance operation)) ps n → IsFound ps activity changes n
+pub moving_holds : (on : Option Id) (operation : Id) (next : State) (n : ℕ) (ps : Parts) (activity : List Interval) (changes : List Change) → Later (slots_of (Advance operation)) ps n → IsFound ps activity changes n
     → HoldsThen (Advance operation) n ps (moving on operation next)
 moving_holds (Some id) operation next n ps activity changes later found a c after = answer_holds (Advance operation) (Refused (Waiting id)) n ps activity changes later found.inv found.facts
 moving_holds None operation next n ps activity changes later found a c after =

@@ -23,9 +23,9 @@ use Rattle.law_invariants.proofs.Finding.{none_or_some, both_pass, passes_both, 
 use Rattle.law_invariants.proofs.Ticking.{not_true}
 use Rattle.law_invariants.proofs.Lasting.{last_in}
 use Rattle.law_invariants.proofs.Undoing.{owned_is}
-use Rattle.law_cleanup.proofs.Forgetting.{any_in}
 use Rattle.law_retention.specs.Facts.{Facts, GoesBack, LastSince, TimesFollow}
 use Rattle.law_retention.proofs.Growing.{no_last}
+use Rattle.law_invariants.proofs.Unneeded.{any_in}
 
 -- Which snapshot serves
 
@@ -182,7 +182,7 @@ last_kept m changes s ops listed times = none_or_some (unfinished m.snapshots s.
     not_false false h = absurd (h refl)
 
 -- what is past the last complete snapshot, where none serves a time from the floor on
-unserved_late : (m : Master) (changes : List Change) (s : ScheduledNamespace) (to : ℕ) → OperationsGood m changes → In s m.scheduled → TimesFollow m s → serving m.snapshots s.namespace to ≡ None → floor_now m s.namespace ≤ to
+pub unserved_late : (m : Master) (changes : List Change) (s : ScheduledNamespace) (to : ℕ) → OperationsGood m changes → In s m.scheduled → TimesFollow m s → serving m.snapshots s.namespace to ≡ None → floor_now m s.namespace ≤ to
     → complete_to s < to
 unserved_late m changes s to ops listed times none low = elim (last_kept m changes s ops listed times) [
   | inl past ↦ omega (arith, past, low)

@@ -1,9 +1,9 @@
 -- All snapshots that were ever taken follow each other: times rise, and each names the time of the one before it.
 use Rattle.std.proofs.Common.{◌+◌, ◌-◌, ◌<◌, ◌≤◌, ◌≡◌, ◌∷◌, ◌++◌, ◌∙◌, ◌⊎◌, ℕ, List, [], Bool, true, false, cond, Option, Some, None, map, refl, sym, ap, subst, inl, inr, arith, le_refl, le_of_lt, le_trans, ltb, not}
-use Rattle.std.proofs.lemmas.Bool.{cond_both}
+use Rattle.std.proofs.lemmas.Bool.{cond_both, true≢false}
 use Rattle.std.proofs.lemmas.Bool.Decides.{nat_tests}
 use Rattle.std.specs.List.{filter}
-use Rattle.std.specs.Option.{option_map_or}
+use Rattle.std.specs.Option.{is_some, option_map_or}
 use Rattle.row_values.specs.Ids.{Clone, Id, Kind, Restoration, Snapshot, same}
 use Rattle.row_values.specs.Elements.{In}
 use Rattle.row_values.specs.Slots.{has}
@@ -19,17 +19,14 @@ use Rattle.model.specs.Lists.{new_snapshot, set_last_of}
 use Rattle.model.specs.Moves.{begins_clone, clone_goes, clone_moved, completed, moved_of, restoration_moved, serving_clone, with_clones_snapshot}
 use Rattle.model.specs.Parts.{Acks, DeletesSchedule, MakesSchedule, Master, MasterAct, Moves, Outcome, Parts, Removes, TakesSnapshot}
 use Rattle.model.specs.Records.{Accepted, CloneComplete, CloneRecord, CloneReleasing, CloneSnapshot, CloneState, Copying, Fencing, Listed, Releasing, RestorationRecord, RestorationState, Restored, Restoring, Schedule, ScheduledNamespace, SnapshotRecord, Snapshotting, Switching, schedule_of, scheduled_in}
-use Rattle.model.specs.Retained.{TimesRise, before_next}
-use Rattle.model.specs.Schedules.{after_in, after_of, or_before}
+use Rattle.model.specs.Retained.{TimesRise, before_next, last_time}
+use Rattle.model.specs.Schedules.{after_in, after_of, complete_to, or_before}
 use Rattle.law_store.proofs.Keys.{either_way}
 use Rattle.law_invariants.specs.Invariant.{Inv, Later}
-use Rattle.law_invariants.proofs.Finding.{filter_in, in_append, in_mapped, not_same, same_equal, same_self}
-use Rattle.law_retention.proofs.Scheduling.{after_in_is, newly}
-
--- the time of the last of a namespace's snapshots, behind one of a time
-abbrev last_time : List SnapshotRecord → Id → ℕ → ℕ
-last_time [] ns last = last
-last_time (r ∷ rs) ns last = last_time rs ns (cond (same r.namespace ns) r.at last)
+use Rattle.law_invariants.specs.Operations.{OperationsGood}
+use Rattle.law_invariants.proofs.Finding.{filter_in, find_is, find_none, in_append, in_first, in_mapped, in_second, none_or_some, not_same, same_equal, same_self}
+use Rattle.law_retention.specs.Facts.{Facts, IsTaken, WasTaken}
+use Rattle.law_retention.proofs.Scheduling.{after_in_is, newly, unfinished_found}
 
 last_past : (rs : List SnapshotRecord) (ns : Id) (last clock : ℕ) → ((r : SnapshotRecord) → In r rs → r.at ≤ clock) → last ≤ clock → last_time rs ns last ≤ clock
 last_past [] ns last clock past le = le
@@ -45,24 +42,23 @@ rise_added : (rs : List SnapshotRecord) (new : SnapshotRecord) (ns : Id) (since 
 rise_added [] new ns since last rise next = (next, tt)
 rise_added (r ∷ rs) new ns since last rise next = (rise.0, rise_added rs new ns since (cond (same r.namespace ns) r.at last) rise.1 next)
 
--- what holds of all snapshots that were ever taken
-pub record IsTaken (taken : List SnapshotRecord) (m : Master) : Type 0 where
-  pub past : (r : SnapshotRecord) → In r taken → r.at ≤ m.clock
-  -- for a namespace that is yet to be scheduled
-  pub rise : (ns : Id) (since : ℕ) → m.clock < since → TimesRise taken ns since 0
-  pub each : (s : ScheduledNamespace) → In s m.scheduled → TimesRise taken s.namespace s.since 0
-  -- the last one is the one before the next
-  pub last : (s : ScheduledNamespace) → In s m.scheduled → before_next s.since (last_time taken s.namespace 0) ≡ after_of s
-
-pub none_taken : (m : Master) → m.scheduled ≡ [] → IsTaken [] m
-none_taken m none = record {
+pub none_taken : (m : Master) (since : Id → ℕ) → m.scheduled ≡ [] → m.snapshots ≡ [] → IsTaken [] since m
+none_taken m since none empty = record {
   past = λ r there. absurd there;
+  kept = λ r there. absurd (subst (In r) empty there);
+  complete = λ s at listed is. absurd (subst (In s) none listed);
+  since_is = λ s listed. absurd (subst (In s) none listed);
   rise = λ ns since late. tt;
   each = λ s listed. absurd (subst (In s) none listed);
   last = λ s listed. absurd (subst (In s) none listed);
 }
 
 -- What a step makes of snapshots and scheduled namespaces
+
+-- the last complete snapshot of a scheduled namespace is the one that was, or one that becomes complete
+abbrev IsLater : Master → ScheduledNamespace → ScheduledNamespace → Type 0
+IsLater m was s = (s.complete ≡ was.complete)
+    ⊎ ((r : SnapshotRecord) × (In r m.snapshots × ((r.complete ≡ false) × ((r.namespace ≡ was.namespace) × (s.complete ≡ Some r.at)))))
 
 -- a scheduled namespace goes on, or is so from the stamp on
 pub record GoesOnAs (m : Master) (s : ScheduledNamespace) : Type 0 where
@@ -71,16 +67,24 @@ pub record GoesOnAs (m : Master) (s : ScheduledNamespace) : Type 0 where
   pub namespace_is : was.namespace ≡ s.namespace
   pub since_is : was.since ≡ s.since
   pub last_is : was.last ≡ s.last
+  pub complete_is : IsLater m was s
 
-pub record IsFirst (m : Master) (s : ScheduledNamespace) : Type 0 where
+pub record IsFirst (m : Master) (n : ℕ) (s : ScheduledNamespace) : Type 0 where
   pub since : m.clock < s.since
+  pub since_is : s.since ≡ n
   pub last_is : s.last ≡ None
+  pub complete_is : s.complete ≡ None
+  pub unscheduled : scheduled_in m.scheduled s.namespace ≡ None
+
+-- a kept snapshot was kept before
+abbrev IsKnown : Master → SnapshotRecord → Type 0
+IsKnown m q = (r : SnapshotRecord) × (In r m.snapshots × ((r.id ≡ q.id) × ((r.namespace ≡ q.namespace) × (r.at ≡ q.at))))
 
 -- no snapshot is made
-pub record NoneMade (m k : Master) : Type 0 where
+pub record NoneMade (m : Master) (n : ℕ) (k : Master) : Type 0 where
   pub later : m.clock ≤ k.clock
-  pub known : (q : SnapshotRecord) → In q k.snapshots → (r : SnapshotRecord) × (In r m.snapshots × (r.id ≡ q.id))
-  pub scheduled : (s : ScheduledNamespace) → In s k.scheduled → GoesOnAs m s ⊎ IsFirst m s
+  pub known : (q : SnapshotRecord) → In q k.snapshots → IsKnown m q
+  pub scheduled : (s : ScheduledNamespace) → In s k.scheduled → GoesOnAs m s ⊎ IsFirst m n s
 
 -- one is made
 pub record OneMade (m k : Master) : Type 0 where
@@ -92,92 +96,101 @@ pub record OneMade (m k : Master) : Type 0 where
   pub snapshots_are : k.snapshots ≡ m.snapshots ++ new_snapshot m namespace schedule at ∷ []
   pub scheduled_are : k.scheduled ≡ set_last_of namespace at m.scheduled
 
-abbrev Makes : Master → Master → Type 0
-Makes m k = NoneMade m k ⊎ OneMade m k
+abbrev Makes : Master → ℕ → Master → Type 0
+Makes m n k = NoneMade m n k ⊎ OneMade m k
 
-they_go : (m : Master) (s : ScheduledNamespace) → In s m.scheduled → GoesOnAs m s ⊎ IsFirst m s
-they_go m s listed = inl (record { was = s; listed = listed; namespace_is = refl; since_is = refl; last_is = refl })
+they_go : (m : Master) (n : ℕ) (s : ScheduledNamespace) → In s m.scheduled → GoesOnAs m s ⊎ IsFirst m n s
+they_go m n s listed = inl (record { was = s; listed = listed; namespace_is = refl; since_is = refl; last_is = refl; complete_is = inl refl })
 
-makes_none : (m k : Master) → m.clock ≤ k.clock → k.snapshots ≡ m.snapshots → k.scheduled ≡ m.scheduled → Makes m k
-makes_none m k later snapshots scheduled = inl (record {
+makes_none : (m : Master) (n : ℕ) (k : Master) → m.clock ≤ k.clock → k.snapshots ≡ m.snapshots → k.scheduled ≡ m.scheduled → Makes m n k
+makes_none m n k later snapshots scheduled = inl (record {
   later = later;
-  known = λ q there. (q, (subst (In q) snapshots there, refl));
-  scheduled = λ s listed. they_go m s (subst (In s) scheduled listed);
+  known = λ q there. (q, (subst (In q) snapshots there, (refl, (refl, refl))));
+  scheduled = λ s listed. they_go m n s (subst (In s) scheduled listed);
 })
 
-begun_goes : (found : Option ScheduledNamespace) (m : Master) (ns : Id) (n : ℕ) → m.clock < n → (s : ScheduledNamespace) → In s (begin_scheduled found ns n m.scheduled) → GoesOnAs m s ⊎ IsFirst m s
-begun_goes (Some q) m ns n before s listed = they_go m s listed
-begun_goes None m ns n before s listed = elim (in_append m.scheduled (newly ns n ∷ []) s listed) [
-  | inl old ↦ they_go m s old
-  | inr new ↦ elim new [ inl is ↦ inr (subst (IsFirst m) is (record { since = before; last_is = refl })) | inr none ↦ absurd none ]
+begun_goes : (found : Option ScheduledNamespace) (m : Master) (ns : Id) (n : ℕ) → m.clock < n → scheduled_in m.scheduled ns ≡ found → (s : ScheduledNamespace) → In s (begin_scheduled found ns n m.scheduled) → GoesOnAs m s ⊎ IsFirst m n s
+begun_goes (Some q) m ns n before e s listed = they_go m n s listed
+begun_goes None m ns n before e s listed = elim (in_append m.scheduled (newly ns n ∷ []) s listed) [
+  | inl old ↦ they_go m n s old
+  | inr new ↦ elim new [ inl is ↦ inr (subst (IsFirst m n) is (record { since = before; since_is = refl; last_is = refl; complete_is = refl; unscheduled = e })) | inr none ↦ absurd none ]
 ]
 
--- a map that keeps what counts
-reached_goes : (m : Master) (complete : ScheduledNamespace → Option ℕ) (s : ScheduledNamespace) → In s (map {A = ScheduledNamespace} (λ k. record k { complete = complete k }) m.scheduled) → GoesOnAs m s ⊎ IsFirst m s
-reached_goes m complete = in_mapped {A = ScheduledNamespace} {B = ScheduledNamespace} _ (λ s. GoesOnAs m s ⊎ IsFirst m s) m.scheduled
-    (λ k listed. inl (record { was = k; listed = listed; namespace_is = refl; since_is = refl; last_is = refl }))
+-- a snapshot that becomes complete is the last complete one of its namespace
+reached_goes : (m : Master) (n : ℕ) (r : SnapshotRecord) → In r m.snapshots → r.complete ≡ false → (s : ScheduledNamespace)
+    → In s (map {A = ScheduledNamespace} (λ k. record k { complete = cond (same k.namespace r.namespace) (Some r.at) k.complete }) m.scheduled) → GoesOnAs m s ⊎ IsFirst m n s
+reached_goes m n r there left = in_mapped {A = ScheduledNamespace} {B = ScheduledNamespace} _ (λ s. GoesOnAs m s ⊎ IsFirst m n s) m.scheduled
+    (λ k listed. inl (record {
+      was = k;
+      listed = listed;
+      namespace_is = refl;
+      since_is = refl;
+      last_is = refl;
+      complete_is = either_way (same k.namespace r.namespace)
+          (λ b. inr (r, (there, (left, (sym (same_equal k.namespace r.namespace b), ap (λ c. cond c (Some r.at) k.complete) b)))))
+          (λ b. inl (ap (λ c. cond c (Some r.at) k.complete) b));
+    }))
 
-mapped_known : (m : Master) (complete : SnapshotRecord → Bool) (listed : SnapshotRecord → List Listed) (q : SnapshotRecord) → In q (map {A = SnapshotRecord} (λ x. record x { complete = complete x; listed = listed x }) m.snapshots)
-    → (r : SnapshotRecord) × (In r m.snapshots × (r.id ≡ q.id))
-mapped_known m complete listed = in_mapped {A = SnapshotRecord} {B = SnapshotRecord} _ (λ q. (r : SnapshotRecord) × (In r m.snapshots × (r.id ≡ q.id))) m.snapshots (λ x there. (x, (there, refl)))
+mapped_known : (m : Master) (complete : SnapshotRecord → Bool) (listed : SnapshotRecord → List Listed) (q : SnapshotRecord) → In q (map {A = SnapshotRecord} (λ x. record x { complete = complete x; listed = listed x }) m.snapshots) → IsKnown m q
+mapped_known m complete listed = in_mapped {A = SnapshotRecord} {B = SnapshotRecord} _ (IsKnown m) m.snapshots (λ x there. (x, (there, (refl, (refl, refl)))))
 
-restoration_makes : (state : RestorationState) (r : RestorationRecord) (n : ℕ) (m : Master) → m.clock < n → Makes m (restoration_moved state r n m)
+restoration_makes : (state : RestorationState) (r : RestorationRecord) (n : ℕ) (m : Master) → m.clock < n → Makes m n (restoration_moved state r n m)
 restoration_makes Fencing r n m before = inr (record { namespace = r.namespace; schedule = r.schedule; at = n; later = before; clock_is = refl; snapshots_are = refl; scheduled_are = refl })
-restoration_makes (Snapshotting point own) r n m before = makes_none m _ (le_of_lt before) refl refl
-restoration_makes (Switching point serving) r n m before = makes_none m _ (le_of_lt before) refl refl
-restoration_makes (Restoring point serving) r n m before = makes_none m _ (le_of_lt before) refl refl
-restoration_makes (Releasing point serving) r n m before = makes_none m _ (le_of_lt before) refl refl
-restoration_makes (Restored point serving) r n m before = makes_none m _ (le_of_lt before) refl refl
+restoration_makes (Snapshotting point own) r n m before = makes_none m n _ (le_of_lt before) refl refl
+restoration_makes (Switching point serving) r n m before = makes_none m n _ (le_of_lt before) refl refl
+restoration_makes (Restoring point serving) r n m before = makes_none m n _ (le_of_lt before) refl refl
+restoration_makes (Releasing point serving) r n m before = makes_none m n _ (le_of_lt before) refl refl
+restoration_makes (Restored point serving) r n m before = makes_none m n _ (le_of_lt before) refl refl
 
-own_makes : (s : Option Schedule) (c : CloneRecord) (n : ℕ) (m : Master) → m.clock < n → Makes m (clone_goes Accepted None c n m (with_clones_snapshot s c n m))
-own_makes None c n m before = makes_none m _ (le_of_lt before) refl refl
+own_makes : (s : Option Schedule) (c : CloneRecord) (n : ℕ) (m : Master) → m.clock < n → Makes m n (clone_goes Accepted None c n m (with_clones_snapshot s c n m))
+own_makes None c n m before = makes_none m n _ (le_of_lt before) refl refl
 own_makes (Some s) c n m before = inr (record { namespace = c.source; schedule = s.id; at = n; later = before; clock_is = refl; snapshots_are = refl; scheduled_are = refl })
 
-begins_makes : (served : Option SnapshotRecord) (c : CloneRecord) (n : ℕ) (m : Master) → m.clock < n → Makes m (begins_clone served c n m)
-begins_makes (Some s) c n m before = makes_none m _ (le_of_lt before) refl refl
+begins_makes : (served : Option SnapshotRecord) (c : CloneRecord) (n : ℕ) (m : Master) → m.clock < n → Makes m n (begins_clone served c n m)
+begins_makes (Some s) c n m before = makes_none m n _ (le_of_lt before) refl refl
 begins_makes None c n m before = own_makes (schedule_of m.schedules c.source) c n m before
 
-clone_makes : (state : CloneState) (c : CloneRecord) (n : ℕ) (m : Master) → m.clock < n → Makes m (clone_moved state c n m)
+clone_makes : (state : CloneState) (c : CloneRecord) (n : ℕ) (m : Master) → m.clock < n → Makes m n (clone_moved state c n m)
 clone_makes Accepted c n m before = begins_makes (serving_clone m c) c n m before
-clone_makes (CloneSnapshot own) c n m before = makes_none m _ (le_of_lt before) refl refl
-clone_makes (Copying serving at) c n m before = makes_none m _ (le_of_lt before) refl refl
-clone_makes (CloneReleasing serving at) c n m before = makes_none m _ (le_of_lt before) refl refl
-clone_makes (CloneComplete serving at) c n m before = makes_none m _ (le_of_lt before) refl refl
+clone_makes (CloneSnapshot own) c n m before = makes_none m n _ (le_of_lt before) refl refl
+clone_makes (Copying serving at) c n m before = makes_none m n _ (le_of_lt before) refl refl
+clone_makes (CloneReleasing serving at) c n m before = makes_none m n _ (le_of_lt before) refl refl
+clone_makes (CloneComplete serving at) c n m before = makes_none m n _ (le_of_lt before) refl refl
 
-of_found : {A : Type 0} (m : Master) (move : A → Master) (idle : Master) (o : Option A) → ((a : A) → Makes m (move a)) → Makes m idle → Makes m (option_map_or move o idle)
-of_found m move idle None each none = none
-of_found m move idle (Some a) each none = each a
+of_found : {A : Type 0} (m : Master) (n : ℕ) (move : A → Master) (idle : Master) (o : Option A) → ((a : A) → o ≡ Some a → Makes m n (move a)) → Makes m n idle → Makes m n (option_map_or move o idle)
+of_found m n move idle None each none = none
+of_found m n move idle (Some a) each none = each a refl
 
-moved_makes : (kind : Kind) (id : Id) (n : ℕ) (m : Master) → m.clock < n → Makes m (moved_of kind id n m)
-moved_makes Snapshot id n m before = of_found m (λ r. completed r n m) (record m { clock = n }) (unfinished_snapshot m.snapshots id)
-    (λ r. inl (record { later = le_of_lt before; known = mapped_known m _ _; scheduled = reached_goes m _ }))
-    (makes_none m _ (le_of_lt before) refl refl)
-moved_makes Restoration id n m before = of_found m (λ r. restoration_moved r.state r n m) (record m { clock = n }) (unfinished_restoration m.restorations id) (λ r. restoration_makes r.state r n m before) (makes_none m _ (le_of_lt before) refl refl)
-moved_makes Clone id n m before = of_found m (λ c. clone_moved c.state c n m) (record m { clock = n }) (unfinished_clone m.clones id) (λ c. clone_makes c.state c n m before) (makes_none m _ (le_of_lt before) refl refl)
-moved_makes _ id n m before = makes_none m _ (le_of_lt before) refl refl
+moved_makes : (kind : Kind) (id : Id) (n : ℕ) (m : Master) → m.clock < n → Makes m n (moved_of kind id n m)
+moved_makes Snapshot id n m before = of_found m n (λ r. completed r n m) (record m { clock = n }) (unfinished_snapshot m.snapshots id)
+    (λ r e. let found = unfinished_found m.snapshots id r e in inl (record { later = le_of_lt before; known = mapped_known m _ _; scheduled = reached_goes m n r found.kept found.open_is }))
+    (makes_none m n _ (le_of_lt before) refl refl)
+moved_makes Restoration id n m before = of_found m n (λ r. restoration_moved r.state r n m) (record m { clock = n }) (unfinished_restoration m.restorations id) (λ r e. restoration_makes r.state r n m before) (makes_none m n _ (le_of_lt before) refl refl)
+moved_makes Clone id n m before = of_found m n (λ c. clone_moved c.state c n m) (record m { clock = n }) (unfinished_clone m.clones id) (λ c e. clone_makes c.state c n m before) (makes_none m n _ (le_of_lt before) refl refl)
+moved_makes _ id n m before = makes_none m n _ (le_of_lt before) refl refl
 
-acked_makes : (kind : Kind) (operation : Id) (slot n : ℕ) (m : Master) → m.clock < n → Makes m (acked_by kind operation slot n m)
-acked_makes Snapshot operation slot n m before = inl (record { later = le_of_lt before; known = mapped_known m (λ x. x.complete) _; scheduled = they_go m })
-acked_makes _ operation slot n m before = makes_none m _ (le_of_lt before) refl refl
+acked_makes : (kind : Kind) (operation : Id) (slot n : ℕ) (m : Master) → m.clock < n → Makes m n (acked_by kind operation slot n m)
+acked_makes Snapshot operation slot n m before = inl (record { later = le_of_lt before; known = mapped_known m (λ x. x.complete) _; scheduled = they_go m n })
+acked_makes _ operation slot n m before = makes_none m n _ (le_of_lt before) refl refl
 
-removed_makes : (kind : Kind) (target : Id) (n : ℕ) (m : Master) → m.clock < n → Makes m (removed_of kind target n m)
+removed_makes : (kind : Kind) (target : Id) (n : ℕ) (m : Master) → m.clock < n → Makes m n (removed_of kind target n m)
 removed_makes Snapshot target n m before = inl (record {
   later = le_of_lt before;
-  known = λ q there. (q, ((filter_in m.snapshots (λ r. not (same r.id target)) q there).0, refl));
-  scheduled = they_go m;
+  known = λ q there. (q, ((filter_in m.snapshots (λ r. not (same r.id target)) q there).0, (refl, (refl, refl))));
+  scheduled = they_go m n;
 })
-removed_makes _ target n m before = makes_none m _ (le_of_lt before) refl refl
+removed_makes _ target n m before = makes_none m n _ (le_of_lt before) refl refl
 
-told_makes : (act : MasterAct) (n : ℕ) (m : Master) → m.clock < n → Makes m (master_effect act n m)
+told_makes : (act : MasterAct) (n : ℕ) (m : Master) → m.clock < n → Makes m n (master_effect act n m)
 told_makes (MakesSchedule ns interval retention) n m before =
-    inl (record { later = le_of_lt before; known = λ q there. (q, (there, refl)); scheduled = begun_goes (scheduled_in m.scheduled ns) m ns n before })
+    inl (record { later = le_of_lt before; known = λ q there. (q, (there, (refl, (refl, refl)))); scheduled = begun_goes (scheduled_in m.scheduled ns) m ns n before refl })
 told_makes (DeletesSchedule schedule) n m before =
-    inl (record { later = le_of_lt before; known = λ q there. (q, (there, refl)); scheduled = λ s listed. they_go m s (filter_in m.scheduled _ s listed).0 })
+    inl (record { later = le_of_lt before; known = λ q there. (q, (there, (refl, (refl, refl)))); scheduled = λ s listed. they_go m n s (filter_in m.scheduled _ s listed).0 })
 told_makes (TakesSnapshot s) n m before = inr (record { namespace = s.namespace; schedule = s.id; at = n; later = before; clock_is = refl; snapshots_are = refl; scheduled_are = refl })
 told_makes (Acks operation slot) n m before = acked_makes operation.kind operation slot n m before
 told_makes (Moves operation) n m before = moved_makes operation.kind operation n m before
 told_makes (Removes target) n m before = removed_makes target.kind target n m before
-told_makes _ n m before = makes_none m _ (le_of_lt before) refl refl
+told_makes _ n m before = makes_none m n _ (le_of_lt before) refl refl
 
 -- The list goes on
 
@@ -200,27 +213,116 @@ behind [] = refl
 behind (r ∷ rs) = ap (λ qs. r ∷ qs) (behind rs)
 
 -- a first schedule is later than all of them
-first_last : (taken : List SnapshotRecord) (m : Master) (s : ScheduledNamespace) → IsTaken taken m → IsFirst m s → before_next s.since (last_time taken s.namespace 0) ≡ after_of s
-first_last taken m s h first =
+first_last : (taken : List SnapshotRecord) (since : Id → ℕ) (m : Master) (n : ℕ) (s : ScheduledNamespace) → IsTaken taken since m → IsFirst m n s → before_next s.since (last_time taken s.namespace 0) ≡ after_of s
+first_last taken since m n s h first =
     let past : last_time taken s.namespace 0 ≤ m.clock = last_past taken s.namespace 0 m.clock h.past (omega arith) in
-    let since = first.since in
+    let late = first.since in
     let less : ltb (last_time taken s.namespace 0) s.since ≡ true = grind (arith, nat_tests) in
     ap (λ b. cond b (s.since - 1) (last_time taken s.namespace 0)) less ∙ ap (λ l. or_before l s.since) (sym first.last_is)
 
-none_goes : (taken : List SnapshotRecord) (m k : Master) → IsTaken taken m → NoneMade m k → IsTaken taken k
-none_goes taken m k h none = record {
-  past = λ r there. le_trans (h.past r there) none.later;
-  rise = λ ns since late. (let le = none.later in h.rise ns since (omega (arith, le, late)));
-  each = λ s listed. elim (none.scheduled s listed) [
-    | inl q ↦ subst (λ ns. TimesRise taken ns s.since 0) q.namespace_is (subst (λ since. TimesRise taken q.was.namespace since 0) q.since_is (h.each q.was q.listed))
-    | inr first ↦ h.rise s.namespace s.since first.since
-  ];
-  last = λ s listed. elim (none.scheduled s listed) [
-    | inl q ↦ ap (λ ns. before_next s.since (last_time taken ns 0)) (sym q.namespace_is) ∙ ap (λ since. before_next since (last_time taken q.was.namespace 0)) (sym q.since_is) ∙ h.last q.was q.listed
-        ∙ ap (λ l. or_before l q.was.since) q.last_is ∙ ap (or_before s.last) q.since_is
-    | inr first ↦ first_last taken m s h first
-  ];
-}
+-- the scheduled namespaces are those that have schedules
+pub scheduled_are : (m : Master) (changes : List Change) (ns : Id) → OperationsGood m changes → is_some (scheduled_in m.scheduled ns) ≡ is_some (schedule_of m.schedules ns)
+scheduled_are m changes ns ops = none_or_some (schedule_of m.schedules ns)
+    (λ none. none_or_some (scheduled_in m.scheduled ns)
+    (λ unscheduled. ap is_some unscheduled ∙ sym (ap is_some none))
+    (λ k some.
+    let found = find_is (λ q. same q.namespace ns) m.scheduled k some in
+    let has = (ops.scheduled k found.listed).has in
+    absurd (true≢false (sym (ap (λ id. same id ns) has.1.1 ∙ found.passes) ∙ find_none (λ q. same q.namespace ns) m.schedules none has.0 has.1.0))))
+    (λ t some. none_or_some (scheduled_in m.scheduled ns)
+    (λ none.
+    let found = find_is (λ q. same q.namespace ns) m.schedules t some in
+    let k = (ops.schedules t found.listed).scheduled in
+    absurd (true≢false (sym (ap (λ id. same id ns) k.1.1.0 ∙ found.passes) ∙ find_none (λ q. same q.namespace ns) m.scheduled none k.0 k.1.0)))
+    (λ k there. ap is_some there ∙ sym (ap is_some some)))
+
+-- since when namespaces have schedules after an entry
+abbrev pub since_after : Master → ℕ → (Id → ℕ) → Id → ℕ
+since_after m n since ns = cond (is_some (schedule_of m.schedules ns)) (since ns) n
+
+since_stays : (m : Master) (changes : List Change) (n : ℕ) (since : Id → ℕ) (s was : ScheduledNamespace) → OperationsGood m changes → In was m.scheduled → was.namespace ≡ s.namespace → was.since ≡ since was.namespace
+    → was.since ≡ since_after m n since s.namespace
+since_stays m changes n since s was ops listed namespace_is is =
+    let has = (ops.scheduled was listed).has in
+    let some : is_some (schedule_of m.schedules s.namespace) ≡ true = none_or_some (schedule_of m.schedules s.namespace)
+    (λ none. absurd (true≢false (sym (ap (λ id. same id s.namespace) (has.1.1 ∙ namespace_is) ∙ same_self s.namespace) ∙ find_none (λ q. same q.namespace s.namespace) m.schedules none has.0 has.1.0)))
+    (λ t some. ap is_some some) in
+    is ∙ ap since namespace_is ∙ ap (λ b. cond b (since s.namespace) n) (sym some)
+
+since_begins : (m : Master) (changes : List Change) (n : ℕ) (since : Id → ℕ) (s : ScheduledNamespace) → OperationsGood m changes → IsFirst m n s → s.since ≡ since_after m n since s.namespace
+since_begins m changes n since s ops first =
+    let none : is_some (schedule_of m.schedules s.namespace) ≡ false = sym (scheduled_are m changes s.namespace ops) ∙ ap is_some first.unscheduled in
+    first.since_is ∙ ap (λ b. cond b (since s.namespace) n) (sym none)
+
+-- a snapshot that becomes complete was taken since its namespace has schedules
+complete_since : (ps : Parts) (activity : List Interval) (changes : List Change) (taken : List SnapshotRecord) (since : Id → ℕ) (s : ScheduledNamespace) (r : SnapshotRecord) → Inv ps activity changes → Facts ps → IsTaken taken since ps.master
+    → In s ps.master.scheduled → In r ps.master.snapshots → r.complete ≡ false → r.namespace ≡ s.namespace → s.since ≤ r.at
+complete_since ps activity changes taken since s r inv facts h listed kept left of =
+    let after : r.after ≡ complete_to s = (facts.times s listed).unfinished r kept of left in
+    let rises : r.after < r.at = (inv.operations.snapshots r kept).rises in
+    let from : s.since ≤ complete_to s + 1 = none_or_some s.complete
+    (λ none. subst (λ o. s.since ≤ or_before o s.since + 1) (sym none) (just s.since))
+    (λ at some. subst (λ o. s.since ≤ or_before o s.since + 1) (sym some) (le_trans (h.complete s at listed some).0 (next at))) in
+    omega (arith, after, rises, from)
+  where
+    just : (a : ℕ) → a ≤ a - 1 + 1
+    just a = omega arith
+
+    next : (a : ℕ) → a ≤ a + 1
+    next a = omega arith
+
+abbrev IsComplete : List SnapshotRecord → ScheduledNamespace → Type 0
+IsComplete taken s = (at : ℕ) → s.complete ≡ Some at → (s.since ≤ at) × WasTaken taken s.namespace at
+
+complete_goes : (ps : Parts) (activity : List Interval) (changes : List Change) (taken : List SnapshotRecord) (since : Id → ℕ) (s : ScheduledNamespace) (q : GoesOnAs ps.master s) → Inv ps activity changes → Facts ps → IsTaken taken since ps.master → IsComplete taken s
+complete_goes ps activity changes taken since s q inv facts h at is = elim q.complete_is [
+  | inl same_ ↦ (
+      let was = h.complete q.was at q.listed (sym same_ ∙ is) in (
+        subst (λ x. x ≤ at) q.since_is was.0,
+        subst (λ ns. WasTaken taken ns at) q.namespace_is was.1,
+      ))
+  | inr r ↦ (
+      let of : r.0.namespace ≡ q.was.namespace = r.1.1.1.0 in
+      let at_is : r.0.at ≡ at = some_same (sym r.1.1.1.1 ∙ is) in (
+        subst (λ x. x ≤ at) q.since_is (subst (λ x. q.was.since ≤ x) at_is (complete_since ps activity changes taken since q.was r.0 inv facts h q.listed r.1.0 r.1.1.0 of)),
+        subst (λ x. WasTaken taken s.namespace x) at_is (subst (λ ns. WasTaken taken ns r.0.at) (of ∙ q.namespace_is) (h.kept r.0 r.1.0)),
+      ))
+]
+  where
+    some_same : {a b : ℕ} → Some a ≡ Some b → a ≡ b
+    some_same e = cc
+
+none_goes : (ps : Parts) (activity : List Interval) (changes : List Change) (taken : List SnapshotRecord) (since : Id → ℕ) (n : ℕ) (k : Master) → Inv ps activity changes → Facts ps → IsTaken taken since ps.master → NoneMade ps.master n k
+    → IsTaken taken (since_after ps.master n since) k
+none_goes ps activity changes taken since n k inv facts h none =
+    let m = ps.master in
+    record {
+      past = λ r there. le_trans (h.past r there) none.later;
+      kept = λ r there. (
+          let was = none.known r there in
+          subst (WasTaken taken r.namespace) was.1.1.1.1 (subst (λ ns. WasTaken taken ns was.0.at) was.1.1.1.0 (h.kept was.0 was.1.0)));
+      complete = λ s at listed is. elim (none.scheduled s listed) [
+        | inl q ↦ complete_goes ps activity changes taken since s q inv facts h at is
+        | inr first ↦ absurd (none_some (sym first.complete_is ∙ is))
+      ];
+      since_is = λ s listed. elim (none.scheduled s listed) [
+        | inl q ↦ sym q.since_is ∙ since_stays m changes n since s q.was inv.operations q.listed q.namespace_is (h.since_is q.was q.listed)
+        | inr first ↦ since_begins m changes n since s inv.operations first
+      ];
+      rise = λ ns from late. (let le = none.later in h.rise ns from (omega (arith, le, late)));
+      each = λ s listed. elim (none.scheduled s listed) [
+        | inl q ↦ subst (λ ns. TimesRise taken ns s.since 0) q.namespace_is (subst (λ from. TimesRise taken q.was.namespace from 0) q.since_is (h.each q.was q.listed))
+        | inr first ↦ h.rise s.namespace s.since first.since
+      ];
+      last = λ s listed. elim (none.scheduled s listed) [
+        | inl q ↦ ap (λ ns. before_next s.since (last_time taken ns 0)) (sym q.namespace_is) ∙ ap (λ from. before_next from (last_time taken q.was.namespace 0)) (sym q.since_is) ∙ h.last q.was q.listed
+            ∙ ap (λ l. or_before l q.was.since) q.last_is ∙ ap (or_before s.last) q.since_is
+        | inr first ↦ first_last taken since m n s h first
+      ];
+    }
+  where
+    none_some : {A : Type 0} {a : A} → None ≡ Some a → ⊥
+    none_some e = cc
 
 -- a namespace is scheduled since before the clock
 since_past : (ps : Parts) (activity : List Interval) (changes : List Change) (s : ScheduledNamespace) → Inv ps activity changes → In s ps.master.scheduled → s.since ≤ ps.master.clock
@@ -231,9 +333,9 @@ since_past ps activity changes s inv listed =
     let one : k.0 ≡ s = inv.operations.apart.one_scheduled k.0 s k.1.0 listed (k.1.1.0 ∙ h.1.1) in
     le_trans (subst (λ q. q.since ≤ h.0.kept_low) one k.1.1.1) g.begun
 
-one_goes_last : (taken : List SnapshotRecord) (ps : Parts) (activity : List Interval) (changes : List Change) (k : Master) (s : ScheduledNamespace) (made : OneMade ps.master k) → Inv ps activity changes → IsTaken taken ps.master → In s ps.master.scheduled
+one_goes_last : (taken : List SnapshotRecord) (since : Id → ℕ) (ps : Parts) (activity : List Interval) (changes : List Change) (k : Master) (s : ScheduledNamespace) (made : OneMade ps.master k) → Inv ps activity changes → IsTaken taken since ps.master → In s ps.master.scheduled
     → before_next s.since (last_time (taken ++ new_snapshot ps.master made.namespace made.schedule made.at ∷ []) s.namespace 0) ≡ or_before (cond (same s.namespace made.namespace) (Some made.at) s.last) s.since
-one_goes_last taken ps activity changes k s made inv h listed =
+one_goes_last taken since ps activity changes k s made inv h listed =
     let m = ps.master in
     let new = new_snapshot m made.namespace made.schedule made.at in
     let is = last_added taken new s.namespace 0 in
@@ -241,7 +343,7 @@ one_goes_last taken ps activity changes k s made inv h listed =
     (λ b.
     let mine : made.namespace ≡ s.namespace = sym (same_equal s.namespace made.namespace b) in
     let same_ : same made.namespace s.namespace ≡ true = ap (λ id. same id s.namespace) mine ∙ same_self s.namespace in
-    let since = since_past ps activity changes s inv listed in
+    let from = since_past ps activity changes s inv listed in
     let at = made.later in
     let late : ltb made.at s.since ≡ false = grind (arith, nat_tests) in
     ap (before_next s.since) (is ∙ ap (λ c. cond c made.at (last_time taken s.namespace 0)) same_) ∙ ap (λ c. cond c (s.since - 1) made.at) late ∙ ap (λ c. or_before (cond c (Some made.at) s.last) s.since) (sym b))
@@ -249,9 +351,9 @@ one_goes_last taken ps activity changes k s made inv h listed =
     let other : same made.namespace s.namespace ≡ false = not_same made.namespace s.namespace (λ e. (let t : true ≡ false = sym (ap (λ id. same s.namespace id) e ∙ same_self s.namespace) ∙ b in grind arith)) in
     ap (before_next s.since) (is ∙ ap (λ c. cond c made.at (last_time taken s.namespace 0)) other) ∙ h.last s listed ∙ ap (λ c. or_before (cond c (Some made.at) s.last) s.since) (sym b))
 
-one_goes : (taken : List SnapshotRecord) (ps : Parts) (activity : List Interval) (changes : List Change) (k : Master) (made : OneMade ps.master k) → Inv ps activity changes → IsTaken taken ps.master
-    → IsTaken (taken ++ new_snapshot ps.master made.namespace made.schedule made.at ∷ []) k
-one_goes taken ps activity changes k made inv h =
+one_goes : (taken : List SnapshotRecord) (since : Id → ℕ) (n : ℕ) (ps : Parts) (activity : List Interval) (changes : List Change) (k : Master) (made : OneMade ps.master k) → Inv ps activity changes → IsTaken taken since ps.master
+    → IsTaken (taken ++ new_snapshot ps.master made.namespace made.schedule made.at ∷ []) (since_after ps.master n since) k
+one_goes taken since n ps activity changes k made inv h =
     let m = ps.master in
     let new = new_snapshot m made.namespace made.schedule made.at in
     let at = made.later in
@@ -262,6 +364,16 @@ one_goes taken ps activity changes k made inv h =
         | inl old ↦ (let le = h.past r old in omega (arith, le, at, clock))
         | inr here ↦ elim here [ inl is ↦ subst (λ x. x ≤ k.clock) (ap (λ x. x.at) is) (subst (λ c. made.at ≤ c) clock (le_refl made.at)) | inr none ↦ absurd none ]
       ];
+      kept = λ r there. elim (in_append m.snapshots (new ∷ []) r (subst (In r) made.snapshots_are there)) [
+        | inl old ↦ still_taken taken new r.namespace r.at (h.kept r old)
+        | inr here ↦ elim here [ inl is ↦ subst (λ q. WasTaken (taken ++ new ∷ []) q.namespace q.at) is (new, (in_second taken (new ∷ []) new (inl refl), (refl, refl))) | inr none ↦ absurd none ]
+      ];
+      complete = λ s listed_at listed. in_mapped {A = ScheduledNamespace} {B = ScheduledNamespace} _ (λ q. q.complete ≡ Some listed_at → (q.since ≤ listed_at) × WasTaken (taken ++ new ∷ []) q.namespace listed_at) m.scheduled
+          (λ q there is. let was = h.complete q listed_at there is in (was.0, still_taken taken new q.namespace listed_at was.1))
+          s (subst (In s) made.scheduled_are listed);
+      since_is = λ s listed. in_mapped {A = ScheduledNamespace} {B = ScheduledNamespace} _ (λ q. q.since ≡ since_after m n since q.namespace) m.scheduled
+          (λ q there. since_stays m changes n since q q inv.operations there refl (h.since_is q there))
+          s (subst (In s) made.scheduled_are listed);
       rise = λ ns since late. rise_added taken new ns since 0 (h.rise ns since (omega (arith, at, clock, late)))
           (λ mine. (before ns, λ soon. absurd (omega (arith, clock, late, soon))));
       each = λ s listed. in_mapped {A = ScheduledNamespace} {B = ScheduledNamespace} _ (λ q. TimesRise (taken ++ new ∷ []) q.namespace q.since 0) m.scheduled
@@ -273,29 +385,33 @@ one_goes taken ps activity changes k made inv h =
           )))
           s (subst (In s) made.scheduled_are listed);
       last = λ s listed. in_mapped {A = ScheduledNamespace} {B = ScheduledNamespace} _ (λ q. before_next q.since (last_time (taken ++ new ∷ []) q.namespace 0) ≡ after_of q) m.scheduled
-          (λ q there. one_goes_last taken ps activity changes k q made inv h there)
+          (λ q there. one_goes_last taken since ps activity changes k q made inv h there)
           s (subst (In s) made.scheduled_are listed);
     }
+  where
+    still_taken : (taken : List SnapshotRecord) (new : SnapshotRecord) (ns : Id) (at : ℕ) → WasTaken taken ns at → WasTaken (taken ++ new ∷ []) ns at
+    still_taken taken new ns at was = (was.0, (in_first taken (new ∷ []) was.0 was.1.0, was.1.1))
 
-makes_goes : (taken : List SnapshotRecord) (ps : Parts) (activity : List Interval) (changes : List Change) (k : Master) → Inv ps activity changes → IsTaken taken ps.master → Makes ps.master k → IsTaken (taken ++ snapshots_since ps.master k) k
-makes_goes taken ps activity changes k inv h (inl none) =
+makes_goes : (taken : List SnapshotRecord) (since : Id → ℕ) (n : ℕ) (ps : Parts) (activity : List Interval) (changes : List Change) (k : Master) → Inv ps activity changes → Facts ps → IsTaken taken since ps.master → Makes ps.master n k
+    → IsTaken (taken ++ snapshots_since ps.master k) (since_after ps.master n since) k
+makes_goes taken since n ps activity changes k inv facts h (inl none) =
     let m = ps.master in
-    let by : (q : SnapshotRecord) → In q k.snapshots → q.id.number ≤ m.drawn.snapshots = λ q there. (let r = none.known q there in subst (λ id. id.number ≤ m.drawn.snapshots) r.1.1 (inv.operations.snapshots r.0 r.1.0).drawn) in
-    subst (λ rs. IsTaken rs k) (sym (ap (λ rs. taken ++ rs) (none_since k.snapshots m.drawn.snapshots by) ∙ behind taken)) (none_goes taken m k h none)
-makes_goes taken ps activity changes k inv h (inr made) =
+    let by : (q : SnapshotRecord) → In q k.snapshots → q.id.number ≤ m.drawn.snapshots = λ q there. (let r = none.known q there in subst (λ id. id.number ≤ m.drawn.snapshots) r.1.1.0 (inv.operations.snapshots r.0 r.1.0).drawn) in
+    subst (λ rs. IsTaken rs (since_after m n since) k) (sym (ap (λ rs. taken ++ rs) (none_since k.snapshots m.drawn.snapshots by) ∙ behind taken)) (none_goes ps activity changes taken since n k inv facts h none)
+makes_goes taken since n ps activity changes k inv facts h (inr made) =
     let m = ps.master in
     let new = new_snapshot m made.namespace made.schedule made.at in
     let by : (q : SnapshotRecord) → In q m.snapshots → q.id.number ≤ m.drawn.snapshots = λ q there. (inv.operations.snapshots q there).drawn in
     let is : snapshots_since m k ≡ new ∷ [] = ap (λ rs. filter (λ r. ltb m.drawn.snapshots r.id.number) rs) made.snapshots_are ∙ one_since m.snapshots new m.drawn.snapshots by (next m.drawn.snapshots) in
-    subst (λ rs. IsTaken rs k) (sym (ap (λ rs. taken ++ rs) is)) (one_goes taken ps activity changes k made inv h)
+    subst (λ rs. IsTaken rs (since_after m n since) k) (sym (ap (λ rs. taken ++ rs) is)) (one_goes taken since n ps activity changes k made inv h)
   where
     next : (a : ℕ) → a < a + 1
     next a = omega arith
 
 -- all snapshots that were ever taken follow each other after an act, too
-pub taken_go_on : (act : Act) (o : Outcome) (n : ℕ) (ps : Parts) (activity : List Interval) (changes : List Change) (taken : List SnapshotRecord) → Later (slots_of act) ps n → Inv ps activity changes → IsTaken taken ps.master
-    → IsTaken (taken ++ snapshots_since ps.master (told act o n ps).master) (told act o n ps).master
-taken_go_on act o n ps activity changes taken later inv h =
-    makes_goes taken ps activity changes (told act o n ps).master inv h
-    (cond_both (has (slots_of act) 0) (master_effect o.master n ps.master) ps.master (Makes ps.master)
-    (λ is. told_makes o.master n ps.master (later 0 is)) (λ is. makes_none ps.master ps.master (le_refl _) refl refl))
+pub taken_go_on : (act : Act) (o : Outcome) (n : ℕ) (ps : Parts) (activity : List Interval) (changes : List Change) (taken : List SnapshotRecord) (since : Id → ℕ) → Later (slots_of act) ps n → Inv ps activity changes → Facts ps → IsTaken taken since ps.master
+    → IsTaken (taken ++ snapshots_since ps.master (told act o n ps).master) (since_after ps.master n since) (told act o n ps).master
+taken_go_on act o n ps activity changes taken since later inv facts h =
+    makes_goes taken since n ps activity changes (told act o n ps).master inv facts h
+    (cond_both (has (slots_of act) 0) (master_effect o.master n ps.master) ps.master (Makes ps.master n)
+    (λ is. told_makes o.master n ps.master (later 0 is)) (λ is. makes_none ps.master n ps.master (le_refl _) refl refl))

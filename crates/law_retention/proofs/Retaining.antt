@@ -11,7 +11,7 @@ use Rattle.model.specs.Cleanup.{floor_of, floor_of_table}
 use Rattle.model.specs.Journal.{Change}
 use Rattle.model.specs.Parts.{Master, Parts}
 use Rattle.model.specs.Records.{Schedule, ScheduledNamespace, SnapshotRecord}
-use Rattle.model.specs.Retained.{IsPresent, IsTabletOf, OneUnfinished, Retained, TimesRise, floor_now, unfinished}
+use Rattle.model.specs.Retained.{IsPresent, IsTabletOf, OneUnfinished, Retained, floor_now, unfinished}
 use Rattle.model.specs.Schedules.{low}
 use Rattle.model.specs.Tablets.{is_empty}
 use Rattle.law_invariants.specs.Invariant.{Inv}
@@ -19,12 +19,13 @@ use Rattle.law_invariants.specs.Operations.{OperationsGood, SnapshotsRise}
 use Rattle.law_invariants.specs.Remembered.{IsForgotten}
 use Rattle.law_invariants.proofs.Finding.{both_pass, none_or_some, same_equal}
 use Rattle.law_invariants.proofs.Undoing.{owned_is}
-use Rattle.law_retention.specs.Facts.{Facts}
+use Rattle.law_retention.specs.Facts.{Facts, IsTaken}
+use Rattle.law_retention.proofs.Recounting.{scheduled_are}
 use Rattle.law_retention.proofs.Reaching.{rows_reached, unfinished_is}
 
 -- a tablet that was removed wasn't active from the floor on
 
-ended_over : (end : Option ℕ) (floor x : ℕ) → floor ≤ x → ended_by floor end ≡ true → before_end x end ≡ true → ⊥
+pub ended_over : (end : Option ℕ) (floor x : ℕ) → floor ≤ x → ended_by floor end ≡ true → before_end x end ≡ true → ⊥
 ended_over None floor x le over active = true≢false (sym over)
 ended_over (Some to) floor x le over active =
     let o : to ≤ floor = leb-true to floor over in
@@ -40,14 +41,15 @@ never_forgotten m ns i x gone owned low active =
 
 -- an interval that the master keeps is of a tablet that is there
 pub is_there : (ps : Parts) (activity : List Interval) (changes : List Change) (i : Interval) → Inv ps activity changes → In i ps.master.activity → IsPresent ps i.slot i.tablet
-is_there ps activity changes i inv inside = let g = (inv.slots i.slot).each i inside refl in record { held = g.present; tablet_is = g.tablet_is }
+is_there ps activity changes i inv inside = let g = (inv.slots i.slot).each i inside refl in record { held = g.present; tablet_is = g.tablet_is; known = (i, (inside, (refl, refl))) }
 
-there_at : (ps : Parts) (activity : List Interval) (changes : List Change) (i : Interval) (slot : ℕ) (tablet : Id) → Inv ps activity changes → In i ps.master.activity → i.slot ≡ slot → i.tablet ≡ tablet → IsPresent ps slot tablet
+pub there_at : (ps : Parts) (activity : List Interval) (changes : List Change) (i : Interval) (slot : ℕ) (tablet : Id) → Inv ps activity changes → In i ps.master.activity → i.slot ≡ slot → i.tablet ≡ tablet → IsPresent ps slot tablet
 there_at ps activity changes i slot tablet inv inside at is =
     let there = is_there ps activity changes i inv inside in
     record {
       held = subst (λ s. is_empty (ps.tablet s).presence ≡ false) at there.held;
       tablet_is = subst (λ s. (ps.tablet s).tablet ≡ tablet) at (there.tablet_is ∙ is);
+      known = (i, (inside, (at, is)));
     }
 
 -- one unfinished snapshot
@@ -80,22 +82,26 @@ since_before ps changes s t ops listed inside is =
     most : (a b c : ℕ) → a ≤ b → a ≤ max b c
     most a b c le = omega arith
 
-pub facts_retain : (ps : Parts) (activity : List Interval) (changes : List Change) (taken : List SnapshotRecord) → Inv ps activity changes → Facts ps
-    → ((s : ScheduledNamespace) → In s ps.master.scheduled → TimesRise taken s.namespace s.since 0) → Retained ps activity taken
-facts_retain ps activity changes taken inv facts rise =
+pub facts_retain : (ps : Parts) (activity : List Interval) (changes : List Change) (taken : List SnapshotRecord) (since : Id → ℕ) → Inv ps activity changes → Facts ps → IsTaken taken since ps.master → Retained ps activity taken since
+facts_retain ps activity changes taken since inv facts h =
     let m = ps.master in
     let kept : (s : ScheduledNamespace) (i : Interval) (x : ℕ) → In i activity → IsTabletOf m s.namespace i → floor_now m s.namespace ≤ x → active_at x i ≡ true → In i m.activity = λ s i x ever owned low active.
     elim (inv.remembered.each i ever) [ inl here ↦ here | inr gone ↦ absurd (never_forgotten m s.namespace i x gone owned low active) ] in
     record {
       scheduled = λ s listed. record {
-        active_present = λ i x ever owned low active. is_there ps activity changes i inv (kept s i x ever owned low active);
+        active_present = λ i x ever owned low active. let k = kept s i x ever owned low active in (k, is_there ps activity changes i inv k);
         reaches = λ i to ever owned low past active. rows_reached ps changes activity s i to inv facts listed (kept s i to ever owned low active) owned low active;
         cutoffs = λ slot i here last owned. let back = facts.tablets slot here in (back.live s i listed last owned, back.now);
-        times = rise s listed;
+        times = h.each s listed;
+        last = sym (h.last s listed);
+        complete = λ at is. h.complete s at listed is;
+        none_later = λ r kept_ of complete. (facts.times s listed).complete r kept_ of complete;
         unfinished_one = one_left m.snapshots s.namespace inv.operations.apart.snapshots_rise inv.operations.apart.one_snapshot;
-        since = λ t inside is. since_before ps changes s t inv.operations listed inside is;
+        since_is = h.since_is s listed;
+        windows = λ t inside is. since_before ps changes s t inv.operations listed inside is;
         catalog = inv.operations.kept s.namespace;
       };
+      have_schedules = λ ns. scheduled_are m changes ns inv.operations;
       listed = record {
         snapshots = λ r l inside left lists. let k = (inv.operations.snapshots r inside).known left l lists in there_at ps activity changes k.interval l.slot l.tablet inv k.kept k.slot_is k.tablet_is;
         restorations = λ r l inside left lists. let k = (inv.operations.restorations r inside).known left l lists in there_at ps activity changes k.interval l.slot l.tablet inv k.kept k.slot_is k.tablet_is;

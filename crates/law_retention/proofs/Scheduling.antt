@@ -16,9 +16,9 @@ use Rattle.law_invariants.specs.Invariant.{Inv}
 use Rattle.law_invariants.specs.Operations.{OperationsGood}
 use Rattle.law_invariants.proofs.Finding.{both_pass, in_append, in_first, in_mapped, in_second, not_passing, same_equal, same_self}
 use Rattle.law_invariants.proofs.Ticking.{not_true}
-use Rattle.law_commands.proofs.Freezing.{snapshot_alone}
 use Rattle.law_retention.specs.Facts.{TimesFollow}
 use Rattle.law_retention.proofs.Holding.{WasScheduled, WasTaken}
+use Rattle.law_invariants.proofs.Bodies.{snapshot_alone}
 
 -- snapshots that are kept were there
 pub they_were_taken : (m : Master) (r : SnapshotRecord) → In r m.snapshots → WasTaken m r

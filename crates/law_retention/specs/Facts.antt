@@ -1,12 +1,12 @@
 -- What retention rests on, besides what holds after each entry anyway: how far back each tablet goes, and how the times
 -- of snapshots follow each other.
-use Rattle.std.specs.Prelude.{◌≡◌, ℕ, ◌≤◌, ◌<◌, true, false, Some, ◌+◌, max}
+use Rattle.std.specs.Prelude.{◌≡◌, ℕ, ◌≤◌, ◌<◌, true, false, List, Option, Some, None, ◌+◌, max}
 use Rattle.row_values.specs.Elements.{In}
 use Rattle.row_values.specs.Ids.{Id}
 use Rattle.model.specs.Activity.{Interval, active_at, last_of}
 use Rattle.model.specs.Parts.{Master, Parts}
-use Rattle.model.specs.Records.{RestorationRecord, ScheduledNamespace, SnapshotRecord, Switching}
-use Rattle.model.specs.Retained.{IsTabletOf}
+use Rattle.model.specs.Records.{RestorationRecord, RestorationState, Fencing, Snapshotting, Switching, Restoring, Releasing, Restored, ScheduledNamespace, SnapshotRecord}
+use Rattle.model.specs.Retained.{IsTabletOf, TimesRise, before_next, last_time}
 use Rattle.model.specs.Schedules.{after_of, complete_to}
 use Rattle.model.specs.Tablets.{FrozenSet, Tablet, is_empty}
 
@@ -41,10 +41,19 @@ pub record TimesFollow (m : Master) (k : ScheduledNamespace) : Type 0 where
   pub last : ((r : SnapshotRecord) → In r m.snapshots → r.namespace ≡ k.namespace → r.complete ≡ false → ⊥)
       → after_of k ≡ complete_to k
 
--- where a restoration is to switch, its own snapshot is complete: it is the one just before the point
+-- the point of a restoration whose own snapshot is complete, until its rows are taken back
+abbrev pub own_point : RestorationState → Option ℕ
+own_point (Switching point serving) = Some point
+own_point (Restoring point serving) = Some point
+own_point Fencing = None
+own_point (Snapshotting point own) = None
+own_point (Releasing point serving) = None
+own_point (Restored point serving) = None
+
+-- its own snapshot is the one just before the point
 abbrev pub OwnComplete : Master → Type 0
-OwnComplete m = (r : RestorationRecord) (k : ScheduledNamespace) (point : ℕ) (serving : Id) → In r m.restorations
-    → r.state ≡ Switching point serving → In k m.scheduled → k.namespace ≡ r.namespace → point ≤ complete_to k + 1
+OwnComplete m = (r : RestorationRecord) (k : ScheduledNamespace) (point : ℕ) → In r m.restorations
+    → own_point r.state ≡ Some point → In k m.scheduled → k.namespace ≡ r.namespace → point ≤ complete_to k + 1
 
 pub record Facts (ps : Parts) : Type 0 where
   pub tablets : (slot : ℕ) → is_empty (ps.tablet slot).presence ≡ false → GoesBack ps.master (ps.tablet slot)
@@ -52,3 +61,21 @@ pub record Facts (ps : Parts) : Type 0 where
   pub latest : LastIsLatest ps.master
   pub times : (k : ScheduledNamespace) → In k ps.master.scheduled → TimesFollow ps.master k
   pub own : OwnComplete ps.master
+
+-- All snapshots that were ever taken
+
+-- a snapshot of a namespace was taken at a stamp
+abbrev pub WasTaken : List SnapshotRecord → Id → ℕ → Type 0
+WasTaken taken ns at = (r : SnapshotRecord) × (In r taken × ((r.namespace ≡ ns) × (r.at ≡ at)))
+
+-- what holds of all snapshots that were ever taken, and of the stamps since which namespaces have schedules
+pub record IsTaken (taken : List SnapshotRecord) (since : Id → ℕ) (m : Master) : Type 0 where
+  pub past : (r : SnapshotRecord) → In r taken → r.at ≤ m.clock
+  pub kept : (r : SnapshotRecord) → In r m.snapshots → WasTaken taken r.namespace r.at
+  pub complete : (s : ScheduledNamespace) (at : ℕ) → In s m.scheduled → s.complete ≡ Some at → (s.since ≤ at) × WasTaken taken s.namespace at
+  pub since_is : (s : ScheduledNamespace) → In s m.scheduled → s.since ≡ since s.namespace
+  -- for a namespace that is yet to be scheduled
+  pub rise : (ns : Id) (since : ℕ) → m.clock < since → TimesRise taken ns since 0
+  pub each : (s : ScheduledNamespace) → In s m.scheduled → TimesRise taken s.namespace s.since 0
+  -- the last one is the one before the next
+  pub last : (s : ScheduledNamespace) → In s m.scheduled → before_next s.since (last_time taken s.namespace 0) ≡ after_of s

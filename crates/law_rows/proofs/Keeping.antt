@@ -1,5 +1,5 @@
 -- Counts, restarts, compactions and cutoffs keep what holds: they change no read.
-use Rattle.std.proofs.Common.{ℕ, ◌≡◌, ◌≤◌, ◌<◌, ◌+◌, max, List, [], ◌∷◌, length, inl, inr, Option, Some, None, Bool, true, false, cond, ◌&&◌, ◌||◌, refl, sym, ap, subst, ◌∙◌, arith, not, eqb, eqb-true, le_trans, le_refl, le_of_lt}
+use Rattle.std.proofs.Common.{ℕ, ◌≡◌, ◌≤◌, ◌+◌, max, List, [], ◌∷◌, length, inl, inr, Option, Some, None, Bool, true, false, cond, ◌&&◌, ◌||◌, refl, sym, ap, subst, ◌∙◌, arith, not, eqb, eqb-true, le_trans, le_refl, le_of_lt}
 use Rattle.std.proofs.lemmas.Bool.Decides.{nat_tests}
 use Rattle.row_values.specs.Ids.{Id, same}
 use Rattle.row_values.specs.Elements.{In}
@@ -15,7 +15,7 @@ use Rattle.model.specs.Schedules.{complete_to}
 use Rattle.model.specs.Acts.{Cutoff, Compact, Restart, Stats, Ok, CutoffAt, Compacted}
 use Rattle.model.specs.Parts.{Master, Parts, If, Restarts}
 use Rattle.model.specs.Coordination.{restarted_master}
-use Rattle.model.specs.Entries.{slots_of, clock_at}
+use Rattle.model.specs.Entries.{slots_of}
 use Rattle.model.specs.RowActs.{stats, restart, compact, cutoff, table_in, scheduled_at, has_moved, allowed_of}
 use Rattle.law_store.proofs.Compaction.{compaction, sorted_kept, below_kept}
 use Rattle.law_store.proofs.Keys.{either_way}
@@ -37,24 +37,15 @@ use Rattle.law_invariants.proofs.Frame.{one_told, rows_told, touched, tells}
 use Rattle.law_invariants.proofs.Hearing.{clocks_rise, rows_on}
 use Rattle.law_invariants.proofs.Rewriting.{rewriting_keeps}
 use Rattle.model.specs.Activity.{Interval}
+use Rattle.law_invariants.proofs.Told.{clock_before, has_it, has_second}
 
 pub stats_keeps : (ps : Parts) (activity : List Interval) (changes : List Change) (n slot : ℕ) → Later (slots_of (Stats slot)) ps n → Inv ps activity changes → KeepsAll (Stats slot) n ps activity changes (stats slot n ps)
 unfolding stats
-stats_keeps ps activity changes n slot later inv = record { right = tt; inv = nothing_told (Stats slot) (stats slot n ps).reply n ps activity changes later inv }
+stats_keeps ps activity changes n slot later inv = nothing_told (Stats slot) (stats slot n ps).reply n ps activity changes later inv
 
 -- a touched slot from 1 on is a tablet's
 pub one_touched : (slot : ℕ) → 1 ≤ slot → ((eqb slot slot || false) && not (eqb slot 0)) ≡ true
 one_touched slot from = grind (arith, nat_tests)
-
--- a tablet's clock is at most the stamp of an act that touches its slot
-pub clock_before : (slots : List ℕ) (ps : Parts) (n slot : ℕ) → Later slots ps n → 1 ≤ slot → has slots slot ≡ true → (ps.tablet slot).clock < n
-clock_before slots ps n slot later from is =
-    let f : eqb slot 0 ≡ false = grind (arith, nat_tests) in
-    let l : clock_at ps slot < n = later slot is in
-    rw f at l
-
-pub has_it : (slot : ℕ) (ss : List ℕ) → has (slot ∷ ss) slot ≡ true
-has_it slot ss = grind (arith, nat_tests)
 
 pub compact_keeps : (ps : Parts) (activity : List Interval) (changes : List Change) (n slot : ℕ) → Later (slots_of (Compact slot)) ps n → 1 ≤ slot → Inv ps activity changes
     → KeepsAll (Compact slot) n ps activity changes (compact slot n ps)
@@ -65,23 +56,17 @@ compact_keeps ps activity changes n slot later from inv =
     let w = inv.works slot in
     let le : t.clock ≤ n = le_of_lt (clock_before (slot ∷ []) ps n slot later from (has_it slot [])) in
     by_checks (Compact slot) n ps activity changes (If (is_empty t.presence) (has_moved slot t) ∷ []) (tells slot CompactTablet (Compacted (length t.versions) (length (kept t.versions t.cutoff))))
-    (λ why. refused_keeps (Compact slot) why n ps activity changes later inv tt refl)
-    (λ passes. record {
-      right = tt;
-      inv = one_told (Compact slot) (Compacted (length t.versions) (length (kept t.versions t.cutoff))) slot CompactTablet n ps activity changes later (one_touched slot from) inv.master (λ i apart. inv.slots i)
-          (rewriting_keeps ps.master n changes slot t (kept t.versions t.cutoff) t.cutoff le (le_refl _) (le_trans h.good.cutoff le) (sorted_kept t.versions t.cutoff h.good.sorted)
-          (below_kept t.versions t.cutoff (n + 1) (below_later t.versions (t.clock + 1) (n + 1) (omega arith) h.good.below)) (keys_kept t.versions t.cutoff (λ key. in_range t.low t.high (code_of key)) h.good.keys) (λ key x cut. compaction t.versions key t.cutoff x h.good.sorted cut) h)
-          inv.operations inv.journal (rows_told (Compact slot) (Compacted (length t.versions) (length (kept t.versions t.cutoff))) slot CompactTablet n ps changes later inv.rows_past) (λ i apart. inv.works i)
-          (record {
-            orders = orders_mild ps.master slot t n t.version (kept t.versions t.cutoff) t.cutoff le w.orders;
-            obeyed = obeyed_mild ps.master changes slot t n t.version (kept t.versions t.cutoff) t.cutoff t.inbox le
-                (inl (record { later = le_refl _; same_ = λ stamp e. kept_same t.versions stamp t.cutoff h.good.sorted e })) (λ r l point serving isin is lists at e. e) w.obeyed;
-          })
-          inv.remembered inv.cover inv.late;
+    (λ why. refused_keeps (Compact slot) why n ps activity changes later inv refl)
+    (λ passes. one_told (Compact slot) (Compacted (length t.versions) (length (kept t.versions t.cutoff))) slot CompactTablet n ps activity changes later (one_touched slot from) inv.master (λ i apart. inv.slots i)
+    (rewriting_keeps ps.master n changes slot t (kept t.versions t.cutoff) t.cutoff le (le_refl _) (le_trans h.good.cutoff le) (sorted_kept t.versions t.cutoff h.good.sorted)
+    (below_kept t.versions t.cutoff (n + 1) (below_later t.versions (t.clock + 1) (n + 1) (omega arith) h.good.below)) (keys_kept t.versions t.cutoff (λ key. in_range t.low t.high (code_of key)) h.good.keys) (λ key x cut. compaction t.versions key t.cutoff x h.good.sorted cut) h)
+    inv.operations inv.journal (rows_told (Compact slot) (Compacted (length t.versions) (length (kept t.versions t.cutoff))) slot CompactTablet n ps changes later inv.rows_past) (λ i apart. inv.works i)
+    (record {
+      orders = orders_mild ps.master slot t n t.version (kept t.versions t.cutoff) t.cutoff le w.orders;
+      obeyed = obeyed_mild ps.master changes slot t n t.version (kept t.versions t.cutoff) t.cutoff t.inbox le
+          (inl (record { later = le_refl _; same_ = λ stamp e. kept_same t.versions stamp t.cutoff h.good.sorted e })) (λ r l point serving isin is lists at e. e) w.obeyed;
     })
-
-pub has_second : (slot : ℕ) → has (0 ∷ slot ∷ []) slot ≡ true
-has_second slot = grind (arith, nat_tests)
+    inv.remembered inv.cover)
 
 second_touched : (slot : ℕ) → 1 ≤ slot → touched (Cutoff slot) slot ≡ true
 second_touched slot from = grind (arith, nat_tests)
@@ -153,20 +138,17 @@ cutoff_keeps ps activity changes n slot later from inv =
     let le : t.clock ≤ n = le_of_lt (clock_before (0 ∷ slot ∷ []) ps n slot later from (has_second slot)) in
     let within : to ≤ n = allowed_by (scheduled_at ps.master slot) ps.master n (master_before (0 ∷ slot ∷ []) ps n later refl) (λ s e. inv.master.complete s (in_found ps.master.scheduled _ s e)) in
     by_checks (Cutoff slot) n ps activity changes (If (is_empty t.presence) (has_moved slot t) ∷ []) (tells slot (RaiseCutoff to) (CutoffAt (max t.cutoff to)))
-    (λ why. refused_keeps (Cutoff slot) why n ps activity changes later inv tt refl)
-    (λ passes. record {
-      right = tt;
-      inv = one_told (Cutoff slot) (CutoffAt (max t.cutoff to)) slot (RaiseCutoff to) n ps activity changes later (second_touched slot from) inv.master (λ i apart. inv.slots i)
-          (rewriting_keeps ps.master n changes slot t t.versions (max t.cutoff to) le (omega arith) (let c : t.cutoff ≤ n = le_trans h.good.cutoff le in omega arith) h.good.sorted
-          (below_later t.versions (t.clock + 1) (n + 1) (omega arith) h.good.below) h.good.keys (λ key x cut. refl) h)
-          inv.operations inv.journal (rows_told (Cutoff slot) (CutoffAt (max t.cutoff to)) slot (RaiseCutoff to) n ps changes later inv.rows_past) (λ i apart. inv.works i)
-          (record {
-            orders = orders_mild ps.master slot t n t.version t.versions (max t.cutoff to) le w.orders;
-            obeyed = obeyed_mild ps.master changes slot t n t.version t.versions (max t.cutoff to) t.inbox le (inl (record { later = omega arith; same_ = λ stamp e. refl }))
-                (λ r l point serving isin is lists at e. capped ps activity changes n slot r l point serving inv isin is lists at e) w.obeyed;
-          })
-          inv.remembered inv.cover inv.late;
+    (λ why. refused_keeps (Cutoff slot) why n ps activity changes later inv refl)
+    (λ passes. one_told (Cutoff slot) (CutoffAt (max t.cutoff to)) slot (RaiseCutoff to) n ps activity changes later (second_touched slot from) inv.master (λ i apart. inv.slots i)
+    (rewriting_keeps ps.master n changes slot t t.versions (max t.cutoff to) le (omega arith) (let c : t.cutoff ≤ n = le_trans h.good.cutoff le in omega arith) h.good.sorted
+    (below_later t.versions (t.clock + 1) (n + 1) (omega arith) h.good.below) h.good.keys (λ key x cut. refl) h)
+    inv.operations inv.journal (rows_told (Cutoff slot) (CutoffAt (max t.cutoff to)) slot (RaiseCutoff to) n ps changes later inv.rows_past) (λ i apart. inv.works i)
+    (record {
+      orders = orders_mild ps.master slot t n t.version t.versions (max t.cutoff to) le w.orders;
+      obeyed = obeyed_mild ps.master changes slot t n t.version t.versions (max t.cutoff to) t.inbox le (inl (record { later = omega arith; same_ = λ stamp e. refl }))
+          (λ r l point serving isin is lists at e. capped ps activity changes n slot r l point serving inv isin is lists at e) w.obeyed;
     })
+    inv.remembered inv.cover)
 
 restarted_onward : (ps : Parts) (activity : List Interval) (changes : List Change) (n : ℕ) → Later (slots_of (Restart 0)) ps n → Inv ps activity changes → Onward ps.master n ps.master.catalog ps.master.activity ps.master.drawn changes changes
 restarted_onward ps activity changes n later inv = onward_ticked ps.master n changes changes (master_before (0 ∷ []) ps n later refl) (tables_drawn ps.master activity inv.remembered) (same_fixed changes)
@@ -174,30 +156,26 @@ restarted_onward ps activity changes n later inv = onward_ticked ps.master n cha
 master_lost : (ps : Parts) (activity : List Interval) (changes : List Change) (n : ℕ) → Later (slots_of (Restart 0)) ps n → Inv ps activity changes
     → KeepsAll (Restart 0) n ps activity changes (record { master = Restarts; tablets = []; reply = Ok [] })
 master_lost ps activity changes n later inv = record {
-  right = tt;
-  inv = record {
-    master = master_marked (record ps.master { clock = n }) [] changes (master_ticked ps.master n changes (master_before (0 ∷ []) ps n later refl) inv.master);
-    slots = λ i. slot_ticked ps.master n changes i _ (master_before (0 ∷ []) ps n later refl)
-        (slots_ticked ps.master n changes i (has (0 ∷ []) i && not (eqb i 0)) (ps.tablet i) (tablet_before (0 ∷ []) ps n i later) (inv.slots i));
-    remembered = remembered_on ps.master (restarted_master n ps.master) activity
-        (record { clock = master_before (0 ∷ []) ps n later refl; schedules = refl; restorations = refl; clones = refl }) refl refl (le_refl _) (le_refl _) inv.remembered;
-    cover = inv.cover;
-    operations = operations_on ps.master n ps.master.catalog ps.master.activity ps.master.drawn [] changes changes (restarted_onward ps activity changes n later inv)
-        (λ ns. le_trans (inv.operations.kept ns) (floor_rises ps.master (restarted_master n ps.master) ns (record { clock = master_before (0 ∷ []) ps n later refl; schedules = refl; restorations = refl; clones = refl })))
-        inv.operations.owners (λ mark none. absurd none) (all_listed ps.master changes inv.master) inv.operations;
-    rows_past = rows_on ps.master n ps.master.catalog ps.master.activity ps.master.drawn [] changes changes ps.tablet _ (master_before (0 ∷ []) ps n later refl)
-        (clocks_rise (Restart 0) (record { master = Restarts; tablets = []; reply = Ok [] }) n ps (λ slot e. tablet_before (0 ∷ []) ps n slot later e))
-        (λ i isin. inl isin) (λ c table key op isin is. isin) inv.rows_past;
-    journal = journal_on ps.master n ps.master.catalog ps.master.activity ps.master.drawn [] changes changes (same_rows changes) (λ ns to. refl) (le_refl _) (le_refl _) (λ table l. refl) inv.journal;
-    works = λ i. (
-        let m = ps.master in
-        let o = restarted_onward ps activity changes n later inv in
-        let w = work_later_if m n changes i (has (0 ∷ []) i && not (eqb i 0)) (ps.tablet i) (tablet_before (0 ∷ []) ps n i later) (inv.works i) in record {
-          orders = orders_on m n m.catalog m.activity m.drawn [] changes changes i _ o w.orders;
-          obeyed = obeyed_on m n m.catalog m.activity m.drawn [] changes changes i _ o (λ c serving at d key isin is paired. refl) inv.operations w.obeyed;
-        });
-    late = inv.late;
-  };
+  master = master_marked (record ps.master { clock = n }) [] changes (master_ticked ps.master n changes (master_before (0 ∷ []) ps n later refl) inv.master);
+  slots = λ i. slot_ticked ps.master n changes i _ (master_before (0 ∷ []) ps n later refl)
+      (slots_ticked ps.master n changes i (has (0 ∷ []) i && not (eqb i 0)) (ps.tablet i) (tablet_before (0 ∷ []) ps n i later) (inv.slots i));
+  remembered = remembered_on ps.master (restarted_master n ps.master) activity
+      (record { clock = master_before (0 ∷ []) ps n later refl; schedules = refl; restorations = refl; clones = refl }) refl refl (le_refl _) (le_refl _) inv.remembered;
+  cover = inv.cover;
+  operations = operations_on ps.master n ps.master.catalog ps.master.activity ps.master.drawn [] changes changes (restarted_onward ps activity changes n later inv)
+      (λ ns. le_trans (inv.operations.kept ns) (floor_rises ps.master (restarted_master n ps.master) ns (record { clock = master_before (0 ∷ []) ps n later refl; schedules = refl; restorations = refl; clones = refl })))
+      inv.operations.owners (λ mark none. absurd none) (all_listed ps.master changes inv.master) inv.operations;
+  rows_past = rows_on ps.master n ps.master.catalog ps.master.activity ps.master.drawn [] changes changes ps.tablet _ (master_before (0 ∷ []) ps n later refl)
+      (clocks_rise (Restart 0) (record { master = Restarts; tablets = []; reply = Ok [] }) n ps (λ slot e. tablet_before (0 ∷ []) ps n slot later e))
+      (λ i isin. inl isin) (λ c table key op isin is. isin) inv.rows_past;
+  journal = journal_on ps.master n ps.master.catalog ps.master.activity ps.master.drawn [] changes changes (same_rows changes) (λ ns to. refl) (le_refl _) (le_refl _) (λ table l. refl) inv.journal;
+  works = λ i. (
+      let m = ps.master in
+      let o = restarted_onward ps activity changes n later inv in
+      let w = work_later_if m n changes i (has (0 ∷ []) i && not (eqb i 0)) (ps.tablet i) (tablet_before (0 ∷ []) ps n i later) (inv.works i) in record {
+        orders = orders_on m n m.catalog m.activity m.drawn [] changes changes i _ o w.orders;
+        obeyed = obeyed_on m n m.catalog m.activity m.drawn [] changes changes i _ o (λ c serving at d key isin is paired. refl) inv.operations w.obeyed;
+      });
 }
 
 restart_of : (ps : Parts) (activity : List Interval) (changes : List Change) (n slot : ℕ) (b : Bool) → eqb slot 0 ≡ b → Later (slots_of (Restart slot)) ps n → Inv ps activity changes
@@ -207,18 +185,15 @@ restart_of ps activity changes n slot true e later inv =
 restart_of ps activity changes n slot false e later inv =
     let from : 1 ≤ slot = grind (arith, nat_tests) in
     let le : (ps.tablet slot).clock ≤ n = le_of_lt (clock_before (slot ∷ []) ps n slot later from (has_it slot [])) in
-    record {
-      right = tt;
-      inv = one_told (Restart slot) (Ok []) slot RestartTablet n ps activity changes later (one_touched slot from) inv.master (λ i apart. inv.slots i)
-          (inbox_changed ps.master changes slot (ps.tablet slot) n [] le (inv.slots slot))
-          inv.operations inv.journal (rows_told (Restart slot) (Ok []) slot RestartTablet n ps changes later inv.rows_past) (λ i apart. inv.works i)
-          (record {
-            orders = orders_lost ps.master slot (ps.tablet slot) n le (inv.works slot).orders;
-            obeyed = (let t = ps.tablet slot in
-                obeyed_mild ps.master changes slot t n t.version t.versions t.cutoff [] le (rows_same t) (λ r l point serving isin is lists at e. e) (inv.works slot).obeyed);
-          })
-          inv.remembered inv.cover inv.late;
-    }
+    one_told (Restart slot) (Ok []) slot RestartTablet n ps activity changes later (one_touched slot from) inv.master (λ i apart. inv.slots i)
+    (inbox_changed ps.master changes slot (ps.tablet slot) n [] le (inv.slots slot))
+    inv.operations inv.journal (rows_told (Restart slot) (Ok []) slot RestartTablet n ps changes later inv.rows_past) (λ i apart. inv.works i)
+    (record {
+      orders = orders_lost ps.master slot (ps.tablet slot) n le (inv.works slot).orders;
+      obeyed = (let t = ps.tablet slot in
+          obeyed_mild ps.master changes slot t n t.version t.versions t.cutoff [] le (rows_same t) (λ r l point serving isin is lists at e. e) (inv.works slot).obeyed);
+    })
+    inv.remembered inv.cover
 
 pub restart_keeps : (ps : Parts) (activity : List Interval) (changes : List Change) (n slot : ℕ) → Later (slots_of (Restart slot)) ps n → Inv ps activity changes
     → KeepsAll (Restart slot) n ps activity changes (restart slot n ps)

@@ -1,5 +1,5 @@
--- Looks change nothing but clocks, and their replies are right.
-use Rattle.std.proofs.Common.{ℕ, ◌≤◌, length, List, Option, refl}
+-- Looks change nothing but clocks.
+use Rattle.std.proofs.Common.{ℕ, List, Option}
 use Rattle.std.specs.Option.{option_to_list}
 use Rattle.std.specs.Prelude.{Result, Ok, Err}
 use Rattle.model.specs.Catalog.{TableRecord}
@@ -8,12 +8,10 @@ use Rattle.model.specs.Acts.{Command, NamedItem, Act, Look, AskPlan, AskKeys, As
 use Rattle.model.specs.Parts.{Parts, decided, answered}
 use Rattle.model.specs.Lists.{by_range}
 use Rattle.model.specs.Looks.{look_plan, look_keys, look_table, look_present, plan_of, found_at, judge_keys, placed, holding, first_code, active_in}
-use Rattle.model.specs.Entries.{slots_of, AskAsked}
+use Rattle.model.specs.Entries.{slots_of}
 use Rattle.model.specs.History.{told, outcome}
 use Rattle.law_invariants.specs.Invariant.{Inv, Later}
 use Rattle.law_invariants.proofs.Ticking.{nothing_told, KeepsAll}
-use Rattle.law_invariants.proofs.Looking.{asked, look_keys_right, look_table_right}
-use Rattle.law_invariants.proofs.Placing.{keys_places, table_places, all_past}
 use Rattle.model.specs.Activity.{Interval}
 use Rattle.law_invariants.specs.Remembered.{activity_after}
 
@@ -24,40 +22,34 @@ decided_told (Err why) act reply n ps activity changes later inv = nothing_told 
 decided_told (Ok a) act reply n ps activity changes later inv = nothing_told act (reply a) n ps activity changes later inv
 
 pub keys_keeps : (namespace table : List ℕ) (batch : List NamedItem) (at : Option ℕ) (n : ℕ) (ps : Parts) (activity : List Interval) (changes : List Change) → Later (slots_of (Look (AskKeys namespace table batch at))) ps n
-    → 1 ≤ length batch → Inv ps activity changes → KeepsAll (Look (AskKeys namespace table batch at)) n ps activity changes (look_keys namespace table batch at n ps.master)
+    → Inv ps activity changes → KeepsAll (Look (AskKeys namespace table batch at)) n ps activity changes (look_keys namespace table batch at n ps.master)
 unfolding look_keys
-keys_keeps namespace table batch at n ps activity changes later some inv =
+keys_keeps namespace table batch at n ps activity changes later inv =
     let m = ps.master in
     let is : TableRecord → List Interval = λ t. option_to_list (holding m t.id (first_code batch)) in
-    record {
-      right = (look_keys_right m n changes namespace table batch at (asked m n changes (later 0 refl) inv.master), keys_places ps n activity changes namespace table batch at (later 0 refl) inv some);
-      inv = decided_told (judge_keys namespace table batch at n m) (Look (AskKeys namespace table batch at)) (λ t. (placed (is t) t).reply) n ps activity changes later inv;
-    }
+    decided_told (judge_keys namespace table batch at n m) (Look (AskKeys namespace table batch at)) (λ t. (placed (is t) t).reply) n ps activity changes later inv
 
 pub table_keeps : (namespace table : List ℕ) (at : Option ℕ) (n : ℕ) (ps : Parts) (activity : List Interval) (changes : List Change) → Later (slots_of (Look (AskTable namespace table at))) ps n
     → Inv ps activity changes → KeepsAll (Look (AskTable namespace table at)) n ps activity changes (look_table namespace table at n ps.master)
 unfolding look_table
 table_keeps namespace table at n ps activity changes later inv =
     let m = ps.master in
-    record {
-      right = (look_table_right m n changes namespace table at (asked m n changes (later 0 refl) inv.master), table_places m n changes namespace table at (later 0 refl) inv.master (all_past ps activity changes inv));
-      inv = decided_told (found_at namespace table at n m) (Look (AskTable namespace table at)) (λ t. (placed (by_range (active_in m t.id)) t).reply) n ps activity changes later inv;
-    }
+    decided_told (found_at namespace table at n m) (Look (AskTable namespace table at)) (λ t. (placed (by_range (active_in m t.id)) t).reply) n ps activity changes later inv
 
 plan_keeps : (command : Command) (n : ℕ) (ps : Parts) (activity : List Interval) (changes : List Change) → Later (slots_of (Look (AskPlan command))) ps n → Inv ps activity changes
     → KeepsAll (Look (AskPlan command)) n ps activity changes (look_plan command ps.master)
 unfolding look_plan
-plan_keeps command n ps activity changes later inv = record { right = tt; inv = nothing_told (Look (AskPlan command)) (Planned (plan_of command ps.master)) n ps activity changes later inv }
+plan_keeps command n ps activity changes later inv = nothing_told (Look (AskPlan command)) (Planned (plan_of command ps.master)) n ps activity changes later inv
 
 present_keeps : (n : ℕ) (ps : Parts) (activity : List Interval) (changes : List Change) → Later (slots_of (Look AskPresent)) ps n → Inv ps activity changes → KeepsAll (Look AskPresent) n ps activity changes (look_present ps.master)
 unfolding look_present
-present_keeps n ps activity changes later inv = record { right = tt; inv = nothing_told (Look AskPresent) (look_present ps.master).reply n ps activity changes later inv }
+present_keeps n ps activity changes later inv = nothing_told (Look AskPresent) (look_present ps.master).reply n ps activity changes later inv
 
 -- each look keeps what holds
-pub look_keeps : (ask : Ask) (n : ℕ) (ps : Parts) (activity : List Interval) (changes : List Change) → Later (slots_of (Look ask)) ps n → AskAsked ask → Inv ps activity changes → KeepsAll (Look ask) n ps activity changes (outcome (Look ask) n ps)
-look_keeps (AskPlan command) n ps activity changes later asked_ inv = plan_keeps command n ps activity changes later inv
-look_keeps (AskKeys namespace table batch at) n ps activity changes later asked_ inv = keys_keeps namespace table batch at n ps activity changes later asked_.2.0 inv
-look_keeps (AskTable namespace table at) n ps activity changes later asked_ inv = table_keeps namespace table at n ps activity changes later inv
-look_keeps AskWork n ps activity changes later asked_ inv = record { right = tt; inv = nothing_told (Look AskWork) (outcome (Look AskWork) n ps).reply n ps activity changes later inv }
-look_keeps AskRemovable n ps activity changes later asked_ inv = record { right = tt; inv = nothing_told (Look AskRemovable) (outcome (Look AskRemovable) n ps).reply n ps activity changes later inv }
-look_keeps AskPresent n ps activity changes later asked_ inv = present_keeps n ps activity changes later inv
+pub look_keeps : (ask : Ask) (n : ℕ) (ps : Parts) (activity : List Interval) (changes : List Change) → Later (slots_of (Look ask)) ps n → Inv ps activity changes → KeepsAll (Look ask) n ps activity changes (outcome (Look ask) n ps)
+look_keeps (AskPlan command) n ps activity changes later inv = plan_keeps command n ps activity changes later inv
+look_keeps (AskKeys namespace table batch at) n ps activity changes later inv = keys_keeps namespace table batch at n ps activity changes later inv
+look_keeps (AskTable namespace table at) n ps activity changes later inv = table_keeps namespace table at n ps activity changes later inv
+look_keeps AskWork n ps activity changes later inv = nothing_told (Look AskWork) (outcome (Look AskWork) n ps).reply n ps activity changes later inv
+look_keeps AskRemovable n ps activity changes later inv = nothing_told (Look AskRemovable) (outcome (Look AskRemovable) n ps).reply n ps activity changes later inv
+look_keeps AskPresent n ps activity changes later inv = present_keeps n ps activity changes later inv

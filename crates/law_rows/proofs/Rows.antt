@@ -9,9 +9,9 @@ use Rattle.row_values.specs.declared.value.Item.{Item}
 use Rattle.row_values.specs.Ids.{Id, same}
 use Rattle.row_values.specs.Elements.{In}
 use Rattle.row_values.specs.Ranges.{in_range}
-use Rattle.model.specs.Journal.{Change, RowChanged, is_in, namespace_at, table_at, row_at}
+use Rattle.model.specs.Journal.{Change, RowChanged, namespace_at, table_at, row_at}
 use Rattle.model.specs.Tablets.{Tablet}
-use Rattle.model.specs.Right.{is_fixed, NothingLate}
+use Rattle.model.specs.Right.{is_fixed}
 use Rattle.model.specs.RowActs.{covers}
 use Rattle.law_invariants.specs.Operations.{is_switched}
 use Rattle.law_invariants.proofs.Working.{before_any}
@@ -39,14 +39,6 @@ namespaces_stay (item ∷ items) n table changes x id = namespaces_stay items n 
 pub fixed_stay : (items : List Item) (n : ℕ) (table : Id) (changes : List Change) (ns : Id) (t : ℕ) → is_fixed (rows_made n table items changes) ns t ≡ is_fixed changes ns t
 fixed_stay [] n table changes ns t = refl
 fixed_stay (item ∷ items) n table changes ns t = fixed_stay items n table (row_change n table item ∷ changes) ns t
-
--- rows written after each time that is fixed for their table's namespace are not late
-pub rows_not_late : (items : List Item) (n : ℕ) (table : Id) (changes : List Change) → NothingLate changes
-    → ((ns : Id) (t : ℕ) → is_fixed changes ns t ≡ true → is_in ns (table_at changes t table) ≡ true → t < n) → NothingLate (rows_made n table items changes)
-rows_not_late [] n table changes late soon = late
-rows_not_late (item ∷ items) n table changes late soon = rows_not_late items n table (row_change n table item ∷ changes)
-    (late, λ ns t fixed is. soon ns t fixed is)
-    (λ ns t fixed is. soon ns t fixed (ap (is_in ns) (sym (one_way (leb n t) (table_at changes t table))) ∙ is))
 
 -- rows of other tables, keys outside the tablet's range, and times before the stamp stay
 row_stays : (late table_same key_same there : Bool) (r s : Row) → (late ≡ true → table_same ≡ true → key_same ≡ true → ⊥)

@@ -14,9 +14,9 @@ use Rattle.row_values.specs.Store.{written}
 use Rattle.model.specs.Catalog.{owner_of, name_of, kept_from}
 use Rattle.model.specs.Activity.{Interval, active_at}
 use Rattle.model.specs.Journal.{Change, RowChanged, TableView, is_in, table_at, row_at, namespace_at}
-use Rattle.model.specs.Records.{Listed, RestorationRecord, RestorationState, Fencing, Snapshotting, Switching, Restoring, Releasing, Restored, point_of}
-use Rattle.model.specs.Stands.{awaited_in, awaited_of, first_of_two}
-use Rattle.model.specs.Tablets.{Tablet, Mark, act_for, effect, is_serving, serves, wrote, Write as WriteRows, FrozenSet}
+use Rattle.model.specs.Records.{Listed, RestorationRecord, RestorationState, Fencing, Restoring, Releasing, Restored, point_of}
+use Rattle.model.specs.Stands.{awaited_in, awaited_of}
+use Rattle.model.specs.Tablets.{Tablet, act_for, effect, is_serving, serves, wrote, Write as WriteRows, FrozenSet}
 use Rattle.model.specs.Acts.{At, Write, Ok, Fenced, StaleSchema}
 use Rattle.model.specs.Parts.{Master, Parts, If, Names}
 use Rattle.model.specs.Entries.{slots_of}
@@ -38,9 +38,11 @@ use Rattle.law_invariants.proofs.Finding.{not_passing, both_pass, same_self, sam
 use Rattle.law_invariants.proofs.Ticking.{refused_keeps, by_checks, KeepsAll, below_later, over_later}
 use Rattle.law_invariants.proofs.Frame.{one_told, rows_told, tells}
 use Rattle.law_invariants.proofs.Overlap.{ends_before, code_below}
-use Rattle.law_rows.proofs.Keeping.{one_touched, clock_before, has_it}
-use Rattle.law_rows.proofs.Rows.{row_change, rows_in, unswitched_stay, tables_stay, namespaces_stay, fixed_stay, switched_stay, before_stay, rows_not_late, not_written, rows_written}
+use Rattle.law_rows.proofs.Keeping.{one_touched}
+use Rattle.law_invariants.proofs.Told.{clock_before, has_it}
+use Rattle.law_rows.proofs.Rows.{row_change, rows_in, unswitched_stay, tables_stay, namespaces_stay, fixed_stay, switched_stay, before_stay, not_written, rows_written}
 use Rattle.law_invariants.proofs.Remembering.{kept_all}
+use Rattle.law_invariants.proofs.Awaiting.{settled_none}
 
 -- the master's facts under changes of rows
 master_written : (m : Master) (n : ℕ) (table : Id) (batch : List Item) (changes : List Change) → MasterGood m changes → MasterGood m (rows_made n table batch changes)
@@ -88,20 +90,6 @@ slot_stays m n table batch changes slot t stays h =
 
 eqb_at : (a b : ℕ) → a ≡ b → eqb a b ≡ true
 eqb_at a b e = grind (arith, nat_tests)
-
--- a tablet that awaits no rows awaits none of any restoration
-pub settled_none : (rs : List RestorationRecord) (tablet : Id) (done : List Mark) → awaited_in rs tablet done ≡ None → (r : RestorationRecord) → In r rs → awaited_of r.state r tablet done ≡ None
-settled_none [] tablet done e r isin = absurd isin
-settled_none (q ∷ rs) tablet done e r isin =
-    let both = neither_of (awaited_of q.state q tablet done) (awaited_in rs tablet done) e in
-    elim isin as (λ _. awaited_of r.state r tablet done ≡ None) [
-      | inl is ↦ ap (λ k. awaited_of k.state k tablet done) (sym is) ∙ both.0
-      | inr rest ↦ settled_none rs tablet done both.1 r rest
-    ]
-  where
-    neither_of : (a b : Option ℕ) → first_of_two a b ≡ None → (a ≡ None) × (b ≡ None)
-    neither_of None b e = (refl, e)
-    neither_of (Some x) b e = absurd (let q = e in grind arith)
 
 -- a batch that a tablet takes has its keys in the range
 item_keys : (items : List Item) (t : Tablet) → list_all (λ item. covers t item.key) items ≡ true → EachItemKey (λ key. in_range t.low t.high (code_of key)) items
@@ -265,37 +253,31 @@ written_inv ps activity changes n place version batch later from inv takes_ unfe
     let same_ : SameFixed changes new = rows_fixed n t.table batch changes in
     let stays = sources_stay ps.master n batch changes slot t less serving unfenced all inv.operations (inv.works slot) in
     let w = works_journal ps.master changes new slot t drawn same_ stays inv.operations (inv.works slot) in
-    record {
-      right = tt;
-      inv = one_told (Write place version batch) (Ok []) slot (WriteRows batch) n ps activity (rows_made n t.table batch changes) later (one_touched slot from)
-          (master_written ps.master n t.table batch changes inv.master)
-          (λ j apart. slot_stays ps.master n t.table batch changes j (ps.tablet j)
-          (λ i key x isin is ranged before. not_written batch n t.table i.table t changes key x all
-          (λ tables_same range.
-          let g = (inv.slots j).each i isin is in
-          let soon : x < o.interval.from = ends_before activity i o.interval t.table (code_of key) x (ps.tablet j).clock
-          (inv.cover.once t.table (code_of key) (max i.from o.interval.from) (code_below key)) (kept_all inv.remembered i isin) (kept_all inv.remembered o.interval o.listed)
-          (λ e. true≢false (sym (eqb_at slot j (sym o.slot_is ∙ sym e ∙ is)) ∙ apart))
-          (subst (λ k. same k t.table ≡ true) (same_equal t.table i.table tables_same) (same_self t.table))
-          (subst (λ k. same k t.table ≡ true) z.table_is (same_self t.table))
-          ranged (rw (← z.low_is, ← z.high_is) range) g.over o.opened before in
-          lt_of_lt_of_le soon (le_trans o.begun (le_of_lt less))))
-          (inv.slots j))
-          (slot_written ps.master n batch changes slot t less serving unfenced all h)
-          (operations_journal ps.master changes new drawn same_ (all_listed ps.master changes inv.master) inv.operations)
-          (journal_written ps.master n batch changes slot t serving unfenced inv.operations h (inv.works slot) inv.journal)
-          (rows_heard ps activity changes n place version batch later from inv serving unfenced)
-          (λ j apart. works_journal ps.master changes new j (ps.tablet j) drawn same_ stays inv.operations (inv.works j))
-          (record {
-            orders = orders_mild ps.master slot t n t.version (written t.versions n batch) t.cutoff (le_of_lt less) w.orders;
-            obeyed = obeyed_mild ps.master new slot t n t.version (written t.versions n batch) t.cutoff t.inbox (le_of_lt less) (inr unfenced) (λ r l point served isin is lists at e. e) w.obeyed;
-          })
-          inv.remembered
-          (cover_written activity n t.table batch changes inv.cover)
-          (rows_not_late batch n t.table changes inv.late (λ ns to fixed is.
-          let l = h.later ns to fixed serving unfenced (owner_is ns (table_at changes to t.table) (owner_of ps.master.catalog.owners t.table) (λ w e. inv.master.tables.inside t.table to w e) is) in
-          omega arith));
-    }
+    one_told (Write place version batch) (Ok []) slot (WriteRows batch) n ps activity (rows_made n t.table batch changes) later (one_touched slot from)
+    (master_written ps.master n t.table batch changes inv.master)
+    (λ j apart. slot_stays ps.master n t.table batch changes j (ps.tablet j)
+    (λ i key x isin is ranged before. not_written batch n t.table i.table t changes key x all
+    (λ tables_same range.
+    let g = (inv.slots j).each i isin is in
+    let soon : x < o.interval.from = ends_before activity i o.interval t.table (code_of key) x (ps.tablet j).clock
+    (inv.cover.once t.table (code_of key) (max i.from o.interval.from) (code_below key)) (kept_all inv.remembered i isin) (kept_all inv.remembered o.interval o.listed)
+    (λ e. true≢false (sym (eqb_at slot j (sym o.slot_is ∙ sym e ∙ is)) ∙ apart))
+    (subst (λ k. same k t.table ≡ true) (same_equal t.table i.table tables_same) (same_self t.table))
+    (subst (λ k. same k t.table ≡ true) z.table_is (same_self t.table))
+    ranged (rw (← z.low_is, ← z.high_is) range) g.over o.opened before in
+    lt_of_lt_of_le soon (le_trans o.begun (le_of_lt less))))
+    (inv.slots j))
+    (slot_written ps.master n batch changes slot t less serving unfenced all h)
+    (operations_journal ps.master changes new drawn same_ (all_listed ps.master changes inv.master) inv.operations)
+    (journal_written ps.master n batch changes slot t serving unfenced inv.operations h (inv.works slot) inv.journal)
+    (rows_heard ps activity changes n place version batch later from inv serving unfenced)
+    (λ j apart. works_journal ps.master changes new j (ps.tablet j) drawn same_ stays inv.operations (inv.works j))
+    (record {
+      orders = orders_mild ps.master slot t n t.version (written t.versions n batch) t.cutoff (le_of_lt less) w.orders;
+      obeyed = obeyed_mild ps.master new slot t n t.version (written t.versions n batch) t.cutoff t.inbox (le_of_lt less) (inr unfenced) (λ r l point served isin is lists at e. e) w.obeyed;
+    })
+    inv.remembered
+    (cover_written activity n t.table batch changes inv.cover)
 
 pub write_keeps : (ps : Parts) (activity : List Interval) (changes : List Change) (n : ℕ) (place : At) (version : ℕ) (batch : List Item) → Later (slots_of (Write place version batch)) ps n → 1 ≤ place.slot → Inv ps activity changes
     → KeepsAll (Write place version batch) n ps activity changes (write place version batch n ps)
@@ -305,5 +287,5 @@ write_keeps ps activity changes n place version batch later from inv =
     by_checks (Write place version batch) n ps activity changes
     (If (not (serves_all t place.tablet batch)) (has_moved place.slot t) ∷ Names t.fence Fenced ∷ If (not (eqb t.version version)) (StaleSchema t.version) ∷ [])
     (tells place.slot (WriteRows batch) (Ok []))
-    (λ why. refused_keeps (Write place version batch) why n ps activity changes later inv tt refl)
+    (λ why. refused_keeps (Write place version batch) why n ps activity changes later inv refl)
     (λ passes. written_inv ps activity changes n place version batch later from inv (passed _ passes.0) (none_is t.fence passes.1.0))

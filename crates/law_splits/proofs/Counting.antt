@@ -11,7 +11,7 @@ use Rattle.model.specs.Journal.{Change}
 use Rattle.model.specs.Stands.{holders}
 use Rattle.model.specs.Changed.{begins, next_tablet}
 use Rattle.model.specs.Parts.{Master}
-use Rattle.model.specs.Strict.{HasRange}
+use Rattle.model.specs.Stands.{HasRange}
 use Rattle.law_store.proofs.Keys.{either_way}
 use Rattle.law_invariants.specs.Invariant.{Covered}
 use Rattle.law_invariants.proofs.Finding.{both_pass, passes_both, same_equal, same_self, in_append, in_mapped}

@@ -12,7 +12,7 @@ use Rattle.law_invariants.proofs.Finding.{both_pass, passes_both, none_or_some, 
 use Rattle.law_invariants.proofs.Ticking.{ends_later}
 use Rattle.law_invariants.proofs.Holding.{end_weaker}
 use Rattle.law_invariants.proofs.Operating.{NotHeld, GoesOn}
-use Rattle.law_changes.proofs.Dropping.{ended_ends, closed}
+use Rattle.law_invariants.proofs.Ending.{ended_ends, closed}
 
 -- where an interval ends that may be one of the tablet's
 abbrev pub cut_end : Id → ℕ → Interval → Option ℕ

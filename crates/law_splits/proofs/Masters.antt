@@ -1,7 +1,7 @@
 -- The master after a split: operations go on, and what is remembered of all tablets.
 use Rattle.std.proofs.Common.{ℕ, ◌≡◌, ◌≤◌, ◌<◌, ◌+◌, List, [], ◌∷◌, Some, ◌⊎◌, inl, inr, refl, sym, ap, subst, ◌∙◌, arith, le_trans, le_refl, le_of_lt}
 use Rattle.std.proofs.lemmas.Bool.{true≢false}
-use Rattle.row_values.specs.Ids.{Kind, Namespace, Table, Tablet as TabletKind, Schedule, Snapshot, Restoration, Clone, Id, same}
+use Rattle.row_values.specs.Ids.{Kind, Tablet as TabletKind, Id, same}
 use Rattle.row_values.specs.Elements.{In}
 use Rattle.model.specs.Times.{ended_by}
 use Rattle.model.specs.Activity.{Interval, end_tablet}
@@ -18,7 +18,7 @@ use Rattle.law_invariants.proofs.Ticking.{namespaces_later, tables_later}
 use Rattle.law_invariants.proofs.Remembering.{forgotten_on, kept_all}
 use Rattle.law_invariants.proofs.Operating.{NotHeld, GoesOn, IsNew, Onward}
 use Rattle.law_invariants.proofs.Working.{TablesDrawn}
-use Rattle.law_changes.proofs.Quiet.{same_names}
+use Rattle.law_invariants.proofs.Quiet.{same_names}
 use Rattle.law_splits.proofs.Cutting.{cut, cut_other, cut_stays, stays_same, goes_cut}
 use Rattle.law_splits.proofs.Counting.{low_child, high_child, both_children}
 use Rattle.law_splits.proofs.Slots.{IsSplit, split_activity, split_master, each_split, cut_in}

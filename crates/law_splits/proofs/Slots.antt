@@ -21,11 +21,10 @@ use Rattle.law_invariants.proofs.Working.{same_fixed}
 use Rattle.law_invariants.proofs.Finding.{both_pass, passes_both, second_fails, not_passing, same_equal, same_self, in_append, in_first, in_second, in_mapped, map_in}
 use Rattle.law_invariants.proofs.Ticking.{below_later, tablet_ticked}
 use Rattle.law_invariants.proofs.Operating.{NotHeld}
-use Rattle.law_changes.proofs.Awaiting.{AwaitNone}
-use Rattle.law_changes.proofs.Creating.{awaited_none, new_unlisted, new_awaits}
-use Rattle.law_changes.proofs.Dropping.{ended_over, not_open, over_then, stamp_is, calm_here}
-use Rattle.law_changes.proofs.Free.{AreFree, rise_in}
-use Rattle.law_changes.proofs.Quiet.{Carries, good_carried}
+use Rattle.law_invariants.proofs.Awaiting.{AwaitNone, calm_here, awaited_none, new_unlisted, new_awaits}
+use Rattle.law_invariants.proofs.Ending.{ended_over, not_open, over_then, stamp_is}
+use Rattle.law_invariants.proofs.Free.{AreFree, rise_in}
+use Rattle.law_invariants.proofs.Quiet.{Carries, good_carried}
 use Rattle.law_splits.proofs.Cutting.{cut, cut_end, cut_mine, cut_other, cut_earlier, cut_active, cut_past, stays_same}
 use Rattle.law_splits.proofs.Counting.{low_child, high_child, both_children}
 

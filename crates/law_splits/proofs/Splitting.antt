@@ -31,12 +31,12 @@ use Rattle.law_invariants.proofs.Undoing.{same_rows, journal_on}
 use Rattle.law_invariants.proofs.Operating.{not_held, operations_on}
 use Rattle.law_invariants.proofs.Ordering.{orders_on, obeyed_on, placed_works, hidden_works, not_fenced}
 use Rattle.law_invariants.proofs.Working.{tables_drawn, all_listed}
-use Rattle.law_changes.proofs.Told.{slots_told, master_early, tablet_early, slots_equal}
-use Rattle.law_changes.proofs.Changing.{change_keeps}
-use Rattle.law_changes.proofs.Plans.{has_in}
-use Rattle.law_changes.proofs.Free.{AreFree, least_free}
-use Rattle.law_changes.proofs.Awaiting.{none_await}
-use Rattle.law_changes.proofs.Quiet.{marks_stay}
+use Rattle.law_invariants.proofs.Told.{slots_told, master_early, tablet_early, slots_equal}
+use Rattle.law_invariants.proofs.Stale.{change_keeps}
+use Rattle.law_invariants.proofs.Plans.{has_in}
+use Rattle.law_invariants.proofs.Free.{AreFree, least_free}
+use Rattle.law_invariants.proofs.Awaiting.{none_await}
+use Rattle.law_invariants.proofs.Quiet.{marks_stay}
 use Rattle.law_splits.proofs.Counting.{low_child, high_child, both_children, AllLike, split_covers}
 use Rattle.law_splits.proofs.Parents.{parent_found, open_kept}
 use Rattle.law_splits.proofs.Slots.{IsSplit, split_activity, split_master, slot_parent, mine_here, IsChild, slot_child, slot_else}
@@ -213,7 +213,6 @@ split_inv ps activity changes n command code a b version p made below later s in
           (slot_child m n changes p code a b t (ps.tablet a) version a 0 p.low code s child_a inv.master early free known h)
           (slot_child m n changes p code a b t (ps.tablet b) version b 1 code p.high s child_b inv.master early free known h)
           (λ i not_p not_a not_b. slot_else m n changes p code a b (ps.tablet i) i s not_a not_b (λ v isin at e. not_p (sym at ∙ (mine v isin e).0)) (inv.slots i));
-      late = inv.late;
     }
 
 -- what a split was found to be
@@ -247,7 +246,7 @@ split_keeps ps activity changes n namespace table code slots later asked plan in
     let command = Split namespace table code in
     let before : m.clock < n = master_early slots ps n later in
     by_judgement (Change command slots) n ps activity changes (judge_split namespace table code m) _
-    (λ why. refused_keeps (Change command slots) why n ps activity changes later inv tt refl)
+    (λ why. refused_keeps (Change command slots) why n ps activity changes later inv refl)
     (λ f judged.
     let by = and_found_is (checked (found_parent m namespace table code) (λ p. split_checks p code m)) (λ p. family p (free_slots m)) (SlotsFull (length (free_slots m)) 2) f judged in
     let parent = by.0 in
@@ -279,11 +278,8 @@ split_keeps ps activity changes n namespace table code slots later asked plan in
       owner = owned;
       unheld = not_held m ns unheld;
     } in
-    record {
-      right = tt;
-      inv = subst (λ ss. Later (0 ∷ ss) ps n → Inv (told (Change command ss) (splitting f code n m (ps.tablet p.slot)) n ps) (activity_after (Change command ss) (splitting f code n m (ps.tablet p.slot)) n ps activity) changes) (sym is_slots)
-          (λ early. split_inv ps activity changes n command code a b f.parent.table.schema.version p (next_tablet m.drawn.tablets 1 ∷ next_tablet m.drawn.tablets 2 ∷ []) asked.2 early s inv) later;
-    })
+    subst (λ ss. Later (0 ∷ ss) ps n → Inv (told (Change command ss) (splitting f code n m (ps.tablet p.slot)) n ps) (activity_after (Change command ss) (splitting f code n m (ps.tablet p.slot)) n ps activity) changes) (sym is_slots)
+    (λ early. split_inv ps activity changes n command code a b f.parent.table.schema.version p (next_tablet m.drawn.tablets 1 ∷ next_tablet m.drawn.tablets 2 ∷ []) asked.2 early s inv) later)
 
 -- a split under its plan
 pub split_change_keeps : (ps : Parts) (activity : List Interval) (changes : List Made) (n : ℕ) (namespace table : List ℕ) (code : ℕ) (slots : List ℕ) → Later (slots_of (Change (Split namespace table code) slots)) ps n

@@ -10,14 +10,16 @@ use Rattle.step_table.proofs.Puts.{length_put, found_at}
 use Rattle.step_table.proofs.Laws.{length_pick}
 use Rattle.model.specs.Acts.{Event}
 use Rattle.model.specs.Entries.{Entry, Asked, touches, slots_of, log_of}
-use Rattle.model.specs.History.{Legal, held, entry_of, most_entries}
+use Rattle.model.specs.History.{Legal, held, entry_of, most_entries, replay}
+use Rattle.law_local.specs.Agreeing.{Agree}
 use Rattle.machine_laws.specs.Views.{AnswerView, PartView, PartAct}
-use Rattle.machine_laws.specs.Laid.{told_acts, all_after, kept_in, entries_in, HasKind, AreKinds}
+use Rattle.machine_laws.specs.Laid.{lay, parts_of, told_acts, all_after, kept_in, entries_in, HasKind, AreKinds}
 use Rattle.machine_laws.specs.Faults.{StepFault, fault_of}
 use Rattle.machine_laws.specs.Past.{IsPast, IsLegal}
-use Rattle.machine_laws.specs.Core.{Coding, core_of, May, first_notes, stamp_at, outcome_at, answer_at, after_at}
+use Rattle.machine_laws.specs.Core.{Coding, core_of, May, Fits, first_notes, stamp_at, outcome_at, answer_at, after_at}
 use Rattle.machine_laws.proofs.Slots.{rising_is, touched_below, touched_some}
 use Rattle.machine_laws.proofs.Laying.{is_eq, get_found, count_acts}
+use Rattle.machine_laws.proofs.Stepping.{agree}
 use Rattle.machine_laws.proofs.Pasts.{past_next}
 
 below : (count : ℕ) (e : Event) → May count e → Every (λ k. k < count) (touches e.act)
@@ -82,9 +84,22 @@ lawful code = record {
   some = λ count e may. touched_some (count - 1) e.act may.1.act;
   rising = λ count e may. rising_is (slots_of e.act);
   below = below;
-  fits = λ ps e legal may. record { count = length ps; may = may; size = length_pick (touches e.act) ps (below (length ps) e may); kinds = kinds_picked (touches e.act) ps (below (length ps) e may) legal.past.kinds };
+  fits = λ ps e legal may. record {
+    parts = ps;
+    legal = legal;
+    may = may;
+    touched = refl;
+    size = length_pick (touches e.act) ps (below (length ps) e may);
+    kinds = kinds_picked (touches e.act) ps (below (length ps) e may) legal.past.kinds;
+  };
   stays = λ ps e n legal may fine number. stays ps e n legal may (no_refusal code.refused (fault_of (stamp_at (pick (touches e.act) ps) e) (touches e.act) (pick (touches e.act) ps)) fine);
   adds = λ held e n fits fine. adds held e n fits.size;
   few = λ ps legal. legal.few;
   short = λ ps legal. each_short ps (λ k l. let h = legal.past.holds k l in let m = held_most legal.slots k legal.history legal.past.legal in omega arith);
 }
+
+-- held parts are what the history of all parts leaves of them
+pub held_replayed : {R : Type 0} (e : Event) (held : List (PartView R)) (fits : Fits held e) → Agree (slots_of e.act) (lay (touches e.act) held) (replay fits.legal.slots fits.legal.history)
+held_replayed e held fits =
+    subst (λ ps. Agree (slots_of e.act) (lay (touches e.act) held) ps) fits.legal.past.shows
+    (subst (λ hs. Agree (slots_of e.act) (lay (touches e.act) hs) (parts_of fits.parts)) (sym fits.touched) (agree e.act fits.parts (below (length fits.parts) e fits.may)))

@@ -2,6 +2,7 @@
 use Rattle.std.specs.Prelude.{ℕ, ◌≡◌, ◌≤◌, ◌-◌, ◌++◌, List, [], ◌∷◌, length}
 use Rattle.std.specs.Option.{option_map}
 use Rattle.step_table.specs.declared.known.Entry.{Entry}
+use Rattle.step_table.specs.Lists.{pick}
 use Rattle.step_table.specs.Machines.{Core}
 use Rattle.model.specs.Acts.{Event}
 use Rattle.model.specs.Parts.{Parts, Outcome}
@@ -51,9 +52,13 @@ module _ {R : Type 0} where
 abbrev pub May : ℕ → Event → Type 0
 May count e = (1 ≤ count) × Asked (count - 1) e
 
+-- the held parts are those that an event touches which is asked of a cluster, and the cluster's parts have a legal
+-- history as their past
 pub record Fits {R : Type 0} (held : List (PartView R)) (e : Event) : Type 0 where
-  pub count : ℕ
-  pub may : May count e
+  pub parts : List (PartView R)
+  pub legal : IsLegal parts
+  pub may : May (length parts) e
+  pub touched : held ≡ pick (touches e.act) parts
   pub size : length held ≡ length (touches e.act)
   pub kinds : AreKinds (touches e.act) held
 

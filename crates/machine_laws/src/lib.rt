@@ -10,14 +10,15 @@ ghost use Rattle.step_table.specs.declared.known.Entry as logged;
 ghost use Rattle.step_table.specs.Lists.{pick};
 ghost use Rattle.step_table.specs.Machines.{Lawful, IsStep, IsRight, next, leaves};
 ghost use Rattle.model.specs.Acts.{Event};
-ghost use Rattle.model.specs.Entries.{Entry, touches};
-ghost use Rattle.model.specs.History.{entry_of};
+ghost use Rattle.model.specs.Entries.{Entry, slots_of, touches};
+ghost use Rattle.model.specs.History.{entry_of, replay};
+ghost use Rattle.law_local.specs.Agreeing.{Agree};
 ghost use Rattle.machine_laws.specs.Views.{AnswerView, PartView, clock_of};
 ghost use Rattle.machine_laws.specs.Laid.{lay, AreKinds};
 ghost use Rattle.machine_laws.specs.Faults.{fault_after};
 ghost use Rattle.machine_laws.specs.Past.{IsPast, book_entry, book_onto};
 ghost use Rattle.machine_laws.specs.Starts.{IsStart};
-ghost use Rattle.machine_laws.specs.Core.{Coding, core_of, May, stamp_at};
+ghost use Rattle.machine_laws.specs.Core.{Coding, core_of, May, Fits, stamp_at};
 
 /// What code adds to the book's machine. `coding` says what room a part without room has, which event
 /// was prepared and what its parts need, and what is answered where no event is performed.
@@ -50,8 +51,10 @@ pub fn steps_are_the_books<C: ClusterCode>()
 {}
 
 /// Who holds the touched parts knows the step. The stamp is that over the clocks of the held parts, in
-/// whatever order the act names their slots, and what their meanings show is what they show.
+/// whatever order the act names their slots, and each part is what a legal history leaves of it. What
+/// their meanings show is what they show.
 pub fn held_parts_say_the_step<C: ClusterCode>()
     ensures stamp { (e : Event) (held : List (PartView C.Room)) → AreKinds (touches e.act) held → length held ≡ length (touches e.act) → rule.stamp_of 0 (map (λ (p : PartView C.Room). clock_of p.kept) held) e.reading ≡ stamp_at held e }
+    ensures replayed { (e : Event) (held : List (PartView C.Room)) (fits : Fits held e) → Agree (slots_of e.act) (lay (touches e.act) held) (replay fits.legal.slots fits.legal.history) }
     ensures meant { (slots : List ℕ) (held : List (PartView C.Room)) → lay slots (map (core_of C.coding).meaning held) ≡ lay slots held }
 {}

@@ -107,7 +107,6 @@ pub data Refusal : Type 0 where
   Waiting : (on : Id) → Refusal
   InWindow : (at floor : ℕ) → Refusal
   IsListed : (by : Id) → Refusal
-  Gone : (wanted cutoff : ℕ) → Refusal
 
 -- a tablet of a table with its place and range
 pub record Place : Type 0 where

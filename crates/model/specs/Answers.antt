@@ -68,7 +68,7 @@ Rising (p ∷ places) = AllOf (λ later. p.low < later.low) places × Rising pla
 
 -- the places are all the table's tablets that are active at the stamp, also where a time is asked, by range
 pub record ArePlaces (activity : List Interval) (now : ℕ) (table : Id) (places : List Place) : Type 0 where
-  pub each : (place : Place) → In place places → IsActivePlace activity now table [] place
+  pub each : (place : Place) → In place places → IsActivePlace activity now table place
   pub all : (i : Interval) → In i activity → i.table ≡ table → active_at now i ≡ true → In (place_of i) places
   pub rising : Rising places
 

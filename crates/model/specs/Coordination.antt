@@ -1,8 +1,8 @@
 -- A coordinator brings a record's commands to the listed tablets: it sends one, has the tablet do it, and tells the
 -- master that it is done.
-use Rattle.std.specs.Prelude.{ℕ, List, [], ◌∷◌, ◌++◌, Option, Some, None, ◌==◌, ◌&&◌, not, nat_lt, map, if◌then◌else◌, option_and_then, find}
+use Rattle.std.specs.Prelude.{ℕ, List, [], ◌∷◌, ◌++◌, Option, Some, None, ◌==◌, ◌&&◌, not, map, if◌then◌else◌, option_and_then, find}
 use Rattle.model.specs.Words.{KeyedRow, Id, Kind, Namespace, Table, Tablet, Schedule, Snapshot, Restoration, Clone, same}
-use Rattle.model.specs.Cluster.{Tablet as TabletPart, FrozenSet, Body, Fence, Freeze, RestoreFrom, Hide, Copy, Release, Offer, set_of, rows_of_set, cutoff_of_set, kind_of, is_done, Listed, SnapshotRecord, RestorationRecord, CloneRecord, unacked_at, acked_at, is_restored, is_cloned, is_sent, unsent_at, NotPending, Idle, OtherSlot, NotDone, Gone, SentTo, Done, Acked, Refused, Master, Parts, Outcome, Check, If, Ticks, Sends, Acks, Unsends, judged, refused}
+use Rattle.model.specs.Cluster.{Tablet as TabletPart, FrozenSet, Body, Fence, Freeze, RestoreFrom, Hide, Copy, Release, Offer, set_of, rows_of_set, kind_of, is_done, Listed, SnapshotRecord, RestorationRecord, CloneRecord, unacked_at, acked_at, is_restored, is_cloned, is_sent, unsent_at, NotPending, Idle, OtherSlot, NotDone, SentTo, Done, Acked, Refused, Master, Parts, Outcome, If, Ticks, Sends, Acks, Unsends, judged, refused}
 use Rattle.model.specs.Tablets as tell
 use Rattle.model.specs.Tablets.{Command}
 
@@ -72,22 +72,10 @@ rows_for (RestoreFrom snapshot to point version) frozen = []
 rows_for (Hide ended) frozen = []
 rows_for (Release cutoff) frozen = []
 
--- the history of the frozen set that a command takes its rows from may be cut above the time that it asks for
-abbrev pub gone_from : Option FrozenSet → ℕ → Check
-gone_from set to = If (nat_lt to (cutoff_of_set set)) (Gone to (cutoff_of_set set))
-
-abbrev pub gone : Body → List FrozenSet → List Check
-gone (RestoreFrom snapshot to point version) frozen = gone_from (set_of frozen snapshot) to ∷ []
-gone (Copy source snapshot to stamp table low high version) frozen = gone_from (set_of frozen snapshot) to ∷ []
-gone Fence frozen = []
-gone (Freeze snapshot at) frozen = []
-gone (Hide ended) frozen = []
-gone (Release cutoff) frozen = []
-
 abbrev pub processing : List Command → ℕ → ℕ → TabletPart → Outcome
 processing [] slot other source = refused Idle
 processing (c ∷ cs) slot other source = judged
-    (If (not (other == source_slot slot c.body)) (OtherSlot (source_slot slot c.body)) ∷ gone c.body source.frozen)
+    (If (not (other == source_slot slot c.body)) (OtherSlot (source_slot slot c.body)) ∷ [])
     (record {
       master = Ticks;
       tablets = record { slot = slot; act = tell.Process (rows_for c.body source.frozen) } ∷ [];

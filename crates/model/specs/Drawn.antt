@@ -1,11 +1,11 @@
 -- Numbers that are drawn once, over the whole history, whatever is restored: identifiers, the ids of a table's
 -- columns, and the versions of its schema.
 use Rattle.std.specs.Prelude.{◌≡◌, ℕ, ◌≤◌, ◌<◌, Bool, List, [], ◌∷◌, ◌++◌, Option, Some, None, ◌+◌, ◌*◌, ◌==◌, ◌||◌, ◌&&◌, nat_lt, max, fold, map, length, if◌then◌else◌, unwrap_or, ◌-◌, filter, option_to_list}
-use Rattle.model.specs.Words.{list_any, option_map_or, Id, Kind, Namespace, Table, Tablet, Schedule, Snapshot, Restoration, Clone, id_bound, same, In, in_order, Column, Schema, same_kind}
-use Rattle.model.specs.Cluster.{namespace_named, tables_at, latest, Interval, SnapshotRecord, CloneRecord, IdPair, TabletPair, State, Act, Reply, Drawn, Master, none_drawn, deed_of, Commands, Advances, Obeys, NoDeed, success_of, Makes, Enters, Does, NoSuccess, making_of, ANamespace, ATable, TwoTablets, ASchedule, ASnapshot, ARestoration, AClone, Nothing, is_snapshotting, named_by_restoration, named_by_clone}
+use Rattle.model.specs.Words.{option_map_or, Id, Kind, Namespace, Table, Tablet, Schedule, Snapshot, Restoration, Clone, id_bound, same, In, in_order, Column, Schema}
+use Rattle.model.specs.Cluster.{namespace_named, tables_at, latest, SnapshotRecord, CloneRecord, TabletPair, State, Act, Reply, Drawn, Master, none_drawn, deed_of, Commands, Advances, Obeys, NoDeed, success_of, Makes, Enters, Does, NoSuccess, making_of, Making, ANamespace, ATable, TwoTablets, ASchedule, ASnapshot, ARestoration, AClone, Nothing, is_snapshotting, named_by_restoration, named_by_clone}
 use Rattle.model.specs.Journal as made
 use Rattle.model.specs.Acts.{Command}
-use Rattle.model.specs.Lists.{by_range, numbered_as, tablets_active_at}
+use Rattle.model.specs.Lists.{by_table_and_range, numbered_as, tablets_active_at}
 use Rattle.model.specs.Coordination.{unfinished_restoration, unfinished_clone}
 use Rattle.model.specs.Journal.{ChangeAct, NamespaceMade, NamespaceDropped, TableMade, TableRenamed, TableDropped, ColumnAdded, ColumnDropped, RowChanged, NamespaceRestored, NamespaceCloned, TableView, is_in, source_of, table_at}
 use Rattle.model.specs.Entries.{Entry}
@@ -86,48 +86,64 @@ drawn_by act reply n m = elim (deed_of act) [
 
 -- Which
 
--- these identifiers of a kind, and none of another
-abbrev pub only : Kind → List Id → Kind → List Id
-only kind ids asked = if same_kind asked kind then ids else []
-
--- the tablets of tables, those of each in order of range
-abbrev pub tablets_of : List Interval → List Id → List Id
-tablets_of activity [] = []
-tablets_of activity (table ∷ tables) =
-    map {A = Interval} (λ i. i.tablet) (by_range (filter (λ i. same i.table table) activity))
-    ++ tablets_of activity tables
+-- those of a list beyond so many that were drawn
+abbrev pub beyond : ℕ → List Id → List Id
+beyond drawn ids = filter (λ id. nat_lt drawn id.number) ids
 
 -- a clone's tablets stand in order of table, then of range
 abbrev pub is_pair_before : TabletPair → TabletPair → Bool
 is_pair_before p q = nat_lt p.table.number q.table.number || (p.table.number == q.table.number) && nat_lt p.low q.low
 
--- what clones gave: their namespaces; their tables, in order of the source's table; their tablets
-abbrev pub given_to_clones : List CloneRecord → Kind → List Id
-given_to_clones [] kind = []
-given_to_clones (c ∷ cs) kind =
-    let tables = in_order (λ p q. nat_lt p.source.number q.source.number) c.tables in
-    only Namespace (c.target_id ∷ []) kind
-    ++ only Table (map {A = IdPair} (λ p. p.target) tables) kind
-    ++ only Tablet (map {A = TabletPair} (λ p. p.target) (in_order is_pair_before c.tablets)) kind
-    ++ only Clone (c.id ∷ []) kind
-    ++ given_to_clones cs kind
+-- what a clone is to make: its namespace; its tables, in order of the source's table; its tablets
+abbrev pub reserved_in : Kind → CloneRecord → List Id
+reserved_in Namespace c = c.target_id ∷ []
+reserved_in Table c = map (λ p. p.target) (in_order (λ p q. nat_lt p.source.number q.source.number) c.tables)
+reserved_in Tablet c = map (λ p. p.target) (in_order is_pair_before c.tablets)
+reserved_in Schedule c = []
+reserved_in Snapshot c = []
+reserved_in Restoration c = []
+reserved_in Clone c = []
 
--- the records of the clones that a command made
-abbrev pub clones_made : List Id → List CloneRecord → List CloneRecord
-clones_made made cs = filter (λ c. list_any (same c.id) made) cs
+abbrev pub reserved_by : List CloneRecord → Kind → List Id
+reserved_by [] kind = []
+reserved_by (c ∷ cs) kind = reserved_in kind c ++ reserved_by cs kind
 
--- what an accepted command gave of each kind, by the identifiers of its reply and the master that it leaves
-abbrev pub given_for : Command → List Id → Master → Kind → List Id
-given_for command made m kind = elim (making_of command) [
-  | ANamespace ↦ only Namespace made kind
-  | ATable tablets ↦ only Table made kind ++ only Tablet (tablets_of m.activity made) kind
-  | TwoTablets ↦ only Tablet made kind
-  | ASchedule ↦ only Schedule made kind
-  | ASnapshot ↦ only Snapshot made kind
-  | ARestoration schedule to ↦ only Restoration made kind
-  | AClone source target to ↦ given_to_clones (clones_made made m.clones) kind
-  | Nothing ↦ []
-]
+-- the identifiers of a kind that the master's records have beyond so many that were drawn. Tablets stand in order of
+-- table, then of range
+abbrev pub recorded_beyond : Kind → ℕ → Master → List Id
+recorded_beyond Namespace drawn m = beyond drawn (map (λ r. r.id) m.catalog.namespaces)
+recorded_beyond Table drawn m = beyond drawn (map (λ r. r.id) m.catalog.tables)
+recorded_beyond Tablet drawn m =
+    map (λ i. i.tablet) (by_table_and_range (filter (λ i. nat_lt drawn i.tablet.number) m.activity))
+recorded_beyond Schedule drawn m = beyond drawn (map (λ s. s.id) m.schedules)
+recorded_beyond Snapshot drawn m = beyond drawn (map (λ r. r.id) m.snapshots)
+recorded_beyond Restoration drawn m = beyond drawn (map (λ r. r.id) m.restorations)
+recorded_beyond Clone drawn m = beyond drawn (map (λ c. c.id) m.clones)
+
+-- the identifiers of a kind that an event gave: those that the master has after it, in a record or reserved for a clone,
+-- beyond what was drawn before it
+abbrev pub new_ids : Master → Master → Kind → List Id
+new_ids before after kind =
+    let drawn = drawn_of kind before.drawn in
+    recorded_beyond kind drawn after ++ beyond drawn (reserved_by after.clones kind)
+
+-- they are the next of their kind, in turn
+abbrev pub AreNext : Kind → ℕ → List Id → Type 0
+AreNext kind drawn [] = Unit {0}
+AreNext kind drawn (id ∷ ids) = (id ≡ numbered_as kind (drawn + 1)) × AreNext kind (drawn + 1) ids
+
+-- Which are named
+
+-- what the reply to a command shows of what it made: of a split its children, in order of range
+abbrev pub shown_of : Making → (Kind → List Id) → List Id
+shown_of ANamespace made = made Namespace
+shown_of (ATable tablets) made = made Table
+shown_of TwoTablets made = made Tablet
+shown_of ASchedule made = made Schedule
+shown_of ASnapshot made = made Snapshot
+shown_of (ARestoration schedule to) made = made Restoration
+shown_of (AClone source target to) made = made Clone
+shown_of Nothing made = []
 
 -- the snapshot that an unfinished operation names: behind a move into the state in which it waits for its own, this one
 abbrev pub own_of : Master → Id → List Id
@@ -136,32 +152,36 @@ own_of m operation =
     (λ r. option_to_list (named_by_restoration r.state)) (unfinished_restoration m.restorations operation) []
     ++ option_map_or (λ c. option_to_list (named_by_clone c.state)) (unfinished_clone m.clones operation) []
 
--- what a move into a state gave
-abbrev pub given_entering : List State → List Id → Kind → List Id
-given_entering [] own kind = []
-given_entering (state ∷ states) own kind = if is_snapshotting state then only Snapshot own kind else []
+abbrev pub own_in : List State → Master → Id → List Id
+own_in [] m operation = []
+own_in (state ∷ states) m operation = if is_snapshotting state then own_of m operation else []
 
--- the identifiers of each kind that an event gave, in their order, by its reply and the master that it leaves
-abbrev pub given_by : Act → Reply → Master → Kind → List Id
-given_by act reply m kind = elim (deed_of act) [
-  | Commands command ↦ given_for command (ids_made reply) m kind
-  | Advances operation ↦ given_entering (entered_by reply) (own_of m operation) kind
+-- the identifiers by which an event tells what it made: in its reply, and of a move in its record
+abbrev pub named_by : Act → Reply → Master → List Id
+named_by act reply after = elim (deed_of act) [
+  | Commands command ↦ ids_made reply
+  | Advances operation ↦ ids_made reply ++ own_in (entered_by reply) after operation
+  | Obeys slot ↦ ids_made reply
+  | NoDeed ↦ ids_made reply
+]
+
+-- and those that it has to tell
+abbrev pub to_name : Act → (Kind → List Id) → List Id
+to_name act made = elim (deed_of act) [
+  | Commands command ↦ shown_of (making_of command) made
+  | Advances operation ↦ made Snapshot
   | Obeys slot ↦ []
   | NoDeed ↦ []
 ]
 
--- they are the next of their kind, in turn
-abbrev pub AreNext : Kind → ℕ → List Id → Type 0
-AreNext kind drawn [] = Unit {0}
-AreNext kind drawn (id ∷ ids) = (id ≡ numbered_as kind (drawn + 1)) × AreNext kind (drawn + 1) ids
-
--- an entry draws so many identifiers of each kind, and gives just these
+-- an entry draws so many identifiers of each kind, gives just these, and names them
 pub record DrawsNext (act : Act) (reply : Reply) (n : ℕ) (before after : Master) : Type 0 where
   pub count : (kind : Kind)
       → drawn_of kind after.drawn ≡ drawn_of kind before.drawn + drawn_of kind (drawn_by act reply n before)
   pub given : (kind : Kind)
-      → length (given_by act reply after kind) ≡ drawn_of kind (drawn_by act reply n before)
-  pub next : (kind : Kind) → AreNext kind (drawn_of kind before.drawn) (given_by act reply after kind)
+      → length (new_ids before after kind) ≡ drawn_of kind (drawn_by act reply n before)
+  pub next : (kind : Kind) → AreNext kind (drawn_of kind before.drawn) (new_ids before after kind)
+  pub named : named_by act reply after ≡ to_name act (new_ids before after)
 
 -- each entry of a history draws on from what the entries before it drew: so the numbers of a kind are those of 1, 2, 3
 -- and so on, in the order in which their entries were accepted, and no number comes twice

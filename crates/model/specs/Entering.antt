@@ -1,12 +1,12 @@
 -- When each record entered its states, read off a history: a snapshot, a restoration and a clone enters each of its
 -- states once, in order, and a tablet that was given a command has a clock above the stamp at which the record entered
 -- the state that gives it.
-use Rattle.std.specs.Prelude.{◌≡◌, ℕ, ◌<◌, Bool, true, false, List, [], ◌∷◌, ◌++◌, ◌⊎◌, map, filter}
-use Rattle.model.specs.Cluster.{Id, same, In, Kind, Snapshot, Restoration, Clone, BodyKind, FenceKind, FreezeKind, RestoreFromKind, HideKind, CopyKind, ReleaseKind, SnapshotRecord, RestorationRecord, RestorationState, Fencing, Snapshotting, Switching, Restoring, Releasing, Restored, CloneRecord, CloneState, Accepted, CloneSnapshot, Copying, CloneReleasing, CloneComplete, State, IsCreating, IsComplete, IsFencing, IsSnapshot, IsSwitching, IsRestoring, IsReleasing, IsRestored, IsAccepted, IsCopying, Act, Reply, Parts, deed_of, Commands, Advances, Obeys, NoDeed}
+use Rattle.std.specs.Prelude.{◌≡◌, ℕ, ◌<◌, ◌+◌, Bool, true, false, List, [], ◌∷◌, ◌++◌, Option, Some, None, ◌⊎◌, map, filter}
+use Rattle.model.specs.Cluster.{Id, same, In, Kind, Snapshot, Restoration, Clone, Release, BodyKind, FenceKind, FreezeKind, RestoreFromKind, HideKind, CopyKind, ReleaseKind, Listed, SnapshotRecord, RestorationRecord, RestorationState, Fencing, Snapshotting, Switching, Restoring, Releasing, Restored, CloneRecord, CloneState, Accepted, CloneSnapshot, Copying, CloneReleasing, CloneComplete, State, IsCreating, IsComplete, IsFencing, IsSnapshot, IsSwitching, IsRestoring, IsReleasing, IsRestored, IsAccepted, IsCopying, point_of, Act, Reply, Parts, deed_of, Commands, Advances, Obeys, NoDeed}
 use Rattle.model.specs.Entries.{Entry}
 use Rattle.model.specs.History.{replay}
-use Rattle.model.specs.Drawn.{entered_by, given_by}
-use Rattle.model.specs.Stands.{was_given}
+use Rattle.model.specs.Drawn.{entered_by, new_ids}
+use Rattle.model.specs.Stands.{was_given, copied_at}
 
 -- the record of an operation entered a state at a stamp
 pub record Entering : Type 0 where
@@ -19,9 +19,9 @@ all_enter state n ids = map (λ id. record { operation = id; state = state; at =
 
 -- new records enter their first states
 abbrev pub begun_with : (Kind → List Id) → ℕ → List Entering
-begun_with given n =
-    all_enter IsCreating n (given Snapshot) ++ all_enter IsFencing n (given Restoration)
-    ++ all_enter IsAccepted n (given Clone)
+begun_with made n =
+    all_enter IsCreating n (made Snapshot) ++ all_enter IsFencing n (made Restoration)
+    ++ all_enter IsAccepted n (made Clone)
 
 abbrev pub moved_by : Act → Reply → ℕ → List Entering
 moved_by act reply n = elim (deed_of act) [
@@ -37,7 +37,7 @@ unfoldable pub entered : ℕ → List Entry → List Entering
 entered slots [] = []
 entered slots (e ∷ earlier) =
     moved_by e.event.act e.reply e.stamp
-    ++ begun_with (given_by e.event.act e.reply (replay slots (e ∷ earlier)).master) e.stamp
+    ++ begun_with (new_ids (replay slots earlier).master (replay slots (e ∷ earlier)).master) e.stamp
     ++ entered slots earlier
 
 -- the states that a record entered, the newest first
@@ -72,6 +72,23 @@ pub record EntersOnce (ps : Parts) (es : List Entering) : Type 0 where
       → (states_of c.id es ≡ clone_states_to c.state (IsAccepted ∷ []))
       ⊎ (states_of c.id es ≡ clone_states_to c.state (IsSnapshot ∷ IsAccepted ∷ []))
 
+-- a point is one more than the stamp at which the restoration made its own snapshot
+abbrev pub IsAfterOwn : List Entering → Id → Option ℕ → Type 0
+IsAfterOwn es operation None = Unit {0}
+IsAfterOwn es operation (Some point) =
+    (at : ℕ) × (In (record { operation = operation; state = IsSnapshot; at = at }) es × (point ≡ at + 1))
+
+-- the stamps that records keep are those at which they entered a state: a snapshot's time, the stamp just before a
+-- restoration's point, the stamp of a clone's copies, and the one at which its target became current
+pub record EntersAt (ps : Parts) (es : List Entering) : Type 0 where
+  pub taken : (r : SnapshotRecord) → In r ps.master.snapshots
+      → In (record { operation = r.id; state = IsCreating; at = r.at }) es
+  pub points : (r : RestorationRecord) → In r ps.master.restorations → IsAfterOwn es r.id (point_of r.state)
+  pub copied : (c : CloneRecord) (at : ℕ) → In c ps.master.clones → copied_at c.state ≡ Some at
+      → In (record { operation = c.id; state = IsCopying; at = at }) es
+  pub released : (c : CloneRecord) (l : Listed) (cutoff : ℕ) → In c ps.master.clones → In l c.listed
+      → l.body ≡ Release cutoff → In (record { operation = c.id; state = IsReleasing; at = cutoff }) es
+
 -- the state of a record in which its tablets get a command of a kind
 abbrev pub state_giving : BodyKind → State
 state_giving FenceKind = IsFencing
@@ -82,13 +99,13 @@ state_giving CopyKind = IsCopying
 state_giving ReleaseKind = IsReleasing
 
 -- the record entered the state that gives a command of this kind, at a stamp below the clock
-pub record IsGivenBelow (es : List Entering) (operation : Id) (kind : BodyKind) (clock : ℕ) : Type 0 where
+pub record EnteredBefore (es : List Entering) (operation : Id) (kind : BodyKind) (clock : ℕ) : Type 0 where
   pub at : ℕ
   pub was_entered : In (record { operation = operation; state = state_giving kind; at = at }) es
   pub below : at < clock
 
 -- a tablet whose inbox holds a command, or that has done it, has a clock above the stamp at which the record entered
 -- the state that gives it
-abbrev pub GivenAfter : Parts → List Entering → Type 0
-GivenAfter ps es = (slot : ℕ) (operation : Id) (kind : BodyKind) → was_given (ps.tablet slot) operation kind ≡ true
-    → IsGivenBelow es operation kind (ps.tablet slot).clock
+abbrev pub ClocksAfter : Parts → List Entering → Type 0
+ClocksAfter ps es = (slot : ℕ) (operation : Id) (kind : BodyKind) → was_given (ps.tablet slot) operation kind ≡ true
+    → EnteredBefore es operation kind (ps.tablet slot).clock

@@ -1,6 +1,6 @@
 -- Histories, the newest entry first: what they leave, which are legal, and the journal of their changes.
-use Rattle.std.specs.Prelude.{◌≡◌, ℕ, ◌<◌, Bool, true, false, List, [], ◌∷◌, ◌++◌, Option, Some, None, ◌==◌, ◌&&◌, ◌+◌, nat_lt, not, length, if◌then◌else◌, filter}
-use Rattle.model.specs.Cluster.{Item, Id, has, Column, numbered, with_column, without_column, end_of_time, Interval, Told, act_for, effect, SnapshotRecord, RestorationRecord, RestorationState, Fencing, Snapshotting, Switching, Restoring, Releasing, Restored, CloneRecord, CloneState, Accepted, CloneSnapshot, Copying, CloneReleasing, CloneComplete, Ask, AskPlan, AskKeys, AskTable, AskWork, AskRemovable, AskPresent, Act, Look, Change, Read, Cutoff, Send, Process, Ack, Advance, Remove, Prune, Stats, Event, Work, Removable, Master, Parts, start, MasterAct, Ticks, MakesNamespace, DropsNamespace, MakesTable, AddsColumn, DropsColumn, RenamesTable, DropsTable, SplitsTablet, MakesSchedule, EditsSchedule, DeletesSchedule, TakesSnapshot, BeginsRestoration, BeginsClone, Sends, Acks, Unsends, Moves, Removes, Prunes, Restarts, Outcome, answered}
+use Rattle.std.specs.Prelude.{◌≡◌, ℕ, ◌<◌, Bool, true, false, List, [], ◌∷◌, ◌++◌, Option, Some, None, ◌==◌, ◌&&◌, ◌+◌, nat_lt, not, length, is_some, if◌then◌else◌, filter}
+use Rattle.model.specs.Cluster.{Item, Id, has, Column, numbered, with_column, without_column, end_of_time, Interval, Told, act_for, effect, schedule_of, SnapshotRecord, RestorationRecord, RestorationState, Fencing, Snapshotting, Switching, Restoring, Releasing, Restored, CloneRecord, CloneState, Accepted, CloneSnapshot, Copying, CloneReleasing, CloneComplete, Ask, AskPlan, AskKeys, AskTable, AskWork, AskRemovable, AskPresent, Act, Look, Change, Read, Cutoff, Send, Process, Ack, Advance, Remove, Prune, Stats, Event, Work, Removable, Master, Parts, start, MasterAct, Ticks, MakesNamespace, DropsNamespace, MakesTable, AddsColumn, DropsColumn, RenamesTable, DropsTable, SplitsTablet, MakesSchedule, EditsSchedule, DeletesSchedule, TakesSnapshot, BeginsRestoration, BeginsClone, Sends, Acks, Unsends, Moves, Removes, Prunes, Restarts, Outcome, answered}
 use Rattle.model.specs.Journal as made
 use Rattle.model.specs.Acts.{Write, Compact, Restart}
 use Rattle.model.specs.Looks.{look_plan, look_keys, look_table, look_present}
@@ -260,3 +260,11 @@ unfoldable pub snapshots_taken : ℕ → List Entry → List SnapshotRecord
 snapshots_taken slots [] = []
 snapshots_taken slots (e ∷ earlier) =
     let ps = replay slots earlier in snapshots_taken slots earlier ++ snapshots_since ps.master (next e ps).master
+
+-- since when a namespace has schedules: the stamp of the entry from which on each one left it some; it has some now
+unfoldable pub scheduled_since : ℕ → List Entry → Id → ℕ
+scheduled_since slots [] ns = 0
+scheduled_since slots (e ∷ earlier) ns =
+    if is_some (schedule_of (replay slots earlier).master.schedules ns)
+    then scheduled_since slots earlier ns
+    else e.stamp

@@ -1,7 +1,7 @@
 -- The journal: the changes that a history made, the newest first, and the view of it at a time. The view is told
 -- pointwise: the name of a namespace, the namespace, name and columns of a table, the row of a key.
-use Rattle.std.specs.Prelude.{ℕ, Bool, false, List, [], ◌∷◌, ◌++◌, Option, Some, None, nat_le, ◌==◌, ◌&&◌, not, length, if◌then◌else◌, filter, is_some, bytes_eq}
-use Rattle.model.specs.Cluster.{option_or, applied, absent_row, cut_to, Row, RowOp, Id, same, Column, column_ids, IdPair}
+use Rattle.std.specs.Prelude.{ℕ, Bool, false, List, [], ◌∷◌, ◌++◌, Option, Some, None, nat_le, ◌==◌, ◌&&◌, not, if◌then◌else◌, filter, is_some, bytes_eq}
+use Rattle.model.specs.Cluster.{option_or, applied, absent_row, Row, RowOp, Id, same, Column, IdPair}
 
 -- a change of the catalog, of a row, or of a whole namespace
 pub data ChangeAct : Type 0 where
@@ -144,14 +144,6 @@ row_at (c ∷ earlier) x table key =
     then row_after c.act table key (table_at earlier x) (table_at earlier) (row_at earlier x) (row_at earlier)
     else row_at earlier x table key
 
-abbrev pub columns_of : Option TableView → List Column
-columns_of None = []
-columns_of (Some t) = t.columns
-
--- the row of a key as the table's columns show it
-abbrev pub shown_at : List Change → ℕ → Id → List ℕ → Row
-shown_at changes x table key = cut_to (row_at changes x table key) (column_ids (columns_of (table_at changes x table)))
-
 -- Where tables were made
 
 -- the namespace in which a change makes the table: that of its making, or a clone's target
@@ -171,24 +163,3 @@ owner_by (NamespaceCloned source target name to tables) id = if is_some (source_
 abbrev pub owner_in : List Change → Id → Option Id
 owner_in [] id = None
 owner_in (c ∷ earlier) id = option_or (owner_by c.act id) (owner_in earlier id)
-
--- the namespaces that were made, the newest first
-abbrev pub with_namespace : ChangeAct → List Id → List Id
-with_namespace (NamespaceMade namespace name) earlier = namespace ∷ earlier
-with_namespace (NamespaceDropped namespace) earlier = earlier
-with_namespace (TableMade table namespace name columns) earlier = earlier
-with_namespace (TableRenamed table name) earlier = earlier
-with_namespace (TableDropped table) earlier = earlier
-with_namespace (ColumnAdded table column) earlier = earlier
-with_namespace (ColumnDropped table column) earlier = earlier
-with_namespace (RowChanged table key op) earlier = earlier
-with_namespace (NamespaceRestored namespace to) earlier = earlier
-with_namespace (NamespaceCloned source target name to tables) earlier = target ∷ earlier
-
-abbrev pub namespaces_made : List Change → List Id
-namespaces_made [] = []
-namespaces_made (c ∷ earlier) = with_namespace c.act (namespaces_made earlier)
-
--- how many namespaces the view at x has
-abbrev pub count_at : List Change → ℕ → ℕ
-count_at changes x = length (filter (λ id. is_some (namespace_at changes x id)) (namespaces_made changes))

@@ -31,7 +31,6 @@ pub mod Replies
 pub mod Stands
 pub mod Entering
 pub mod Once
-pub mod Strict
 pub mod Retained
 pub mod Taking
 pub mod Settling

@@ -1,14 +1,14 @@
 -- What comes once over a whole history, however often a coordinator repeats its steps and whatever a restart loses:
 -- the restore of an accepted command to restore, the clone of an accepted command to clone, and each command of a
 -- tablet.
-use Rattle.std.specs.Prelude.{◌≡◌, ℕ, ◌+◌, ◌-◌, Bool, false, List, [], ◌∷◌, ◌++◌, Option, Some, None, map, unwrap_or, if◌then◌else◌, option_map}
-use Rattle.model.specs.Cluster.{list_any, Id, same, In, namespace_named, BodyKind, Schedule, RestorationRecord, RestorationState, Fencing, Snapshotting, Switching, Restoring, Releasing, Restored, CloneRecord, CloneState, Accepted, CloneSnapshot, Copying, CloneReleasing, CloneComplete, IdPair, IsSnapshot, IsReleasing, point_of, schedule_with, Act, Reply, Master, Parts, deed_of, Commands, Advances, Obeys, NoDeed, success_of, Makes, Enters, Does, NoSuccess, making_of, ANamespace, ATable, TwoTablets, ASchedule, ASnapshot, ARestoration, AClone, Nothing, Making}
+use Rattle.std.specs.Prelude.{◌≡◌, ℕ, ◌-◌, Bool, true, false, List, [], ◌∷◌, ◌++◌, Option, Some, map, unwrap_or, if◌then◌else◌, option_map, filter}
+use Rattle.model.specs.Cluster.{list_any, Id, same, In, namespace_named, BodyKind, Schedule, RestorationRecord, RestorationState, Fencing, Snapshotting, Switching, Restoring, Releasing, Restored, CloneRecord, CloneState, Accepted, CloneSnapshot, Copying, CloneReleasing, CloneComplete, IdPair, IsReleasing, point_of, schedule_with, Act, Reply, Master, Parts, deed_of, Commands, Advances, Obeys, NoDeed, success_of, Makes, Enters, Does, NoSuccess, making_of, ANamespace, ATable, TwoTablets, ASchedule, ASnapshot, ARestoration, AClone, Nothing, Making}
 use Rattle.model.specs.Journal as made
-use Rattle.model.specs.Journal.{NamespaceRestored, NamespaceCloned, is_in, table_at}
+use Rattle.model.specs.Journal.{ChangeAct, NamespaceMade, NamespaceDropped, TableMade, TableRenamed, TableDropped, ColumnAdded, ColumnDropped, RowChanged, NamespaceRestored, NamespaceCloned, is_in, table_at}
 use Rattle.model.specs.Entries.{Entry}
 use Rattle.model.specs.History.{replay, journal_of, with_changes_of}
 use Rattle.model.specs.Drawn.{ids_made}
-use Rattle.model.specs.Entering.{Entering, entered}
+use Rattle.model.specs.Entering.{Entering, IsAfterOwn, entered}
 
 -- Accepted commands
 
@@ -123,12 +123,6 @@ restored_by (Restoring point serving) ns to = one_restore point ns to
 restored_by (Releasing point serving) ns to = one_restore point ns to
 restored_by (Restored point serving) ns to = one_restore point ns to
 
--- a point is one more than the stamp at which the restoration made its own snapshot
-abbrev pub IsAfterOwn : List Entering → Id → Option ℕ → Type 0
-IsAfterOwn es operation None = Unit {0}
-IsAfterOwn es operation (Some point) =
-    (at : ℕ) × (In (record { operation = operation; state = IsSnapshot; at = at }) es × (point ≡ at + 1))
-
 -- an accepted command to restore has a record of its schedule, namespace and time. Its moves restored the namespace at
 -- most once, and exactly once where the record has switched: to that very time, at the record's point
 pub record RestoresOnce (slots : ℕ) (history : List Entry) (asked : RestoreAsked) : Type 0 where
@@ -140,12 +134,6 @@ pub record RestoresOnce (slots : ℕ) (history : List Entry) (asked : RestoreAsk
   pub to_is : restoration.to ≡ asked.to
   pub point_is : IsAfterOwn (entered slots history) asked.operation (point_of restoration.state)
   pub restored : changes_by slots asked.operation history ≡ restored_by restoration.state restoration.namespace asked.to
-
--- a restore of the journal is one of an accepted command
-pub record IsRestoreAsked (slots : ℕ) (history : List Entry) (c : made.Change) : Type 0 where
-  pub command : RestoreAsked
-  pub accepted : In command (restores_asked slots history)
-  pub by_it : In c (changes_by slots command.operation history)
 
 -- Clones
 
@@ -181,11 +169,34 @@ pub record ClonesOnce (slots : ℕ) (history : List Entry) (asked : CloneAsked) 
   pub tables : (table : Id) → is_paired clone.tables table ≡ is_in clone.source (table_at asked.before asked.to table)
   pub cloned : ClonedBy clone.state clone (entered slots history) (changes_by slots asked.operation history)
 
--- a clone of the journal is one of an accepted command
-pub record IsCloneAsked (slots : ℕ) (history : List Entry) (c : made.Change) : Type 0 where
-  pub command : CloneAsked
-  pub accepted : In command (clones_asked slots history)
-  pub by_it : In c (changes_by slots command.operation history)
+-- The journal
+
+-- whether a change is of a whole namespace
+abbrev pub is_whole : ChangeAct → Bool
+is_whole (NamespaceRestored namespace to) = true
+is_whole (NamespaceCloned source target name to tables) = true
+is_whole (NamespaceMade namespace name) = false
+is_whole (NamespaceDropped namespace) = false
+is_whole (TableMade table namespace name columns) = false
+is_whole (TableRenamed table name) = false
+is_whole (TableDropped table) = false
+is_whole (ColumnAdded table column) = false
+is_whole (ColumnDropped table column) = false
+is_whole (RowChanged table key op) = false
+
+-- the operations of accepted commands
+abbrev pub operations_asked : ℕ → List Entry → List Id
+operations_asked slots history =
+    map {A = RestoreAsked} (λ r. r.operation) (restores_asked slots history)
+    ++ map {A = CloneAsked} (λ c. c.operation) (clones_asked slots history)
+
+-- the changes that the moves of their records made
+unfoldable pub changes_asked : ℕ → List Entry → List made.Change
+changes_asked slots [] = []
+changes_asked slots (e ∷ earlier) =
+    if list_any (λ operation. is_move_of operation e.event.act) (operations_asked slots earlier)
+    then with_changes_of e (replay slots earlier) (changes_asked slots earlier)
+    else changes_asked slots earlier
 
 -- Commands of tablets
 
@@ -228,11 +239,7 @@ NoneAgain (o ∷ os) = NoneAgain os × (In o os → ⊥)
 
 pub record Once (slots : ℕ) (history : List Entry) : Type 0 where
   pub restores : (asked : RestoreAsked) → In asked (restores_asked slots history) → RestoresOnce slots history asked
-  pub restores_of : (c : made.Change) (ns : Id) (to : ℕ) → In c (journal_of slots history)
-      → c.act ≡ NamespaceRestored ns to
-      → IsRestoreAsked slots history c
   pub clones : (asked : CloneAsked) → In asked (clones_asked slots history) → ClonesOnce slots history asked
-  pub clones_of : (c : made.Change) (source target : Id) (name : List ℕ) (to : ℕ) (tables : List IdPair)
-      → In c (journal_of slots history)
-      → c.act ≡ NamespaceCloned source target name to tables → IsCloneAsked slots history c
+  -- the restores and clones of the journal are just those of accepted commands, in the order of the moves that made them
+  pub journal : filter (λ c. is_whole c.act) (journal_of slots history) ≡ changes_asked slots history
   pub commands : NoneAgain (commands_done slots history)

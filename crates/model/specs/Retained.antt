@@ -1,14 +1,17 @@
 -- What retention keeps: while a time is retained, nothing removes a version, a frozen set, a tablet or a catalog record
 -- that it needs.
-use Rattle.std.specs.Prelude.{nat_lt, ◌-◌, ◌<◌, ◌≡◌, ℕ, ◌≤◌, true, false, List, [], ◌∷◌, Option, Some, None, ◌&&◌, ◌+◌, max, not, nat_le, unwrap_or, if◌then◌else◌, option_map, find}
-use Rattle.model.specs.Cluster.{Id, same, In, Version, owns, kept_from, Interval, active_at, last_of, Tablet, FrozenSet, set_of, is_empty, Schedule, ScheduledNamespace, Listed, SnapshotRecord, RestorationRecord, CloneRecord, TabletPair, is_restored, is_cloned, lists_tablet, Master, Parts}
-use Rattle.model.specs.Schedules.{low, complete_to, serving}
+use Rattle.std.specs.Prelude.{nat_lt, ◌-◌, ◌<◌, ◌≡◌, ℕ, ◌≤◌, true, false, List, [], ◌∷◌, Option, Some, None, ◌&&◌, ◌+◌, max, not, nat_le, unwrap_or, if◌then◌else◌, is_some, option_map, find}
+use Rattle.model.specs.Cluster.{Id, same, In, Version, owns, kept_from, Interval, active_at, last_of, Tablet, FrozenSet, Body, Fence, Freeze, RestoreFrom, Hide, Copy, Release, set_of, is_empty, Schedule, ScheduledNamespace, schedule_of, scheduled_in, Listed, SnapshotRecord, RestorationRecord, CloneRecord, TabletPair, is_restored, is_cloned, lists_tablet, Master, Parts}
+use Rattle.model.specs.Schedules.{low, after_of, complete_to, serving}
 use Rattle.model.specs.Cleanup.{floor_of}
+use Rattle.model.specs.Coordination.{source_slot}
+use Rattle.model.specs.Tablets.{Command}
 
--- a tablet is present: its slot's part holds it
+-- a tablet is present: its slot's part holds it, and the master knows it there
 pub record IsPresent (ps : Parts) (slot : ℕ) (tablet : Id) : Type 0 where
   pub held : is_empty (ps.tablet slot).presence ≡ false
   pub tablet_is : (ps.tablet slot).tablet ≡ tablet
+  pub known : (i : Interval) × (In i ps.master.activity × ((i.slot ≡ slot) × (i.tablet ≡ tablet)))
 
 -- the namespace's unfinished snapshot
 abbrev pub unfinished : List SnapshotRecord → Id → Option SnapshotRecord
@@ -46,6 +49,21 @@ abbrev pub ReachesBack : Option Source → ℕ → Type 0
 ReachesBack None to = ⊥
 ReachesBack (Some source) to = source.cutoff ≤ to
 
+-- the rows that a command takes of a frozen set are there: the set is, and goes back to the time that it asks for
+abbrev pub FindsRows : Body → List FrozenSet → Type 0
+FindsRows (RestoreFrom snapshot to point version) frozen = ReachesBack (option_map from_set (set_of frozen snapshot)) to
+FindsRows (Copy source snapshot to stamp table low high version) frozen =
+    ReachesBack (option_map from_set (set_of frozen snapshot)) to
+FindsRows Fence frozen = Unit {0}
+FindsRows (Freeze snapshot at) frozen = Unit {0}
+FindsRows (Hide ended) frozen = Unit {0}
+FindsRows (Release cutoff) frozen = Unit {0}
+
+-- each command in an inbox finds its rows
+abbrev pub RowsFound : Parts → Type 0
+RowsFound ps = (slot : ℕ) (c : Command) → In c (ps.tablet slot).inbox
+    → FindsRows c.body (ps.tablet (source_slot slot c.body)).frozen
+
 -- an unfinished snapshot that will serve the time lists the tablet
 abbrev pub WillServe : Option SnapshotRecord → Option SnapshotRecord → Id → ℕ → Type 0
 WillServe None (Some r) tablet to = to ≤ r.at → lists_tablet tablet r.listed ≡ true
@@ -65,6 +83,11 @@ TimesRise (r ∷ rs) ns since last =
     (same r.namespace ns ≡ true → (last < r.at) × (since ≤ r.at → r.after ≡ before_next since last))
     × TimesRise rs ns since (if same r.namespace ns then r.at else last)
 
+-- the time of the last of a namespace's snapshots, behind one of a time
+abbrev pub last_time : List SnapshotRecord → Id → ℕ → ℕ
+last_time [] ns last = last
+last_time (r ∷ rs) ns last = last_time rs ns (if same r.namespace ns then r.at else last)
+
 -- at most one snapshot of the namespace is unfinished
 abbrev pub OneUnfinished : List SnapshotRecord → Id → Type 0
 OneUnfinished [] ns = Unit {0}
@@ -79,13 +102,14 @@ floor_now m ns = floor_of m ns m.clock
 abbrev pub IsTabletOf : Master → Id → Interval → Type 0
 IsTabletOf m ns i = owns m.catalog.owners ns i.table ≡ true
 
--- what is kept for a namespace with a schedule. `activity` has the intervals of all tablets that ever were, and `taken`
--- the records of all snapshots, as they were made
-pub record RetainedFor (ps : Parts) (activity : List Interval) (taken : List SnapshotRecord)
+-- what is kept for a namespace with a schedule. `activity` has the intervals of all tablets that ever were, `taken` the
+-- records of all snapshots, as they were made, and `since` the stamp since which it has a schedule
+pub record RetainedFor (ps : Parts) (activity : List Interval) (taken : List SnapshotRecord) (since : ℕ)
     (k : ScheduledNamespace) : Type 0 where
-  -- each tablet that was active from the floor on is present
+  -- each tablet that was active from the floor on is present, and that activity is known
   pub active_present : (i : Interval) (x : ℕ) → In i activity → IsTabletOf ps.master k.namespace i
-      → floor_now ps.master k.namespace ≤ x → active_at x i ≡ true → IsPresent ps i.slot i.tablet
+      → floor_now ps.master k.namespace ≤ x → active_at x i ≡ true
+      → In i ps.master.activity × IsPresent ps i.slot i.tablet
   -- its rows at each time from the floor on can be had
   pub reaches : (i : Interval) (to : ℕ) → In i activity → IsTabletOf ps.master k.namespace i
       → floor_now ps.master k.namespace ≤ to → to ≤ ps.master.clock → active_at to i ≡ true
@@ -101,9 +125,17 @@ pub record RetainedFor (ps : Parts) (activity : List Interval) (taken : List Sna
       → ((ps.tablet slot).cutoff ≤ max (complete_to k + 1) i.from)
       × ((ps.tablet slot).cutoff ≤ ps.master.clock)
   pub times : TimesRise taken k.namespace k.since 0
+  -- the time before the next snapshot is that of the last one
+  pub last : after_of k ≡ before_next k.since (last_time taken k.namespace 0)
+  -- that of the last complete one is that of a snapshot, and no kept one that is complete is later
+  pub complete : (at : ℕ) → k.complete ≡ Some at → (k.since ≤ at)
+      × ((r : SnapshotRecord) × (In r taken × ((r.namespace ≡ k.namespace) × (r.at ≡ at))))
+  pub none_later : (r : SnapshotRecord) → In r ps.master.snapshots → r.namespace ≡ k.namespace → r.complete ≡ true
+      → r.at ≤ complete_to k
   pub unfinished_one : OneUnfinished ps.master.snapshots k.namespace
+  pub since_is : k.since ≡ since
   -- the windows of its schedules begin since then
-  pub since : (s : Schedule) → In s ps.master.schedules → s.namespace ≡ k.namespace → k.since ≤ low s ps.master.clock
+  pub windows : (s : Schedule) → In s ps.master.schedules → s.namespace ≡ k.namespace → k.since ≤ low s ps.master.clock
   -- the catalog is kept from the floor on
   pub catalog : kept_from ps.master.catalog.kept_from k.namespace ≤ floor_now ps.master k.namespace
 
@@ -117,8 +149,11 @@ pub record ListedPresent (ps : Parts) : Type 0 where
       → In p c.tablets → IsPresent ps p.source_slot p.source
 
 -- what retention keeps at each moment
-pub record Retained (ps : Parts) (activity : List Interval) (taken : List SnapshotRecord) : Type 0 where
-  pub scheduled : (k : ScheduledNamespace) → In k ps.master.scheduled → RetainedFor ps activity taken k
+pub record Retained (ps : Parts) (activity : List Interval) (taken : List SnapshotRecord) (since : Id → ℕ) : Type 0 where
+  pub scheduled : (k : ScheduledNamespace) → In k ps.master.scheduled
+      → RetainedFor ps activity taken (since k.namespace) k
+  -- these are the namespaces that have schedules
+  pub have_schedules : (ns : Id) → is_some (scheduled_in ps.master.scheduled ns) ≡ is_some (schedule_of ps.master.schedules ns)
   pub listed : ListedPresent ps
   -- also without a schedule no cutoff, and no mark of the catalog, passes the master's clock
   pub cutoffs : (slot : ℕ) → is_empty (ps.tablet slot).presence ≡ false → (ps.tablet slot).cutoff ≤ ps.master.clock

@@ -1,8 +1,9 @@
--- When an entry is right: its reply is that of one list of stamped changes, the journal of the entries before it.
+-- What answers are compared with: rows, namespaces, tables and places by the view of one list of stamped changes, the
+-- journal of the entries before them; and that what restores and clones fixed stays as it was.
 use Rattle.std.specs.Prelude.{◌≡◌, ℕ, ◌<◌, Bool, true, false, List, [], ◌∷◌, ◌++◌, Option, Some, None, ◌==◌, ◌&&◌, ◌||◌, if◌then◌else◌, is_some, bytes_eq}
-use Rattle.model.specs.Cluster.{list_all, cut_to, code_of, KeyedRow, Id, same, In, present, InOrder, of_key, in_range, Column, Interval, active_at, Tablet, NamedItem, Place, At, Refusal, UnknownNamespace, UnknownTable, UnknownColumn, WrongKind, CrossTablet, Future, TooOld, Reply, Placed, Refused}
-use Rattle.model.specs.Looks.{batch_fault, place_of}
-use Rattle.model.specs.Journal.{Change, ChangeAct, NamespaceMade, NamespaceDropped, TableMade, TableRenamed, TableDropped, ColumnAdded, ColumnDropped, RowChanged, NamespaceRestored, NamespaceCloned, TableView, is_in, namespace_at, table_at, row_at, shown_at}
+use Rattle.model.specs.Cluster.{cut_to, code_of, KeyedRow, Id, same, In, present, InOrder, of_key, in_range, is_owned_by, Interval, active_at, Tablet, Place, At}
+use Rattle.model.specs.Looks.{place_of}
+use Rattle.model.specs.Journal.{Change, ChangeAct, NamespaceMade, NamespaceDropped, TableMade, TableRenamed, TableDropped, ColumnAdded, ColumnDropped, RowChanged, NamespaceRestored, NamespaceCloned, TableView, is_in, namespace_at, table_at, row_at, owner_in}
 
 -- Rows in order over several places
 
@@ -31,11 +32,6 @@ pub record RowsRight (changes : List Change) (x : ℕ) (asked : Option (List ℕ
   pub in_order : InOrder rows
   pub each : (key : List ℕ) → of_key key rows ≡ rows_wanted changes x asked columns tablets places key
 
--- the rows of a table at x as its columns show them: each present one, in order of key
-pub record IsShown (changes : List Change) (x : ℕ) (table : Id) (rows : List KeyedRow) : Type 0 where
-  pub in_order : InOrder rows
-  pub each : (key : List ℕ) → of_key key rows ≡ present key (shown_at changes x table key)
-
 -- Looks
 
 -- the current namespace of a name
@@ -54,77 +50,28 @@ pub record TableFound (changes : List Change) (x now : ℕ) (namespace table : L
   pub named : view.name ≡ table
   pub current : is_some (table_at changes now id) ≡ true
 
--- whether an interval's range holds all keys of a batch
-abbrev pub holds_keys : Interval → List NamedItem → Bool
-holds_keys i batch = list_all (λ item. in_range i.low i.high (code_of item.key)) batch
-
--- a place is a tablet of the table that is active at the stamp, and its range holds the keys
-pub record IsActivePlace (activity : List Interval) (now : ℕ) (table : Id) (batch : List NamedItem)
-    (place : Place) : Type 0 where
+-- a place is a tablet of the table that is active at the stamp
+pub record IsActivePlace (activity : List Interval) (now : ℕ) (table : Id) (place : Place) : Type 0 where
   pub interval : Interval
   pub listed : In interval activity
   pub table_is : interval.table ≡ table
   pub active : active_at now interval ≡ true
-  pub holds : holds_keys interval batch ≡ true
   pub placed : place ≡ place_of interval
 
--- the places of a look are the table's tablets that are active at the stamp, also where a time is asked: those that
--- hold the keys
-pub record PlacesRight (changes : List Change) (x now : ℕ) (namespace table : List ℕ) (batch : List NamedItem)
-    (activity : List Interval) (places : List Place) : Type 0 where
-  pub found : TableFound changes x now namespace table
-  pub each : (place : Place) → In place places → IsActivePlace activity now found.id batch place
-  pub all : (i : Interval) → In i activity → i.table ≡ found.id → active_at now i ≡ true → holds_keys i batch ≡ true
-      → In (place_of i) places
+-- What was fixed stays
 
--- the table of a look was found, with these columns, and its batch has no fault
-pub record LookRight (changes : List Change) (x now : ℕ) (namespace table : List ℕ) (batch : List NamedItem)
-    (fault : Option Refusal) (columns : List Column → Type 0) : Type 0 where
-  pub found : TableFound changes x now namespace table
-  pub columns_are : columns found.view.columns
-  pub judged : batch_fault found.view.columns batch ≡ fault
-
-abbrev pub AnyColumns : List Column → Type 0
-AnyColumns columns = Unit {0}
-
--- what a look's reply says of the view at x, and at its stamp
-abbrev pub LookReplyRight : Reply → List Change → ℕ → ℕ → List ℕ → List ℕ → List NamedItem → Type 0
-LookReplyRight (Refused UnknownNamespace) changes x now namespace table batch = NamespaceFound changes now namespace → ⊥
-LookReplyRight (Refused (Future n)) changes x now namespace table batch = NamespaceFound changes now namespace
-LookReplyRight (Refused (TooOld asked cutoff)) changes x now namespace table batch =
-    NamespaceFound changes now namespace
-LookReplyRight (Refused UnknownTable) changes x now namespace table batch =
-    NamespaceFound changes now namespace × (TableFound changes x now namespace table → ⊥)
-LookReplyRight (Refused UnknownColumn) changes x now namespace table batch =
-    LookRight changes x now namespace table batch (Some UnknownColumn) AnyColumns
-LookReplyRight (Refused WrongKind) changes x now namespace table batch =
-    LookRight changes x now namespace table batch (Some WrongKind) AnyColumns
-LookReplyRight (Refused (CrossTablet first other)) changes x now namespace table batch =
-    LookRight changes x now namespace table batch None AnyColumns
-LookReplyRight (Placed places version columns) changes x now namespace table batch =
-    LookRight changes x now namespace table batch None (λ kept. columns ≡ kept)
-LookReplyRight _ changes x now namespace table batch = ⊥
-
--- where a look places its table, the places are right
-abbrev pub LookPlacesRight : Reply → List Change → ℕ → ℕ → List ℕ → List ℕ → List NamedItem → List Interval → Type 0
-LookPlacesRight (Placed places version columns) changes x now namespace table batch activity =
-    PlacesRight changes x now namespace table batch activity places
-LookPlacesRight _ changes x now namespace table batch activity = Unit {0}
-
--- Nothing late
-
--- whether a change is one of the namespace: of its name, of its tables, of their rows
-abbrev pub is_of : Id → ChangeAct → (Id → Option TableView) → Bool
-is_of ns (NamespaceMade namespace name) table_before = same namespace ns
-is_of ns (NamespaceDropped namespace) table_before = same namespace ns
-is_of ns (TableMade table namespace name columns) table_before = same namespace ns
-is_of ns (TableRenamed table name) table_before = is_in ns (table_before table)
-is_of ns (TableDropped table) table_before = is_in ns (table_before table)
-is_of ns (ColumnAdded table column) table_before = is_in ns (table_before table)
-is_of ns (ColumnDropped table column) table_before = is_in ns (table_before table)
-is_of ns (RowChanged table key op) table_before = is_in ns (table_before table)
-is_of ns (NamespaceRestored namespace to) table_before = same namespace ns
-is_of ns (NamespaceCloned source target name to tables) table_before = same target ns
+-- whether a change is one of the namespace: of its name, of a table that was made in it, of the rows of one
+abbrev pub is_change_of : Id → ChangeAct → (Id → Option Id) → Bool
+is_change_of ns (NamespaceMade namespace name) owner = same namespace ns
+is_change_of ns (NamespaceDropped namespace) owner = same namespace ns
+is_change_of ns (TableMade table namespace name columns) owner = same namespace ns
+is_change_of ns (TableRenamed table name) owner = is_owned_by (owner table) ns
+is_change_of ns (TableDropped table) owner = is_owned_by (owner table) ns
+is_change_of ns (ColumnAdded table column) owner = is_owned_by (owner table) ns
+is_change_of ns (ColumnDropped table column) owner = is_owned_by (owner table) ns
+is_change_of ns (RowChanged table key op) owner = is_owned_by (owner table) ns
+is_change_of ns (NamespaceRestored namespace to) owner = same namespace ns
+is_change_of ns (NamespaceCloned source target name to tables) owner = same target ns
 
 -- whether a change is a restore of the namespace to T, or a clone of it at T
 abbrev pub fixes : ChangeAct → Id → ℕ → Bool
@@ -146,11 +93,10 @@ is_fixed (c ∷ earlier) ns t = if fixes c.act ns t then true else is_fixed earl
 
 -- no change of a namespace is stamped at or before the time of a restore of it, or of a clone, that the journal has
 -- before it
-abbrev pub NothingLate : List Change → Type 0
-NothingLate [] = Unit {0}
-NothingLate (c ∷ earlier) =
-    NothingLate earlier
-    × ((ns : Id) (t : ℕ) → is_fixed earlier ns t ≡ true → is_of ns c.act (table_at earlier t) ≡ true → t < c.stamp)
+abbrev pub NoneLate : List Change → Type 0
+NoneLate [] = Unit {0}
+NoneLate (c ∷ earlier) = NoneLate earlier
+    × ((ns : Id) (t : ℕ) → is_fixed earlier ns t ≡ true → is_change_of ns c.act (owner_in earlier) ≡ true → t < c.stamp)
 
 -- a namespace's name, tables and rows at a time are the same in two journals' views
 pub record SameThen (changes others : List Change) (ns : Id) (t : ℕ) : Type 0 where
@@ -166,3 +112,8 @@ abbrev pub StillSame : List Change → List Change → Type 0
 StillSame all [] = Unit {0}
 StillSame all (c ∷ earlier) =
     StillSame all earlier × ((ns : Id) (t : ℕ) → fixes c.act ns t ≡ true → SameThen all earlier ns t)
+
+-- what restores and clones fixed is the same after each entry, and nothing comes too late for it
+pub record FixedStays (changes : List Change) : Type 0 where
+  pub none_late : NoneLate changes
+  pub same : StillSame changes changes

@@ -69,16 +69,10 @@ coordinated (suc count) reading ps =
 abbrev pub settle : ℕ → Parts → List Act
 settle reading ps = coordinated (left ps.master) reading ps
 
--- an ack that finds its command not done
-pub record IsEarlyAck (act : Act) (why : Refusal) : Type 0 where
-  pub operation : Id
-  pub slot : ℕ
-  pub act_is : act ≡ Ack operation slot
-  pub why_is : why ≡ NotDone
-
--- the act is accepted, or it is such an ack
+-- the act is accepted, or it is an ack that finds its command not done
 abbrev pub GoesOn : Act → Reply → Type 0
-GoesOn act reply = (why : Refusal) → reply ≡ Refused why → IsEarlyAck act why
+GoesOn act reply = (why : Refusal) → reply ≡ Refused why
+    → (why ≡ NotDone) × ((operation : Id) × ((slot : ℕ) × (act ≡ Ack operation slot)))
 
 abbrev pub EachGoesOn : List Act → List Reply → Type 0
 EachGoesOn [] replies = Unit {0}

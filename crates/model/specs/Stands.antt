@@ -1,16 +1,12 @@
 -- What holds of the parts of a cluster against its journal after each entry: tablets stand for the journal, ranges
 -- cover the codes, and a record's state says what its tablets have done.
-use Rattle.std.specs.Prelude.{◌≡◌, ◌≢◌, ℕ, ◌≤◌, ◌<◌, Bool, true, false, List, [], ◌∷◌, Option, Some, None, ◌==◌, ◌&&◌, ◌||◌, ◌⊎◌, ◌+◌, not, nat_lt, if◌then◌else◌, filter, is_some}
-use Rattle.model.specs.Cluster.{list_any, code_of, Id, same, In, Version, read_of, AreRows, in_range, RowOp, before_end, is_open, owns, Interval, active_at, last_of, Tablet, Release, BodyKind, FenceKind, FreezeKind, RestoreFromKind, HideKind, CopyKind, ReleaseKind, kind_of, Mark, FrozenSet, is_empty, is_serving, is_done, holds_command, set_of, Listed, SnapshotRecord, RestorationRecord, RestorationState, Fencing, Snapshotting, Switching, Restoring, Releasing, Restored, CloneRecord, CloneState, Accepted, CloneSnapshot, Copying, CloneReleasing, CloneComplete, is_restored, is_cloned, point_of, TabletPair, Parts}
+use Rattle.std.specs.Prelude.{◌≡◌, ◌≢◌, ℕ, ◌≤◌, ◌<◌, Bool, true, false, List, [], ◌∷◌, Option, Some, None, ◌==◌, ◌&&◌, ◌||◌, ◌⊎◌, ◌+◌, not, nat_lt, if◌then◌else◌, filter, is_some, option_map}
+use Rattle.model.specs.Cluster.{option_or, list_any, code_of, Id, same, In, Version, read_of, AreRows, IsRange, in_range, RowOp, before_end, is_open, owns, Interval, active_at, last_of, current_table, Tablet, Release, BodyKind, FenceKind, FreezeKind, RestoreFromKind, HideKind, CopyKind, ReleaseKind, kind_of, Mark, FrozenSet, is_empty, is_serving, is_done, holds_command, set_of, Listed, SnapshotRecord, RestorationRecord, RestorationState, Fencing, Snapshotting, Switching, Restoring, Releasing, Restored, CloneRecord, CloneState, Accepted, CloneSnapshot, Copying, CloneReleasing, CloneComplete, is_restored, is_cloned, point_of, TabletPair, Parts}
 use Rattle.model.specs.Tablets.{Command}
 pub use Rattle.model.specs.Moves.{is_restore}
 use Rattle.model.specs.Journal.{Change, NamespaceMade, NamespaceDropped, TableMade, TableRenamed, TableDropped, ColumnAdded, ColumnDropped, RowChanged, NamespaceRestored, NamespaceCloned, source_of, table_at, row_at}
 
 -- Tablets stand for the journal
-
-abbrev pub first_of_two : Option ℕ → Option ℕ → Option ℕ
-first_of_two None later = later
-first_of_two (Some x) later = Some x
 
 -- the point of a restoration that still has rows to give to a tablet: it lists it for them, and they aren't taken yet
 abbrev pub awaited_of : RestorationState → RestorationRecord → Id → List Mark → Option ℕ
@@ -25,7 +21,7 @@ awaited_of (Restored point serving) r tablet done = None
 
 abbrev pub awaited_in : List RestorationRecord → Id → List Mark → Option ℕ
 awaited_in [] tablet done = None
-awaited_in (r ∷ rs) tablet done = first_of_two (awaited_of r.state r tablet done) (awaited_in rs tablet done)
+awaited_in (r ∷ rs) tablet done = option_or (awaited_of r.state r tablet done) (awaited_in rs tablet done)
 
 -- the point of the rows that a tablet awaits
 abbrev pub awaited : Parts → Tablet → Option ℕ
@@ -59,11 +55,31 @@ pub record FrozenStands (ps : Parts) (changes : List Change) (slot : ℕ) (f : F
       → is_some (table_at changes x (ps.tablet slot).table) ≡ true
       → read_of f.versions key x ≡ row_at changes x (ps.tablet slot).table key
 
--- a serving or hidden tablet stands for the journal
+-- the part in an interval's slot holds its tablet, with that table and that range
+pub record HoldsTablet (i : Interval) (t : Tablet) : Type 0 where
+  pub present : is_empty t.presence ≡ false
+  pub tablet_is : t.tablet ≡ i.tablet
+  pub table_is : t.table ≡ i.table
+  pub low_is : t.low ≡ i.low
+  pub high_is : t.high ≡ i.high
+
+-- each tablet that the master knows is in its slot, and a serving or hidden one stands for the journal
 pub record Stands (ps : Parts) (changes : List Change) : Type 0 where
+  pub held : (i : Interval) → In i ps.master.activity → HoldsTablet i (ps.tablet i.slot)
+  -- one that is active serves, unless it awaits rows; and a part that takes writes has an active one
+  pub serves : (i : Interval) → In i ps.master.activity → i.to ≡ None → awaited ps (ps.tablet i.slot) ≡ None
+      → is_serving (ps.tablet i.slot).presence ≡ true
+  pub active : (slot : ℕ) → is_serving (ps.tablet slot).presence ≡ true → (ps.tablet slot).fence ≡ None
+      → (i : Interval) × (In i ps.master.activity × ((i.slot ≡ slot) × (i.to ≡ None)))
   pub live : (slot : ℕ) → is_empty (ps.tablet slot).presence ≡ false → LiveStands ps changes slot
   pub frozen : (slot : ℕ) (f : FrozenSet) → is_empty (ps.tablet slot).presence ≡ false → In f (ps.tablet slot).frozen
       → FrozenStands ps changes slot f
+
+-- the part of an active tablet that awaits no rows has the version of its table's current schema
+abbrev pub VersionsStand : Parts → Type 0
+VersionsStand ps = (i : Interval) → In i ps.master.activity → i.to ≡ None → awaited ps (ps.tablet i.slot) ≡ None
+    → option_map (λ r. r.schema.version) (current_table ps.master.catalog.tables i.table)
+    ≡ Some (ps.tablet i.slot).version
 
 -- Ranges cover the codes
 
@@ -79,6 +95,15 @@ abbrev pub Cover : List Interval → List Change → Type 0
 Cover activity changes =
     (table : Id) (code x : ℕ) → code < 65536 → is_some (table_at changes x table) ≡ true
     → holders activity table code x ≡ 1
+
+-- a tablet's range has codes, and none beyond the last
+abbrev pub HasRange : Interval → Type 0
+HasRange i = IsRange (record { low = i.low; high = i.high })
+
+-- the ranges of a table's active tablets divide the codes: each code is in one, and each range has codes alone
+pub record Divides (activity : List Interval) (changes : List Change) : Type 0 where
+  pub cover : Cover activity changes
+  pub ranges : (i : Interval) → In i activity → HasRange i
 
 -- What a record's state says
 
@@ -210,7 +235,7 @@ pub record RecordFacts (ps : Parts) (changes : List Change) : Type 0 where
       → AfterRows r.namespace point ps changes
   -- a tablet that was sent a command, or did it, has a clock above the times that the record remembers of it: a
   -- snapshot's time, the time that a restoration goes to, its point from the switch on, the stamp of a clone's copies,
-  -- and the stamp at which its target became current. `GivenAfter` says it of the stamp at which the record entered
+  -- and the stamp at which its target became current. `ClocksAfter` says it of the stamp at which the record entered
   -- the state that gives the command
   pub after_freeze : (slot : ℕ) (r : SnapshotRecord) → In r ps.master.snapshots
       → was_given (ps.tablet slot) r.id FreezeKind ≡ true → r.at < (ps.tablet slot).clock

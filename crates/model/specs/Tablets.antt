@@ -101,10 +101,6 @@ abbrev pub rows_of_set : Option FrozenSet → ℕ → List KeyedRow
 rows_of_set None to = []
 rows_of_set (Some f) to = rows_at f.versions to
 
-abbrev pub cutoff_of_set : Option FrozenSet → ℕ
-cutoff_of_set None = 0
-cutoff_of_set (Some f) = f.cutoff
-
 -- a part without a tablet, one that serves its tablet, and one whose tablet was hidden at a stamp
 pub data Presence : Type 0 where
   EmptyPart : Presence

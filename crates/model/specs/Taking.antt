@@ -1,12 +1,13 @@
 -- What an act may take away: nothing that a time needs, from the floor of its namespace on. It is said of the parts
 -- before and after any act, a step at a time.
-use Rattle.std.specs.Prelude.{◌≡◌, ℕ, ◌≤◌, true, List, Option, Some, None, ◌&&◌, ◌-◌, max, min, map, option_map, option_and_then, filter}
-use Rattle.model.specs.Cluster.{Id, same, In, absent_row, read_of, Row, holds_at, before_end, NamespaceRecord, TableRecord, Catalog, tables_at, kept_from, owns, Interval, active_at, route, set_of, ScheduledNamespace, SnapshotRecord, point_of, Act, Master, Parts, deed_of, Commands, Advances, Obeys, NoDeed}
+use Rattle.std.specs.Prelude.{◌≡◌, ℕ, ◌≤◌, Bool, true, false, List, [], ◌∷◌, Option, Some, None, ◌&&◌, ◌⊎◌, ◌-◌, max, min, map, if◌then◌else◌, option_map, option_and_then, filter}
+use Rattle.model.specs.Cluster.{Id, same, In, absent_row, read_of, Row, holds_at, before_end, NamespaceRecord, TableRecord, Catalog, tables_at, kept_from, owns, Interval, active_at, route, set_of, Schedule, ScheduledNamespace, SnapshotRecord, point_of, Act, Change, DeleteSchedule, EditSchedule, Master, Parts, deed_of, Commands, Advances, Obeys, NoDeed}
+use Rattle.model.specs.Tablets.{Command}
 use Rattle.model.specs.Schedules.{history_retention, serving}
 use Rattle.model.specs.Operations.{restoration_of}
 use Rattle.model.specs.Looks.{place_of}
 use Rattle.model.specs.Cleanup.{floor_of}
-use Rattle.model.specs.Retained.{IsPresent, IsTabletOf, Source, floor_now, source_for, ReachesBack}
+use Rattle.model.specs.Retained.{IsPresent, IsTabletOf, Source, source_for, ReachesBack}
 
 -- The catalog at a time, as it is shown: of each record the interval doesn't count
 
@@ -16,8 +17,9 @@ names_at rs ns x = map {A = NamespaceRecord} (λ r. r.name) (filter (λ r. holds
 abbrev pub untimed : TableRecord → TableRecord
 untimed r = record r { from = 0; to = None }
 
--- the catalog of a namespace at a time is as before, and may be asked for
+-- the catalog of a namespace at a time is as before, and may be asked for; the tables that are its own stay so
 pub record CatalogKept (before after : Catalog) (ns : Id) (to : ℕ) : Type 0 where
+  pub owners : (table : Id) → owns before.owners ns table ≡ true → owns after.owners ns table ≡ true
   pub names : names_at after.namespaces ns to ≡ names_at before.namespaces ns to
   pub tables : map untimed (tables_at after.tables ns to) ≡ map untimed (tables_at before.tables ns to)
   pub kept : kept_from after.kept_from ns ≤ to
@@ -69,26 +71,42 @@ pub record NeededKept (before after : Parts) (ns : Id) (to : ℕ) : Type 0 where
   pub tablets : (i : Interval) → In i before.master.activity → IsTabletOf before.master ns i
       → active_at to i ≡ true → TabletKept before after ns to i
 
--- the point of the unfinished restoration of a namespace
-abbrev pub point_in : Master → Id → Option ℕ
-point_in m ns = option_and_then (λ r. point_of r.state) (restoration_of m.restorations ns)
+-- whether the operation's command is the first of an inbox
+abbrev pub is_first_of : List Command → Id → Bool
+is_first_of [] operation = false
+is_first_of (c ∷ cs) operation = same c.operation operation
 
--- from when on an act may put other tables and rows in place: a move, or what a tablet does of a command, may be part
--- of a restoration, which does so from its point on. No other act does at any time
-abbrev pub replaced_from : Act → Master → Id → Option ℕ
-replaced_from act m ns = elim (deed_of act) [
-  | Advances operation ↦ point_in m ns
-  | Obeys slot ↦ point_in m ns
-  | Commands command ↦ None
-  | NoDeed ↦ None
+-- whether an act moves the operation's record, or has a tablet do its command
+abbrev pub is_part_of : Id → Act → Parts → Bool
+is_part_of operation act ps = elim (deed_of act) [
+  | Advances moved ↦ same moved operation
+  | Obeys slot ↦ is_first_of (ps.tablet slot).inbox operation
+  | Commands command ↦ false
+  | NoDeed ↦ false
 ]
 
--- an act takes nothing that a time needs, from the floor of a scheduled namespace up to the master's clock
-abbrev pub TakesNothingNeeded : Act → Parts → Parts → Type 0
-TakesNothingNeeded act before after = (k : ScheduledNamespace) (to : ℕ) → In k after.master.scheduled
-    → floor_now after.master k.namespace ≤ to → to ≤ before.master.clock
-    → before_end to (replaced_from act before.master k.namespace) ≡ true
-    → NeededKept before after k.namespace to
+-- from when on an act may put other tables and rows in place: one that is part of the namespace's unfinished
+-- restoration, from its point on. No other act does at any time
+abbrev pub replaced_from : Act → Parts → Id → Option ℕ
+replaced_from act ps ns =
+    option_and_then (λ r. if is_part_of r.id act ps then point_of r.state else None)
+    (restoration_of ps.master.restorations ns)
+
+-- a schedule stays, with its window, unless the act is its deletion or edit
+abbrev pub ScheduleStays : Act → Schedule → Master → Type 0
+ScheduleStays act s after =
+    ((t : Schedule) × (In t after.schedules × (record t { last = s.last } ≡ s)))
+    ⊎ ((slots : List ℕ) × ((act ≡ Change (DeleteSchedule s.id) slots)
+    ⊎ ((interval : ℕ) × ((retention : ℕ) × (act ≡ Change (EditSchedule s.id interval retention) slots)))))
+
+-- an act takes nothing that a time needs: from the floor of a scheduled namespace, by the schedules and the operation
+-- that it had, up to the master's clock
+pub record TakesNothingNeeded (act : Act) (before after : Parts) : Type 0 where
+  pub needed : (k : ScheduledNamespace) (to : ℕ) → In k before.master.scheduled
+      → floor_of before.master k.namespace after.master.clock ≤ to → to ≤ before.master.clock
+      → before_end to (replaced_from act before k.namespace) ≡ true
+      → NeededKept before after k.namespace to
+  pub schedules : (s : Schedule) → In s before.master.schedules → ScheduleStays act s after.master
 
 -- The mark of a namespace's catalog
 

@@ -1,13 +1,13 @@
 -- How restores by a schedule and clones are answered: each refusal exactly where its cause holds and no earlier one
 -- does, with its values, and else acceptance. What a journal doesn't have is the master's: schedules, unfinished
 -- operations, and free slots.
-use Rattle.std.specs.Prelude.{◌≡◌, ◌≢◌, ℕ, ◌≤◌, ◌<◌, ◌+◌, ◌-◌, false, not, ◌&&◌, ◌⊎◌, List, [], ◌∷◌, Option, Some, None, length, unwrap_or, filter}
-use Rattle.model.specs.Cluster.{Id, In, Interval, active_at, Schedule, CloneRecord, is_visible, schedule_with, UnknownNamespace, UnknownSchedule, NameTaken, NoSchedule, TooMany, SlotsFull, TooEarly, Future, Busy, Reply, Ok, Refused, Master}
+use Rattle.std.specs.Prelude.{◌≡◌, ◌≢◌, ℕ, ◌≤◌, ◌<◌, ◌+◌, ◌-◌, true, false, not, ◌&&◌, ◌⊎◌, List, [], ◌∷◌, Option, Some, None, is_some, length, unwrap_or, filter}
+use Rattle.model.specs.Cluster.{Id, same, In, AllOf, Interval, active_at, Schedule, CloneRecord, is_visible, schedule_with, UnknownNamespace, UnknownSchedule, NameTaken, NoSchedule, TooMany, SlotsFull, TooEarly, Future, Busy, Reply, Ok, Refused, Master}
 use Rattle.model.specs.Schedules.{low, least_low, IsInWindow}
 use Rattle.model.specs.Operations.{user}
 use Rattle.model.specs.Looks.{free_slots}
 use Rattle.model.specs.Changes.{most_namespaces}
-use Rattle.model.specs.Journal.{Change, is_in, namespace_at, table_at, count_at}
+use Rattle.model.specs.Journal.{Change, is_in, namespace_at, table_at}
 use Rattle.model.specs.Right.{NamespaceFound}
 
 -- Restores
@@ -47,9 +47,21 @@ pub record IsReserved (clones : List CloneRecord) (name : List ℕ) (id : Id) : 
 abbrev pub HasName : List Change → ℕ → List CloneRecord → List ℕ → Id → Type 0
 HasName changes now clones name id = (namespace_at changes now id ≡ Some name) ⊎ IsReserved clones name id
 
--- how many namespaces are current, or are to be made by a clone
-abbrev pub count_of_names : List Change → ℕ → List CloneRecord → ℕ
-count_of_names changes now clones = count_at changes now + length (filter (λ c. not (is_visible c.state)) clones)
+abbrev pub EachOnce : List Id → Type 0
+EachOnce [] = Unit {0}
+EachOnce (id ∷ ids) = AllOf (λ later. same id later ≡ false) ids × EachOnce ids
+
+-- the namespaces of the view at x, each once
+pub record AreNamespaces (changes : List Change) (x : ℕ) (ids : List Id) : Type 0 where
+  pub once : EachOnce ids
+  pub each : AllOf (λ id. is_some (namespace_at changes x id) ≡ true) ids
+  pub all : (id : Id) → is_some (namespace_at changes x id) ≡ true → In id ids
+
+-- so many namespaces are current, or are to be made by a clone
+pub record AreSoMany (changes : List Change) (now : ℕ) (clones : List CloneRecord) (count : ℕ) : Type 0 where
+  pub current : List Id
+  pub are : AreNamespaces changes now current
+  pub count_is : count ≡ length current + length (filter (λ c. not (is_visible c.state)) clones)
 
 -- how many tablets of the namespace were active at a time
 abbrev pub count_active : List Change → List Interval → Id → ℕ → ℕ
@@ -83,7 +95,9 @@ pub record MayTakeFrom (q : CloneLook) : Type 0 where
 pub record MayClone (q : CloneLook) : Type 0 where
   pub from : MayTakeFrom q
   pub free : (id : Id) → HasName q.changes q.now q.master.clones q.target id → ⊥
-  pub room : count_of_names q.changes q.now q.master.clones ≢ most_namespaces
+  pub count : ℕ
+  pub counted : AreSoMany q.changes q.now q.master.clones count
+  pub room : count ≢ most_namespaces
 
 -- how many slots a clone needs: one for each tablet of the source that was active at its time
 abbrev pub slots_needed : (q : CloneLook) → HasSource q → ℕ
@@ -101,7 +115,7 @@ pub data CloneAnswer (q : CloneLook) : Reply → Type 0 where
       → CloneAnswer q (Refused (NameTaken taken_by))
   CloneTooMany : (limit : ℕ) (from : MayTakeFrom q)
       (free : (id : Id) → HasName q.changes q.now q.master.clones q.target id → ⊥)
-      (full : count_of_names q.changes q.now q.master.clones ≡ most_namespaces) (limit_is : limit ≡ most_namespaces)
+      (full : AreSoMany q.changes q.now q.master.clones limit) (limit_is : limit ≡ most_namespaces)
       → CloneAnswer q (Refused (TooMany limit))
   CloneEarly : (low_end : ℕ) (may : MayClone q) (low_is : low_end ≡ may.from.least)
       (below : time_to_clone q < may.from.least)

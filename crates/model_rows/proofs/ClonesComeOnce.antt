@@ -1,6 +1,6 @@
 -- What comes once, of a clone whose source goes on: it cloned its source once, under the name, to the time and with the tables of the
 -- accepted command; no tablet did a command twice; the numbers were drawn in turn.
-use Rattle.std.proofs.Common.{◌≡◌, [], ◌∷◌, Some, inl, inr, refl, sym, ap, subst, arith}
+use Rattle.std.proofs.Common.{◌≡◌, [], ◌∷◌, Some, inl, inr, refl, sym, subst, ◌∙◌, arith}
 use Rattle.std.specs.List.{filter}
 use Rattle.std.proofs.lemmas.Bool.Decides.{nat_tests}
 use Rattle.row_values.specs.Ids.{Id}
@@ -9,13 +9,12 @@ use Rattle.model.specs.Drawn.{DrawsInTurn}
 use Rattle.model.specs.Entering.{Entering, entered}
 use Rattle.model.specs.History.{replay, journal_of}
 use Rattle.model.specs.Journal.{Change, NamespaceCloned, is_in, table_at}
-use Rattle.model.specs.Once.{CloneAsked, ClonesOnce, IsCloneAsked, NoneAgain, Once, restores_asked, clones_asked, changes_by, commands_done, is_paired}
+use Rattle.model.specs.Once.{CloneAsked, ClonesOnce, NoneAgain, Once, is_whole, restores_asked, clones_asked, changes_asked, changes_by, commands_done, is_paired}
 use Rattle.model.specs.Records.{CloneRecord, CloneComplete, IsReleasing}
 use Rattle.model_rows.proofs.RightClones.{been_read, one_row}
-use Rattle.model_rows.proofs.Turns.{drawn_in_turn, none_done_again, passes_in, at_place, in_at}
+use Rattle.model_rows.proofs.Turns.{drawn_in_turn, none_done_again, at_place, in_at}
 use Rattle.model_rows.specs.Computed.{the_book}
 use Rattle.model_rows.specs.Scripts.{B, K, N, P, T, a, b, early}
-use Rattle.model_rows.specs.Turns.{is_restore, is_clone, of_act}
 
 in_turn : DrawsInTurn 64 been_read.entries
 unfolding the_book
@@ -79,25 +78,17 @@ clone_once = record {
   cloned = record { at = early 26; current = in_at 1 (entered 64 been_read.entries) became_current its_release; alone = it_cloned };
 }
 
-no_restores : filter is_restore (journal_of 64 been_read.entries) ≡ []
-unfolding the_book
-no_restores = refl
-
-one_clone : filter is_clone (journal_of 64 been_read.entries) ≡ its_change ∷ []
+one_clone : filter (λ c. is_whole c.act) (journal_of 64 been_read.entries) ≡ its_change ∷ []
 unfolding the_book
 one_clone = refl
+
+one_moved : changes_asked 64 been_read.entries ≡ its_change ∷ []
+unfolding the_book
+one_moved = refl
 
 none_asked : restores_asked 64 been_read.entries ≡ []
 unfolding the_book
 none_asked = refl
-
-is_asked : (c : Change) → In c (its_change ∷ []) → IsCloneAsked 64 been_read.entries c
-is_asked c (inl e) = record {
-  command = asked;
-  accepted = subst (In asked) (sym its_asked) (inl refl);
-  by_it = subst (In c) (sym it_cloned) (inl e);
-}
-is_asked c (inr h) = absurd h
 
 each_once : (command : CloneAsked) → In command (asked ∷ []) → ClonesOnce 64 been_read.entries command
 each_once command (inl e) = subst (ClonesOnce 64 been_read.entries) e clone_once
@@ -106,10 +97,7 @@ each_once command (inr h) = absurd h
 all_once : Once 64 been_read.entries
 all_once = record {
   restores = λ command isin. absurd (subst (In command) none_asked isin);
-  restores_of = λ c ns to isin e.
-      absurd (subst (In c) no_restores (passes_in (journal_of 64 been_read.entries) is_restore c isin (ap (λ act. is_restore (of_act act)) e)));
   clones = λ command isin. each_once command (subst (In command) its_asked isin);
-  clones_of = λ c source target name to tables isin e.
-      is_asked c (subst (In c) one_clone (passes_in (journal_of 64 been_read.entries) is_clone c isin (ap (λ act. is_clone (of_act act)) e)));
+  journal = one_clone ∙ sym one_moved;
   commands = none_twice;
 }

@@ -1,24 +1,22 @@
 -- What comes once, of a restore and of the one that undoes it: each restored its namespace once, to the time that was asked; no tablet did
 -- a command twice; each record entered its states once; the numbers were drawn in turn.
-use Rattle.std.proofs.Common.{◌≡◌, ℕ, true, false, [], ◌∷◌, Some, inl, inr, refl, sym, ap, subst, List, map, ◌-◌, Option, None, ◌+◌, ◌⊎◌, arith}
+use Rattle.std.proofs.Common.{◌≡◌, ℕ, true, false, [], ◌∷◌, Some, inl, inr, refl, sym, subst, ◌∙◌, List, map, ◌-◌, Option, None, ◌+◌, ◌⊎◌, arith}
 use Rattle.row_values.specs.Ids.{Id, same}
 use Rattle.row_values.specs.Elements.{In}
 use Rattle.model.specs.Drawn.{DrawsInTurn, given_to, SchemasDrawn, version_by}
-use Rattle.model.specs.Entering.{Entering, entered, states_of, EntersOnce, states_to, states_of_snapshot}
+use Rattle.model.specs.Entering.{Entering, entered, states_of, EntersAt, EntersOnce, IsAfterOwn, states_to, states_of_snapshot}
 use Rattle.model.specs.History.{replay, journal_of, snapshots_taken}
 use Rattle.std.specs.List.{filter}
-use Rattle.model.specs.Journal.{Change}
-use Rattle.model.specs.Once.{RestoreAsked, RestoresOnce, IsRestoreAsked, NoneAgain, Once, restores_asked, clones_asked, changes_by, commands_done}
+use Rattle.model.specs.Once.{RestoreAsked, RestoresOnce, NoneAgain, Once, is_whole, restores_asked, clones_asked, changes_asked, changes_by, commands_done}
 use Rattle.model.specs.Catalog.{TableRecord, latest}
 use Rattle.row_values.specs.Schema.{Schema}
 use Rattle.std.proofs.lemmas.Bool.{cases_Bool}
 use Rattle.std.proofs.lemmas.Bool.Decides.{nat_tests}
 use Rattle.model.specs.Tablets.{Freeze}
-use Rattle.model.specs.Records.{RestorationRecord, Restored, IsSnapshot, SnapshotRecord}
-use Rattle.model_rows.proofs.Turns.{drawn_in_turn, none_done_again, passes_in, at_place, in_at}
+use Rattle.model.specs.Records.{RestorationRecord, Restored, IsCreating, IsSnapshot, SnapshotRecord, point_of}
+use Rattle.model_rows.proofs.Turns.{drawn_in_turn, none_done_again, at_place, in_at}
 use Rattle.model_rows.specs.Computed.{the_book}
 use Rattle.model_rows.specs.Scripts.{N, R, P, S, early, B, T, v_alone, t}
-use Rattle.model_rows.specs.Turns.{is_restore, is_clone, of_act}
 use Rattle.model_rows.specs.UndoneRestore.{all_changes, been_read, restored_to}
 
 in_turn : DrawsInTurn 64 been_read.entries
@@ -73,6 +71,12 @@ second_snapshot : at_place 5 (entered 64 been_read.entries) ≡ Some (enters 2 3
 unfolding the_book
 second_snapshot = refl
 
+first_point : IsAfterOwn (entered 64 been_read.entries) (R 1) (Some (early 11))
+first_point = (early 10, (in_at 13 (entered 64 been_read.entries) (enters 1 10) first_snapshot, refl))
+
+second_point : IsAfterOwn (entered 64 been_read.entries) (R 2) (Some (early 32))
+second_point = (early 31, (in_at 5 (entered 64 been_read.entries) (enters 2 31) second_snapshot, refl))
+
 kept : (r : RestorationRecord) → In r (first ∷ second ∷ []) → In r (replay 64 been_read.entries).master.restorations
 kept r isin = subst (In r) (sym both_kept) isin
 
@@ -84,7 +88,7 @@ first_once = record {
   schedule_is = refl;
   namespace_is = refl;
   to_is = refl;
-  point_is = (early 10, (in_at 13 (entered 64 been_read.entries) (enters 1 10) first_snapshot, refl));
+  point_is = first_point;
   restored = first_restored;
 }
 
@@ -96,7 +100,7 @@ second_once = record {
   schedule_is = refl;
   namespace_is = refl;
   to_is = refl;
-  point_is = (early 31, (in_at 5 (entered 64 been_read.entries) (enters 2 31) second_snapshot, refl));
+  point_is = second_point;
   restored = second_restored;
 }
 
@@ -105,28 +109,15 @@ each_once asked (inl e) = subst (RestoresOnce 64 been_read.entries) e second_onc
 each_once asked (inr (inl e)) = subst (RestoresOnce 64 been_read.entries) e first_once
 each_once asked (inr (inr h)) = absurd h
 
--- the journal has no other restore, and no clone
+-- the journal has these, in the order of their moves, and no clone
 
-both_restores : filter is_restore (journal_of 64 been_read.entries) ≡ restored_to 32 10 ∷ restored_to 11 3 ∷ []
+both_restores : filter (λ c. is_whole c.act) (journal_of 64 been_read.entries) ≡ restored_to 32 10 ∷ restored_to 11 3 ∷ []
 unfolding the_book
 both_restores = refl
 
-is_asked : (c : Change) → In c (restored_to 32 10 ∷ restored_to 11 3 ∷ []) → IsRestoreAsked 64 been_read.entries c
-is_asked c (inl e) = record {
-  command = asked_to 2 10;
-  accepted = subst (In (asked_to 2 10)) (sym both_asked) (inl refl);
-  by_it = subst (In c) (sym second_restored) (inl e);
-}
-is_asked c (inr (inl e)) = record {
-  command = asked_to 1 3;
-  accepted = subst (In (asked_to 1 3)) (sym both_asked) (inr (inl refl));
-  by_it = subst (In c) (sym first_restored) (inl e);
-}
-is_asked c (inr (inr h)) = absurd h
-
-no_clones : filter is_clone (journal_of 64 been_read.entries) ≡ []
+both_moved : changes_asked 64 been_read.entries ≡ restored_to 32 10 ∷ restored_to 11 3 ∷ []
 unfolding the_book
-no_clones = refl
+both_moved = refl
 
 none_asked : clones_asked 64 been_read.entries ≡ []
 unfolding the_book
@@ -135,11 +126,8 @@ none_asked = refl
 all_once : Once 64 been_read.entries
 all_once = record {
   restores = λ asked isin. each_once asked (subst (In asked) both_asked isin);
-  restores_of = λ c ns to isin e.
-      is_asked c (subst (In c) both_restores (passes_in (journal_of 64 been_read.entries) is_restore c isin (ap (λ act. is_restore (of_act act)) e)));
   clones = λ asked isin. absurd (subst (In asked) none_asked isin);
-  clones_of = λ c source target name to tables isin e.
-      absurd (subst (In c) no_clones (passes_in (journal_of 64 been_read.entries) is_clone c isin (ap (λ act. is_clone (of_act act)) e)));
+  journal = both_restores ∙ sym both_moved;
   commands = none_twice;
 }
 
@@ -200,6 +188,34 @@ enters_once = record {
   snapshots = λ r isin. each_snapshot_enters r (subst (In r) snapshots_kept isin);
   restorations = λ r isin. each_restoration_enters r (subst (In r) both_kept isin);
   clones = λ c isin. absurd (subst (In c) no_clone_kept isin);
+}
+
+-- at the stamps that they keep
+
+first_taken : at_place 14 (entered 64 been_read.entries) ≡ Some (record { operation = P 1; state = IsCreating; at = early 10 })
+unfolding the_book
+first_taken = refl
+
+second_taken : at_place 6 (entered 64 been_read.entries) ≡ Some (record { operation = P 2; state = IsCreating; at = early 31 })
+unfolding the_book
+second_taken = refl
+
+each_snapshot_at : (r : SnapshotRecord) → In r own_snapshots → In (record { operation = r.id; state = IsCreating; at = r.at }) (entered 64 been_read.entries)
+each_snapshot_at r (inl e) = subst (λ (q : SnapshotRecord). In (record { operation = q.id; state = IsCreating; at = q.at }) (entered 64 been_read.entries)) e (in_at 14 (entered 64 been_read.entries) _ first_taken)
+each_snapshot_at r (inr (inl e)) = subst (λ (q : SnapshotRecord). In (record { operation = q.id; state = IsCreating; at = q.at }) (entered 64 been_read.entries)) e (in_at 6 (entered 64 been_read.entries) _ second_taken)
+each_snapshot_at r (inr (inr h)) = absurd h
+
+each_point : (r : RestorationRecord) → In r (first ∷ second ∷ []) → IsAfterOwn (entered 64 been_read.entries) r.id (point_of r.state)
+each_point r (inl e) = subst (λ (q : RestorationRecord). IsAfterOwn (entered 64 been_read.entries) q.id (point_of q.state)) e first_point
+each_point r (inr (inl e)) = subst (λ (q : RestorationRecord). IsAfterOwn (entered 64 been_read.entries) q.id (point_of q.state)) e second_point
+each_point r (inr (inr h)) = absurd h
+
+enters_at : EntersAt (replay 64 been_read.entries) (entered 64 been_read.entries)
+enters_at = record {
+  taken = λ r isin. each_snapshot_at r (subst (In r) snapshots_kept isin);
+  points = λ r isin. each_point r (subst (In r) both_kept isin);
+  copied = λ c at isin is. absurd (subst (In c) no_clone_kept isin);
+  released = λ c l cutoff isin listed is. absurd (subst (In c) no_clone_kept isin);
 }
 
 -- as they were taken

@@ -1,5 +1,5 @@
 -- What single events answer where no text of a script shows it: what a tablet has, what moved, what is stale, and what is removed.
-use Rattle.std.proofs.Common.{Some, ◌≡◌, ℕ, [], ◌∷◌, ◌++◌, None, refl}
+use Rattle.std.proofs.Common.{Some, ◌≡◌, ℕ, [], ◌∷◌, ◌++◌, refl}
 use Rattle.model.specs.Acts.{AddColumn, CloneNamespace, Counts, DropTable, InWindow, ListSnapshots, Moved, NotDone, NotPending, Pruned, Removable, Removed, Snapshots, Split, StalePlan, StaleSchema, TooEarly, TooOld}
 use Rattle.row_values.specs.Schema.{IntColumn}
 use Rattle.model.specs.Tablets.{Hidden, Serving}

@@ -9,7 +9,6 @@ pub mod RightReads
 mod RightRestores
 mod StandingReads
 mod StandingRestores
-pub mod CoordinatedRuns
 pub mod Histories
 pub mod Turns
 mod RightWindows
@@ -32,8 +31,5 @@ mod WrongJournals
 mod WrongWindows
 mod WrongLooks
 mod WrongReads
-pub mod StrictEntries
-pub mod StrictReads
-mod StrictRestores
 mod Events
 mod WrittenNames

@@ -1,18 +1,20 @@
 -- What doesn't come once, and numbers that are not drawn in turn: answers and parts that are refused.
-use Rattle.std.proofs.Common.{◌≡◌, ◌<◌, ℕ, true, List, [], ◌∷◌, None, inl, inr, refl, sym, ap, subst, arith, map, ◌∙◌}
+use Rattle.std.proofs.Common.{◌≡◌, ◌<◌, ℕ, true, false, List, [], ◌∷◌, Some, None, if◌then◌else◌, inl, inr, refl, sym, ap, subst, arith, map, ◌∙◌}
 use Rattle.std.proofs.lemmas.Bool.{true≢false}
-use Rattle.row_values.specs.Ids.{Namespace, Tablet, Snapshot}
+use Rattle.row_values.specs.Ids.{Id, Namespace, Tablet, same}
+use Rattle.std.specs.List.{filter}
+use Rattle.model.specs.Catalog.{NamespaceRecord}
 use Rattle.row_values.specs.Elements.{In}
-use Rattle.model.specs.Acts.{Act, Advance, Advanced, Change, CreateTable, Done, Ok, Process, Refused, TooMany}
+use Rattle.model.specs.Acts.{Act, Advance, Advanced, Change, CreateNamespace, CreateTable, Split, Done, Ok, Process, Refused, TooMany}
 use Rattle.model.specs.Activity.{Interval}
 use Rattle.model.specs.Drawn.{ColumnsNew, DrawsInTurn, DrawsNext, IsAsTaken}
-use Rattle.model.specs.Entering.{Entering, GivenAfter, entered, states_of, states_to}
+use Rattle.model.specs.Entering.{ClocksAfter, Entering, EntersAt, entered, states_of, states_to}
 use Rattle.model.specs.History.{replay}
 use Rattle.model.specs.Journal as made
 use Rattle.model.specs.Journal.{ColumnAdded, ColumnDropped, NamespaceCloned, is_in}
-use Rattle.model.specs.Once.{CloneAsked, ClonesOnce, IsRestoreAsked, NoneAgain, Obeyed, RestoresOnce, commands_done, is_paired, restores_asked}
+use Rattle.model.specs.Once.{CloneAsked, ClonesOnce, NoneAgain, Obeyed, RestoresOnce, changes_asked, commands_done, is_paired, is_whole}
 use Rattle.model.specs.Parts.{Master, Parts}
-use Rattle.model.specs.Records.{CloneRecord, IsFencing, IsSnapshot, IsSwitching, RestorationRecord, SnapshotRecord, Snapshotting, State}
+use Rattle.model.specs.Records.{CloneRecord, IsCreating, IsFencing, IsSnapshot, IsSwitching, RestorationRecord, SnapshotRecord, Snapshotting, State}
 use Rattle.model.specs.Stands.{was_given}
 use Rattle.model.specs.Tablets.{FenceKind}
 use Rattle.model_rows.proofs.ClonesComeOnce.{asked, its_record}
@@ -21,7 +23,7 @@ use Rattle.model_rows.proofs.RightClones.{cloned}
 use Rattle.model_rows.specs.Computed.{the_book}
 use Rattle.model_rows.specs.FirstRead.{table_made}
 use Rattle.model_rows.specs.Runs.{Run, after, answered, coordinated, done}
-use Rattle.model_rows.specs.Scripts.{since, B, N, P, R, T, a, b, c, create_namespace, early, int_column, new_int, planned_change, ready, u, v, w}
+use Rattle.model_rows.specs.Scripts.{since, B, N, P, R, T, a, b, c, create_namespace, early, int_column, new_int, planned_change, ready, t, u, v, w}
 use Rattle.model_rows.specs.UndoneRestore.{restored, restored_to, restoring}
 
 -- Commands
@@ -53,7 +55,27 @@ refused_and_drawn turn = let e : ◌≡◌ {A = ℕ} 2 1 = turn.1.count Namespac
 -- a reply that gives the number after the next
 skipped_in_reply : DrawsInTurn 64 (answered (Ok (N 3 ∷ [])) made_one.entries) → ⊥
 unfolding the_book
-skipped_in_reply turn = let e : ◌≡◌ {A = ℕ} 3 2 = ap (λ i. i.number) (turn.1.next Namespace).0 in omega arith
+skipped_in_reply turn = let e : ◌≡◌ {A = List Id} (N 3 ∷ []) (N 2 ∷ []) = turn.1.named in grind arith
+
+-- a record that has the number after the one that the reply shows
+abbrev renumbered : Master
+renumbered = record made_one.parts.master {
+  catalog = record made_one.parts.master.catalog {
+    namespaces = map {A = NamespaceRecord} (λ r. record r { id = if same r.id (N 2) then N 3 else r.id }) made_one.parts.master.catalog.namespaces;
+  };
+}
+
+record_skips : DrawsNext (Change (CreateNamespace c) []) (Ok (N 2 ∷ [])) (early 5) ready.parts.master renumbered → ⊥
+unfolding the_book
+record_skips draws = let e : ◌≡◌ {A = ℕ} 3 2 = ap (λ i. i.number) (draws.next Namespace).0 in omega arith
+
+-- a number is drawn, and no record has it
+abbrev unmade : Master
+unmade = record made_one.parts.master { catalog = ready.parts.master.catalog }
+
+no_record : DrawsNext (Change (CreateNamespace c) []) (Ok (N 2 ∷ [])) (early 5) ready.parts.master unmade → ⊥
+unfolding the_book
+no_record draws = let e : ◌≡◌ {A = ℕ} 0 1 = draws.given Namespace in omega arith
 
 -- a new table with two tablets, whose numbers no reply shows
 abbrev two_tablets : Run
@@ -73,6 +95,22 @@ out_of_order : DrawsNext u_made (Ok (T 2 ∷ [])) (early 5) ready.parts.master s
 unfolding the_book
 out_of_order draws = let e : ◌≡◌ {A = ℕ} 3 2 = ap (λ i. i.number) (draws.next Tablet).0 in omega arith
 
+-- a split whose children have each other's range
+abbrev split_one : Run
+split_one = after (planned_change (Split a t 32768) (1 ∷ 2 ∷ 3 ∷ [])) ready
+
+abbrev child : ℕ → ℕ → ℕ → ℕ → Interval
+child slot number low high = record { slot = slot; tablet = B number; table = T 1; low = low; high = high; from = early 5; to = None }
+
+abbrev crossed : Master
+crossed = record split_one.parts.master {
+  activity = record (since 2) { to = Some (early 5) } ∷ child 2 2 32768 65536 ∷ child 3 3 0 32768 ∷ [];
+}
+
+crossed_children : DrawsNext (Change (Split a t 32768) (1 ∷ 2 ∷ 3 ∷ [])) (Ok (B 2 ∷ B 3 ∷ [])) (early 5) ready.parts.master crossed → ⊥
+unfolding the_book
+crossed_children draws = let e : ◌≡◌ {A = ℕ} 3 2 = ap (λ i. i.number) (draws.next Tablet).0 in omega arith
+
 -- one more number is drawn than there are tablets
 abbrev one_lost : Master
 one_lost = record two_tablets.parts.master { drawn = record two_tablets.parts.master.drawn { tablets = 4 } }
@@ -81,7 +119,7 @@ a_number_lost : DrawsNext u_made (Ok (T 2 ∷ [])) (early 5) ready.parts.master 
 unfolding the_book
 a_number_lost draws = let e : ◌≡◌ {A = ℕ} 4 3 = draws.count Tablet in omega arith
 
--- a restore's own snapshot takes the number after the next
+-- a restore names another snapshot as its own than the one that was made
 abbrev fenced_all : Run
 fenced_all = coordinated 3 restoring
 
@@ -95,7 +133,7 @@ other_own = record own_taken.parts.master {
 
 own_skips : DrawsNext (Advance (R 1)) (Advanced IsSnapshot) (early 10) fenced_all.parts.master other_own → ⊥
 unfolding the_book
-own_skips draws = let e : ◌≡◌ {A = ℕ} 2 1 = ap (λ i. i.number) (draws.next Snapshot).0 in omega arith
+own_skips draws = let e : ◌≡◌ {A = List Id} (P 2 ∷ []) (P 1 ∷ []) = draws.named in grind arith
 
 -- Columns
 
@@ -151,12 +189,28 @@ was_fenced : was_given (behind.tablet 1) (R 1) FenceKind ≡ true
 unfolding the_book
 was_fenced = refl
 
-given_behind : GivenAfter behind (accepted_at ∷ []) → ⊥
+given_behind : ClocksAfter behind (accepted_at ∷ []) → ⊥
 given_behind after = let given = after 1 (R 1) FenceKind was_fenced in by given.at given.was_entered given.below
   where
     by : (at : ℕ) → In (record { operation = R 1; state = IsFencing; at = at }) (accepted_at ∷ []) → at < early 5 → ⊥
     by at (inl e) below = let is : early 6 ≡ at = ap (λ k. k.at) e in omega arith
     by at (inr h) below = h
+
+-- a snapshot that keeps another time than the stamp at which it began
+abbrev begun_at : Entering
+begun_at = record { operation = P 1; state = IsCreating; at = early 10 }
+
+abbrev of_other_time : Parts
+of_other_time = record own_taken.parts {
+  master = record own_taken.parts.master { snapshots = record (own 1 (early 3) 9) { complete = false } ∷ [] };
+}
+
+taken_earlier : EntersAt of_other_time (begun_at ∷ []) → ⊥
+unfolding the_book
+taken_earlier enters = elim (enters.taken (record (own 1 (early 3) 9) { complete = false }) (inl refl)) [
+  | inl e ↦ (let is : early 10 ≡ early 9 = ap (λ k. k.at) e in omega arith)
+  | inr h ↦ h
+]
 
 -- a move that answers another state than the record entered
 entered_other : states_of (R 1) (entered 64 (answered (Advanced IsSwitching) own_taken.entries)) ≡ states_to (Snapshotting (early 11) (P 1)) → ⊥
@@ -177,13 +231,16 @@ other_time once = by once.restoration (subst (In once.restoration) its_kept once
     by r (inl e) to = let is : early 3 ≡ early 4 = ap (λ q. q.to) e ∙ to in omega arith
     by r (inr h) to = h
 
--- a restore of the journal that no accepted command asked for
-none_accepted : restores_asked 64 made_one.entries ≡ []
+-- a journal that has the restore twice, or another one
+the_move : changes_asked 64 restored.entries ≡ restored_to 11 3 ∷ []
 unfolding the_book
-none_accepted = refl
+the_move = refl
 
-not_asked : IsRestoreAsked 64 made_one.entries (restored_to 11 3) → ⊥
-not_asked by = absurd (subst (In by.command) none_accepted by.accepted)
+restored_twice : filter (λ c. is_whole c.act) (restored_to 11 3 ∷ restored_to 11 3 ∷ []) ≡ changes_asked 64 restored.entries → ⊥
+restored_twice e = let q : ◌≡◌ {A = List made.Change} (restored_to 11 3 ∷ restored_to 11 3 ∷ []) (restored_to 11 3 ∷ []) = e ∙ the_move in grind arith
+
+restored_other : filter (λ c. is_whole c.act) (restored_to 11 4 ∷ []) ≡ changes_asked 64 restored.entries → ⊥
+restored_other e = let q : ◌≡◌ {A = List made.Change} (restored_to 11 4 ∷ []) (restored_to 11 3 ∷ []) = e ∙ the_move in grind arith
 
 -- a clone to another time, under another name, or without a table that its source had
 

@@ -1,13 +1,13 @@
 -- What settling does: its acts one by one, the bound on them, and that no record is unfinished behind them.
-use Rattle.std.proofs.lemmas.Bool.{leb-true}
-use Rattle.std.proofs.Common.{◌≡◌, ◌≤◌, ℕ, true, List, [], ◌∷◌, ◌++◌, length, map, nat_le, Option, None, Some, refl, sym, subst}
+use Rattle.std.proofs.Common.{◌≡◌, ℕ, List, [], ◌∷◌, ◌++◌, None, ap, length, refl, sym, subst}
 use Rattle.row_values.specs.Ids.{Id}
-use Rattle.model.specs.Tablets.{FrozenSet, ReleaseKind, RestoreFromKind}
+use Rattle.model.specs.Tablets.{ReleaseKind, RestoreFromKind}
 use Rattle.model.specs.Records.{IsReleasing, IsRestored}
-use Rattle.model.specs.Acts.{Act, Ack, Acked, Advance, Advanced, CreateTable, Done, Gone, NotDone, Process, Refusal, Refused, Reply, Send, SentTo}
+use Rattle.model.specs.Acts.{Act, Ack, Acked, Advance, Advanced, CreateTable, Done, NotDone, Process, Refusal, Refused, Reply, Send, SentTo}
 use Rattle.model.specs.Parts.{Parts}
 use Rattle.model.specs.Settling.{left, EachGoesOn, GoesOn, Settles, after_acts, coordinated, replies_under, settle as settle_acts}
 use Rattle.model.specs.Work.{next_act, unfinished_records}
+use Rattle.model_rows.proofs.Numbers.{none_is_not_one}
 use Rattle.model_rows.specs.Computed.{the_book}
 use Rattle.model_rows.specs.Runs.{Run, after, begun}
 use Rattle.model_rows.specs.Scripts.{P, R, a, coordinate, create_namespace, create_schedule, early, home, new_int, planned_change, put, ready, restart, restore, t, take_snapshot, tick, v, v_is, x}
@@ -106,7 +106,7 @@ accepted : (act : Act) (reply : Reply) → ((why : Refusal) → reply ≡ Refuse
 accepted act reply never why is = absurd (never why is)
 
 early_ack : (operation : Id) (slot : ℕ) → GoesOn (Ack operation slot) (Refused NotDone)
-early_ack operation slot why is = record { operation = operation; slot = slot; act_is = refl; why_is = cc }
+early_ack operation slot why is = (cc, (operation, (slot, refl)))
 
 lost_goes_on : EachGoesOn lost_acts lost_replies
 lost_goes_on = (
@@ -134,45 +134,14 @@ lost_settles = record {
   finished = subst (λ acts. unfinished_records (after_acts 1000000 acts lost).master ≡ []) (sym lost_acts_are) lost_finished;
 }
 
--- where a frozen set begins above the time of the restore, the tablet can't take its rows back: settling doesn't go on
+-- where a restore waits for its own snapshot, and the master has lost that record, settling comes to no end
 
-abbrev begun_too_late : Parts
-begun_too_late = record lost {
-  tablet = λ slot. record (lost.tablet slot) {
-    frozen = map {A = FrozenSet} (λ f. record f { cutoff = early 4 }) (lost.tablet slot).frozen;
-  };
-}
+abbrev held_up : Parts
+held_up = let ps = (after (coordinate 4) restore_begun).parts in record ps { master = record ps.master { snapshots = [] } }
 
-abbrev third : List Reply → Option Reply
-third [] = None
-third (a ∷ []) = None
-third (a ∷ b ∷ []) = None
-third (a ∷ b ∷ c ∷ rest) = Some c
-
-rows_are_gone : third (replies_under 1000000 (settle_acts 1000000 begun_too_late) begun_too_late) ≡ Some (Refused (Gone (early 3) (early 4)))
+stuck : Settles 1000000 held_up → ⊥
 unfolding the_book
-rows_are_gone = refl
-
-not_gone : (acts : List Act) (replies : List Reply) (wanted cutoff : ℕ) → nat_le 3 (length acts) ≡ true → EachGoesOn acts replies
-    → third replies ≡ Some (Refused (Gone wanted cutoff)) → ⊥
-not_gone [] replies wanted cutoff long each is = cc
-not_gone (a ∷ []) replies wanted cutoff long each is = cc
-not_gone (a ∷ b ∷ []) replies wanted cutoff long each is = cc
-not_gone (a ∷ b ∷ c ∷ acts) [] wanted cutoff long each is = each
-not_gone (a ∷ b ∷ c ∷ acts) (r ∷ []) wanted cutoff long each is = each.1
-not_gone (a ∷ b ∷ c ∷ acts) (r ∷ s ∷ []) wanted cutoff long each is = each.1.1
-not_gone (a ∷ b ∷ c ∷ acts) (r ∷ s ∷ u ∷ replies) wanted cutoff long each is =
-    let refused : u ≡ Refused (Gone wanted cutoff) = cc in
-    let early = each.1.1.0 (Gone wanted cutoff) refused in
-    let why : Gone wanted cutoff ≡ NotDone = early.why_is in
-    cc
-
-three_acts : nat_le 3 (length (settle_acts 1000000 begun_too_late)) ≡ true
-unfolding the_book
-three_acts = refl
-
-stuck : Settles 1000000 begun_too_late → ⊥
-stuck settles = not_gone _ _ _ _ three_acts settles.each rows_are_gone
+stuck settles = none_is_not_one (sym (ap length settles.finished))
 
 -- nothing comes next where no record is unfinished
 nothing_next : next_act ready.parts ≡ None

@@ -1,19 +1,21 @@
--- The parts after a first write stand for its journal, and wouldn't without the version that it wrote.
-use Rattle.std.proofs.Common.{◌≡◌, ℕ, false, [], ◌∷◌, List, ◌≤◌, inl, inr, refl, arith, ap, sym, subst}
+-- The parts after a first write stand for its journal, and wouldn't without the version that it wrote, nor without the tablet.
+use Rattle.std.specs.Option.{option_map}
+use Rattle.std.proofs.Common.{◌≡◌, ℕ, true, false, Some, [], ◌∷◌, List, ◌≤◌, inl, inr, refl, arith, ap, sym, subst}
 use Rattle.std.proofs.lemmas.Bool.{true≢false, leb-true, ltb-true}
 use Rattle.std.proofs.lemmas.Bool.Decides.{nat_tests}
 use Rattle.row_values.specs.Elements.{In}
 use Rattle.model.specs.Journal.{row_at}
 use Rattle.model.specs.Parts.{Parts}
 use Rattle.row_values.specs.Store.{read_of}
-use Rattle.model.specs.Stands.{Stands, LiveStands, Cover}
+use Rattle.model.specs.Stands.{Stands, LiveStands, Cover, HoldsTablet, VersionsStand}
 use Rattle.model.specs.Activity.{Interval}
-use Rattle.model.specs.Strict.{Divides, HasRange}
-use Rattle.model.specs.Tablets.{FrozenSet, is_empty}
+use Rattle.model.specs.Stands.{Divides, HasRange}
+use Rattle.model.specs.Catalog.{current_table}
+use Rattle.model.specs.Tablets.{Tablet, HiddenPart, FrozenSet, emptied, is_empty, is_serving}
 use Rattle.model_rows.proofs.Numbers.{none_is_not_one}
 use Rattle.model_rows.specs.Computed.{the_book}
 use Rattle.model_rows.specs.FirstRead.{changes, written}
-use Rattle.model_rows.specs.Scripts.{since, T, early, x}
+use Rattle.model_rows.specs.Scripts.{since, B, T, early, x}
 
 written_stands_at_one : LiveStands written.parts changes 1
 unfolding the_book
@@ -32,8 +34,30 @@ nothing_frozen : (slot : ℕ) (f : FrozenSet) → slot ≡ 1 → In f (written.p
 unfolding the_book
 nothing_frozen slot f is_one inside = subst (λ s. In f (written.parts.tablet s).frozen) is_one inside
 
+its_activity : written.parts.master.activity ≡ since 2 ∷ []
+unfolding the_book
+its_activity = refl
+
+its_one : (i : Interval) → In i written.parts.master.activity → since 2 ≡ i
+its_one i listed = elim (subst (In i) its_activity listed) [ inl e ↦ e | inr none ↦ absurd none ]
+
+written_held : HoldsTablet (since 2) (written.parts.tablet 1)
+unfolding the_book
+written_held = record { present = refl; tablet_is = refl; table_is = refl; low_is = refl; high_is = refl }
+
+written_serves : is_serving (written.parts.tablet 1).presence ≡ true
+unfolding the_book
+written_serves = refl
+
+serving_slot : (slot : ℕ) → is_serving (written.parts.tablet slot).presence ≡ true → slot ≡ 1
+unfolding the_book
+serving_slot slot here = grind (arith, nat_tests)
+
 written_stands : Stands written.parts changes
 written_stands = record {
+  held = λ i listed. subst (λ i. HoldsTablet i (written.parts.tablet i.slot)) (its_one i listed) written_held;
+  serves = λ i listed opened came. subst (λ i. is_serving (written.parts.tablet i.slot).presence ≡ true) (its_one i listed) written_serves;
+  active = λ slot serving unfenced. (since 2, (subst (In (since 2)) (sym its_activity) (inl refl), (sym (serving_slot slot serving), refl)));
   live = λ slot here. subst (λ s. LiveStands written.parts changes s) (sym (only_slot slot here)) written_stands_at_one;
   frozen = λ slot f here inside. absurd (nothing_frozen slot f (only_slot slot here) inside);
 }
@@ -47,6 +71,46 @@ lost_version : LiveStands lost changes 1 → ⊥
 unfolding the_book
 lost_version stands =
     let e = stands.reads (since 2) x (early 3) refl refl (leb-true _ _ refl) (leb-true _ _ refl) refl refl refl in true≢false (sym (ap (λ row. row.present) e))
+
+-- nor do parts whose tablet is gone, is another's or goes unserved, though its reads are those of the journal
+
+abbrev with_part : (Tablet → Tablet) → Parts
+with_part f = record written.parts { tablet = λ slot. f (written.parts.tablet slot) }
+
+gone_part : Stands (with_part (λ t. emptied t.clock)) changes → ⊥
+unfolding the_book
+gone_part stands = true≢false (stands.held (since 2) (inl refl)).present
+
+of_another : Stands (with_part (λ t. record t { tablet = B 2 })) changes → ⊥
+unfolding the_book
+of_another stands = let e = (stands.held (since 2) (inl refl)).tablet_is in grind arith
+
+unserved : Stands (with_part (λ t. record t { presence = HiddenPart 0 })) changes → ⊥
+unfolding the_book
+unserved stands = true≢false (sym (stands.serves (since 2) (inl refl) refl refl))
+
+-- nor does a part that takes writes where the master has no active tablet
+
+abbrev forgotten : Parts
+forgotten = record written.parts { master = record written.parts.master { activity = [] } }
+
+never_active : Stands forgotten changes → ⊥
+unfolding the_book
+never_active stands = (stands.active 1 refl refl).1.0
+
+-- a part's version is that of its table's current schema, and no other
+
+its_version : option_map (λ r. r.schema.version) (current_table written.parts.master.catalog.tables (T 1)) ≡ Some (written.parts.tablet 1).version
+unfolding the_book
+its_version = refl
+
+written_versions : VersionsStand written.parts
+written_versions = λ i listed opened came.
+    subst (λ i. option_map (λ r. r.schema.version) (current_table written.parts.master.catalog.tables i.table) ≡ Some (written.parts.tablet i.slot).version) (its_one i listed) its_version
+
+not_told_of_a_column : VersionsStand (with_part (λ t. record t { version = 2 })) → ⊥
+unfolding the_book
+not_told_of_a_column stands = let e = stands (since 2) (inl refl) refl refl in grind arith
 
 written_covers : Cover written.parts.master.activity changes
 unfolding the_book

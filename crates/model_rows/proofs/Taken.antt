@@ -1,20 +1,20 @@
 -- What would take away something that a time in the window needs is refused: one kind of thing after the other.
-use Rattle.std.proofs.Common.{◌≡◌, ◌≤◌, ◌∷◌, ◌++◌, ap, arith, is_some, length, inl, refl, subst, sym, true, ℕ, [], None, Some}
+use Rattle.std.proofs.Common.{◌≡◌, ◌≤◌, ◌∷◌, ◌++◌, ap, arith, is_some, length, inl, inr, refl, subst, sym, true, ℕ, List, [], None, Some}
 use Rattle.std.proofs.lemmas.Bool.{leb-true, true≢false}
 use Rattle.row_values.specs.Store.{kept}
 use Rattle.model.specs.Activity.{active_at}
-use Rattle.model.specs.Acts.{Compact, Cutoff, Prune, Remove}
+use Rattle.model.specs.Acts.{Advance, Compact, Cutoff, Prune, Remove}
 use Rattle.model.specs.Catalog.{Catalog}
-use Rattle.model.specs.Retained.{floor_now}
+use Rattle.model.specs.Cleanup.{floor_of}
 use Rattle.model.specs.Parts.{Parts}
-use Rattle.model.specs.Records.{ScheduledNamespace}
+use Rattle.model.specs.Records.{Schedule, ScheduledNamespace}
 use Rattle.model.specs.Tablets.{Tablet, emptied}
 use Rattle.model.specs.Taking.{NeededKept, MarkRaised, TabletKept, TakesNothingNeeded}
 use Rattle.model_rows.proofs.RightEntries.{only_one}
 use Rattle.model_rows.proofs.Numbers.{none_is_not_one}
 use Rattle.model_rows.specs.Computed.{the_book}
 use Rattle.model_rows.specs.Runs.{Run, after}
-use Rattle.model_rows.specs.Scripts.{B, N, P, a, compact, early, home, ht, put, ready, settle, since, t, take_snapshot, v_is, x}
+use Rattle.model_rows.specs.Scripts.{B, N, P, S, T, a, compact, coordinate, early, home, ht, put, ready, restore, settle, since, t, take_snapshot, v_is, x}
 
 -- two values of a row, at the tablet's stamps 3 and 4; the window begins at 3, the master's clock is 5
 abbrev filled_run : Run
@@ -26,6 +26,9 @@ filled = filled_run.parts
 abbrev scheduled : ScheduledNamespace
 scheduled = record { namespace = N 1; since = early 3; last = None; complete = None }
 
+abbrev schedule : Schedule
+schedule = record { id = S 1; namespace = N 1; interval = 1; retention = 10; made = early 3; kept_low = early 3; last = None }
+
 abbrev with_tablets : (Tablet → Tablet) → Parts → Parts
 with_tablets changed ps = record ps { tablet = λ slot. changed (ps.tablet slot) }
 
@@ -36,7 +39,7 @@ with_catalog changed ps = record ps { master = record ps.master { catalog = chan
 folded_to_the_clock : TakesNothingNeeded (Compact 1) filled (with_tablets (λ t. record t { versions = kept t.versions (early 9) }) filled) → ⊥
 unfolding the_book
 folded_to_the_clock takes =
-    let needed = takes scheduled (early 3) (inl refl) (leb-true _ _ refl) (leb-true _ _ refl) refl in
+    let needed = takes.needed scheduled (early 3) (inl refl) (leb-true _ _ refl) (leb-true _ _ refl) refl in
     let e = (needed.tablets (since 2) (inl refl) refl refl).reads x in
     true≢false (sym (ap (λ row. row.present) e))
 
@@ -44,7 +47,7 @@ folded_to_the_clock takes =
 emptied_store : TakesNothingNeeded (Compact 1) filled (with_tablets (λ t. record t { versions = [] }) filled) → ⊥
 unfolding the_book
 emptied_store takes =
-    let needed = takes scheduled (early 5) (inl refl) (leb-true _ _ refl) (leb-true _ _ refl) refl in
+    let needed = takes.needed scheduled (early 5) (inl refl) (leb-true _ _ refl) (leb-true _ _ refl) refl in
     let e = (needed.tablets (since 2) (inl refl) refl refl).reads x in
     true≢false (sym (ap (λ row. row.present) e))
 
@@ -52,7 +55,7 @@ emptied_store takes =
 cut_too_far : TakesNothingNeeded (Cutoff 1) filled (with_tablets (λ t. record t { cutoff = early 4 }) filled) → ⊥
 unfolding the_book
 cut_too_far takes =
-    let needed = takes scheduled (early 3) (inl refl) (leb-true _ _ refl) (leb-true _ _ refl) refl in
+    let needed = takes.needed scheduled (early 3) (inl refl) (leb-true _ _ refl) (leb-true _ _ refl) refl in
     let reaches : early 4 ≤ early 3 = (needed.tablets (since 2) (inl refl) refl refl).reaches in
     omega arith
 
@@ -60,14 +63,14 @@ cut_too_far takes =
 tablet_removed : TakesNothingNeeded (Remove (B 1) (1 ∷ [])) filled (with_tablets (λ t. emptied t.clock) filled) → ⊥
 unfolding the_book
 tablet_removed takes =
-    let needed = takes scheduled (early 3) (inl refl) (leb-true _ _ refl) (leb-true _ _ refl) refl in
+    let needed = takes.needed scheduled (early 3) (inl refl) (leb-true _ _ refl) (leb-true _ _ refl) refl in
     true≢false ((needed.tablets (since 2) (inl refl) refl refl).present.held)
 
 -- the master forgets it
 forgotten : TakesNothingNeeded (Remove (B 1) (1 ∷ [])) filled (record filled { master = record filled.master { activity = [] } }) → ⊥
 unfolding the_book
 forgotten takes =
-    let needed = takes scheduled (early 3) (inl refl) (leb-true _ _ refl) (leb-true _ _ refl) refl in
+    let needed = takes.needed scheduled (early 3) (inl refl) (leb-true _ _ refl) (leb-true _ _ refl) refl in
     (needed.tablets (since 2) (inl refl) refl refl).active.listed
 
 -- a snapshot of stamp 5 that serves the window
@@ -80,13 +83,13 @@ snapped = record scheduled { last = Some (early 5); complete = Some (early 5) }
 snapshot_removed : TakesNothingNeeded (Remove (P 1) (1 ∷ [])) frozen (record frozen { master = record frozen.master { snapshots = [] } }) → ⊥
 unfolding the_book
 snapshot_removed takes =
-    let needed = takes snapped (early 3) (inl refl) (leb-true _ _ refl) (leb-true _ _ refl) refl in
+    let needed = takes.needed snapped (early 3) (inl refl) (leb-true _ _ refl) (leb-true _ _ refl) refl in
     true≢false (sym (ap is_some needed.serves))
 
 set_dropped : TakesNothingNeeded (Remove (P 1) (1 ∷ [])) frozen (with_tablets (λ t. record t { frozen = [] }) frozen) → ⊥
 unfolding the_book
 set_dropped takes =
-    let needed = takes snapped (early 3) (inl refl) (leb-true _ _ refl) (leb-true _ _ refl) refl in
+    let needed = takes.needed snapped (early 3) (inl refl) (leb-true _ _ refl) (leb-true _ _ refl) refl in
     true≢false (sym (ap is_some (needed.tablets (since 2) (inl refl) refl refl).set))
 
 -- a prune that takes the table's record, or the namespace's, or lets the mark rise above the low end
@@ -94,13 +97,13 @@ set_dropped takes =
 table_pruned : TakesNothingNeeded Prune filled (with_catalog (λ c. record c { tables = [] }) filled) → ⊥
 unfolding the_book
 table_pruned takes =
-    let needed = takes scheduled (early 3) (inl refl) (leb-true _ _ refl) (leb-true _ _ refl) refl in
+    let needed = takes.needed scheduled (early 3) (inl refl) (leb-true _ _ refl) (leb-true _ _ refl) refl in
     none_is_not_one (ap length needed.catalog.tables)
 
 namespace_pruned : TakesNothingNeeded Prune filled (with_catalog (λ c. record c { namespaces = [] }) filled) → ⊥
 unfolding the_book
 namespace_pruned takes =
-    let needed = takes scheduled (early 3) (inl refl) (leb-true _ _ refl) (leb-true _ _ refl) refl in
+    let needed = takes.needed scheduled (early 3) (inl refl) (leb-true _ _ refl) (leb-true _ _ refl) refl in
     none_is_not_one (ap length needed.catalog.names)
 
 abbrev marked_at : ℕ → Catalog → Catalog
@@ -109,9 +112,43 @@ marked_at from c = record c { kept_from = record { namespace = N 1; from = from 
 mark_too_high : TakesNothingNeeded Prune filled (with_catalog (marked_at (early 4)) filled) → ⊥
 unfolding the_book
 mark_too_high takes =
-    let needed = takes scheduled (early 3) (inl refl) (leb-true _ _ refl) (leb-true _ _ refl) refl in
+    let needed = takes.needed scheduled (early 3) (inl refl) (leb-true _ _ refl) (leb-true _ _ refl) refl in
     let kept : early 4 ≤ early 3 = needed.catalog.kept in
     omega arith
+
+-- a prune that takes all schedules has yet to keep what the window needs, and the schedule
+
+unscheduled : TakesNothingNeeded Prune filled (record filled { master = record filled.master { schedules = []; scheduled = [] } }) → ⊥
+unfolding the_book
+unscheduled takes = elim (takes.schedules schedule (inl refl)) [ inl kept ↦ kept.1.0 | inr by ↦ (elim by.1 [ inl e ↦ cc | inr edits ↦ (let e = edits.1.1 in cc) ]) ]
+
+unscheduled_and_pruned : TakesNothingNeeded Prune filled (with_catalog (λ c. record c { tables = [] }) (record filled { master = record filled.master { schedules = []; scheduled = [] } })) → ⊥
+unfolding the_book
+unscheduled_and_pruned takes =
+    let needed = takes.needed scheduled (early 3) (inl refl) (leb-true _ _ refl) (leb-true _ _ refl) refl in
+    none_is_not_one (ap length needed.catalog.tables)
+
+-- one that hands the tables to nobody
+disowned : TakesNothingNeeded Prune filled (with_catalog (λ c. record c { owners = [] }) filled) → ⊥
+unfolding the_book
+disowned takes =
+    let needed = takes.needed scheduled (early 3) (inl refl) (leb-true _ _ refl) (leb-true _ _ refl) refl in
+    true≢false (sym (needed.catalog.owners (T 1) refl))
+
+-- a restoration is to switch: the move of another record puts no other tables in place, not even from its point on
+
+abbrev switching : Parts
+switching = (after (put a t (home 1) x (v_is 1) ++ restore (early 3) ++ coordinate 9) ready).parts
+
+abbrev of_first : List ScheduledNamespace → ScheduledNamespace
+of_first [] = scheduled
+of_first (k ∷ ks) = k
+
+moved_by_another : TakesNothingNeeded (Advance (P 1)) switching (with_catalog (λ c. record c { tables = [] }) switching) → ⊥
+unfolding the_book
+moved_by_another takes =
+    let needed = takes.needed (of_first switching.master.scheduled) switching.master.clock (inl refl) (leb-true _ _ refl) (leb-true _ _ refl) refl in
+    none_is_not_one (ap length needed.catalog.tables)
 
 -- ten minutes later the floor is 1000000.3, and 900 seconds before that is nothing
 raised_to_the_floor : MarkRaised filled.master (with_catalog (marked_at (early 3)) filled).master (ht 601000000 3) (N 1) → ⊥
@@ -134,12 +171,12 @@ compacted = (after (compact 1) filled_run).parts
 kept_for_each : (to : ℕ) → early 3 ≤ to → NeededKept filled compacted (N 1) to
 unfolding the_book
 kept_for_each to from = record {
-  catalog = record { names = refl; tables = refl; kept = omega arith };
+  catalog = record { names = refl; tables = refl; owners = λ table owned. owned; kept = omega arith };
   places = λ table code owned. refl;
   serves = tt;
   tablets = λ i inside owned active. subst (λ j. active_at to j ≡ true → TabletKept filled compacted (N 1) to j) (only_one i (since 2) inside)
       (λ now. record {
-        present = record { held = refl; tablet_is = refl };
+        present = record { held = refl; tablet_is = refl; known = (since 2, (inl refl, (refl, refl))) };
         active = record { interval = since 2; listed = inl refl; place = refl; table = refl; active = now };
         set = tt;
         reaches = omega arith;
@@ -149,6 +186,9 @@ kept_for_each to from = record {
 
 compaction_takes_nothing : TakesNothingNeeded (Compact 1) filled compacted
 unfolding the_book
-compaction_takes_nothing k to listed from below point =
-    subst (λ r. floor_now compacted.master r.namespace ≤ to → NeededKept filled compacted r.namespace to) (only_one k scheduled listed)
-    (λ low. kept_for_each to low) from
+compaction_takes_nothing = record {
+  needed = λ k to listed from below point.
+      subst (λ r. floor_of filled.master r.namespace compacted.master.clock ≤ to → NeededKept filled compacted r.namespace to) (only_one k scheduled listed)
+      (λ low. kept_for_each to low) from;
+  schedules = λ s inside. inl (s, (inside, refl));
+}

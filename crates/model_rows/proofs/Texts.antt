@@ -232,7 +232,6 @@ refusals_told : map refusal_text
     ∷ acts.Waiting (P 1)
     ∷ acts.InWindow (early 7) (early 8)
     ∷ acts.IsListed (R 1)
-    ∷ acts.Gone (early 3) (early 4)
     ∷ [])
     ≡ codes "unknown_namespace"
     ∷ codes "unknown_table"
@@ -267,7 +266,6 @@ refusals_told : map refusal_text
     ∷ (codes "waiting" ++ uuid (P 1))
     ∷ codes "in_window 1000000.7 1000000.8"
     ∷ (codes "listed" ++ uuid (R 1))
-    ∷ codes "gone 1000000.3 1000000.4"
     ∷ []
 unfolding the_book
 refusals_told = refl

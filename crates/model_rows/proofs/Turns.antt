@@ -1,6 +1,6 @@
 -- Numbers are drawn in turn, and commands are done once, where the tests of a history say so.
-use Rattle.std.proofs.Common.{◌≡◌, ℕ, Bool, true, false, List, [], ◌∷◌, ◌&&◌, ◌+◌, inl, inr, refl, sym, ap, ◌∙◌, subst, eqb, eqb-true, length, arith, zero, suc, Option, Some, None, if◌then◌else◌}
-use Rattle.std.specs.List.{list_all, filter}
+use Rattle.std.proofs.Common.{◌≡◌, ℕ, Bool, true, false, List, [], ◌∷◌, ◌&&◌, ◌+◌, inl, inr, refl, sym, ap, ◌∙◌, subst, eqb, eqb-true, length, arith, zero, suc, Option, Some, None}
+use Rattle.std.specs.List.{list_all}
 use Rattle.std.proofs.lemmas.Bool.{true≢false}
 use Rattle.std.proofs.lemmas.Bool.Decides.{nat_tests}
 use Rattle.row_values.specs.Ids.{Id, Kind, Namespace, Table, Tablet, Schedule, Snapshot, Restoration, Clone, same_kind}
@@ -9,9 +9,9 @@ use Rattle.model.specs.Acts.{Act, Reply}
 use Rattle.model.specs.Parts.{Master}
 use Rattle.model.specs.Entries.{Entry}
 use Rattle.model.specs.Lists.{numbered_as}
-use Rattle.model.specs.Drawn.{AreNext, DrawsNext, DrawsInTurn, drawn_of, drawn_by, given_by}
+use Rattle.model.specs.Drawn.{AreNext, DrawsNext, DrawsInTurn, drawn_of, drawn_by, new_ids}
 use Rattle.model.specs.Once.{Obeyed, NoneAgain}
-use Rattle.model_rows.specs.Turns.{are_next, draws_next, all_kinds, all_draw_next, draw_in_turn, differ, none_again}
+use Rattle.model_rows.specs.Turns.{are_next, same_ids, draws_next, all_kinds, all_draw_next, draw_in_turn, differ, none_again}
 
 both : (a b : Bool) → (a && b) ≡ true → (a ≡ true) × (b ≡ true)
 both true b e = (refl, e)
@@ -44,8 +44,8 @@ next_in_turn (id ∷ ids) kind drawn e =
 abbrev DrawsKind : Act → Reply → ℕ → Master → Master → Kind → Type 0
 DrawsKind act reply n before after kind =
     (drawn_of kind after.drawn ≡ drawn_of kind before.drawn + drawn_of kind (drawn_by act reply n before))
-    × (length (given_by act reply after kind) ≡ drawn_of kind (drawn_by act reply n before))
-    × AreNext kind (drawn_of kind before.drawn) (given_by act reply after kind)
+    × (length (new_ids before after kind) ≡ drawn_of kind (drawn_by act reply n before))
+    × AreNext kind (drawn_of kind before.drawn) (new_ids before after kind)
 
 draws_kind : (act : Act) (reply : Reply) (n : ℕ) (before after : Master) (kind : Kind) → draws_next act reply n before after kind ≡ true
     → DrawsKind act reply n before after kind
@@ -68,18 +68,33 @@ in_kinds Snapshot = inr (inr (inr (inr (inl refl))))
 in_kinds Restoration = inr (inr (inr (inr (inr (inl refl)))))
 in_kinds Clone = inr (inr (inr (inr (inr (inr (inl refl))))))
 
-each_kind : (act : Act) (reply : Reply) (n : ℕ) (before after : Master) → all_draw_next act reply n before after ≡ true → (kind : Kind)
+ids_equal : (ids more : List Id) → same_ids ids more ≡ true → ids ≡ more
+ids_equal [] [] e = refl
+ids_equal [] (b ∷ more) e = absurd (true≢false (sym e))
+ids_equal (a ∷ ids) [] e = absurd (true≢false (sym e))
+ids_equal (a ∷ ids) (b ∷ more) e =
+    let apart = both _ _ e in
+    let first = both (eqb a.number b.number) (same_kind a.kind b.kind) apart.0 in
+    let kinds : a.kind ≡ b.kind = kind_equal a.kind b.kind first.1 in
+    let numbers : a.number ≡ b.number = eqb-true _ _ first.0 in
+    let is : a ≡ b = ap (λ k. numbered_as k a.number) kinds ∙ ap (numbered_as b.kind) numbers in
+    ap (λ i. i ∷ ids) is ∙ ap (λ is. b ∷ is) (ids_equal ids more apart.1)
+
+each_kind : (act : Act) (reply : Reply) (n : ℕ) (before after : Master) → list_all (draws_next act reply n before after) all_kinds ≡ true → (kind : Kind)
     → DrawsKind act reply n before after kind
 each_kind act reply n before after e kind =
     draws_kind act reply n before after kind (each_passes all_kinds (draws_next act reply n before after) kind e (in_kinds kind))
 
 entry_draws : (act : Act) (reply : Reply) (n : ℕ) (before after : Master) → all_draw_next act reply n before after ≡ true
     → DrawsNext act reply n before after
-entry_draws act reply n before after e = record {
-  count = λ kind. (each_kind act reply n before after e kind).0;
-  given = λ kind. (each_kind act reply n before after e kind).1;
-  next = λ kind. (each_kind act reply n before after e kind).2;
-}
+entry_draws act reply n before after e =
+    let apart = both _ _ e in
+    record {
+      count = λ kind. (each_kind act reply n before after apart.0 kind).0;
+      given = λ kind. (each_kind act reply n before after apart.0 kind).1;
+      next = λ kind. (each_kind act reply n before after apart.0 kind).2;
+      named = ids_equal _ _ apart.1;
+    }
 
 pub drawn_in_turn : (history : List Entry) (slots : ℕ) → draw_in_turn slots history ≡ true → DrawsInTurn slots history
 drawn_in_turn [] slots e = tt
@@ -100,16 +115,6 @@ none_done_again [] e = tt
 none_done_again (o ∷ os) e = let apart = both _ _ e in (none_done_again os apart.0, not_among os o apart.1)
 
 -- Lists
-
-behind : {A : Type 0} (b : Bool) (x y : A) (ys : List A) → In x ys → In x (if b then y ∷ ys else ys)
-behind true x y ys isin = inr isin
-behind false x y ys isin = isin
-
--- what is in a list and passes a test is among those that pass it
-pub passes_in : {A : Type 0} (xs : List A) (test : A → Bool) (x : A) → In x xs → test x ≡ true → In x (filter test xs)
-passes_in [] test x isin e = absurd isin
-passes_in (y ∷ xs) test x (inl is) e = let h : test y ≡ true = subst (λ z. test z ≡ true) (sym is) e in rw h (inl is)
-passes_in (y ∷ xs) test x (inr isin) e = behind (test y) x y (filter test xs) (passes_in xs test x isin e)
 
 -- what stands at a place of a list
 

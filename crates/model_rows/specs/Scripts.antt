@@ -9,7 +9,7 @@ use Rattle.row_values.specs.declared.rows.KeyedRow.{KeyedRow}
 use Rattle.row_values.specs.Ids.{Id, Namespace, Table, Tablet, Schedule, Snapshot, Restoration, Clone}
 use Rattle.row_values.specs.Schema.{Column, IntColumn, TextColumn, NewColumn, column_named, column_ids}
 use Rattle.model.specs.Activity.{Interval}
-use Rattle.model.specs.Acts.{Act, NamedCell, NamedItem, NamedUpsert, NamedDelete, Command, CreateNamespace, CreateTable, CreateSchedule, Restore, TakeSnapshot, AskPlan, AskKeys, AskTable, AskPresent, AskRemovable, At, Look, Change, Write, Read, Cutoff, Compact, Ack, Remove, Prune, Restart, Stats, Place, Ok, Planned, Placed, Rows, Refusal, Refused, Reply}
+use Rattle.model.specs.Acts.{Act, NamedCell, NamedItem, NamedUpsert, NamedDelete, Command, CreateNamespace, CreateTable, CreateSchedule, Restore, TakeSnapshot, AskPlan, AskKeys, AskPresent, AskRemovable, At, Look, Change, Write, Read, Cutoff, Compact, Ack, Remove, Prune, Restart, Stats, Place, Ok, Planned, Placed, Rows, Refusal, Refused, Reply}
 use Rattle.model_rows.specs.Runs.{Line, Tick, Do, Coordinate, Shown, Gave, Did, Run, begun, after, shown_newest}
 
 -- identifiers of each kind by number

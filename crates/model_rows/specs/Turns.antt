@@ -1,14 +1,13 @@
 -- What comes once in a history, and which numbers it draws, told by tests, so that a row computes it.
 use Rattle.std.specs.Prelude.{ℕ, Bool, true, List, [], ◌∷◌, ◌==◌, ◌&&◌, ◌+◌, not, length, false}
 use Rattle.std.specs.List.{list_all}
-use Rattle.row_values.specs.Ids.{Id, Kind, Namespace, Table, Tablet, Schedule, Snapshot, Restoration, Clone, same_kind}
+use Rattle.row_values.specs.Ids.{Id, Kind, Namespace, Table, Tablet, Schedule, Snapshot, Restoration, Clone, same, same_kind}
 use Rattle.model.specs.Tablets.{same_body}
 use Rattle.model.specs.Acts.{Act, Reply}
 use Rattle.model.specs.Parts.{Master}
 use Rattle.model.specs.Entries.{Entry}
 use Rattle.model.specs.History.{replay}
-use Rattle.model.specs.Drawn.{drawn_of, drawn_by, given_by}
-use Rattle.model.specs.Journal.{Change, ChangeAct, NamespaceMade, NamespaceDropped, TableMade, TableRenamed, TableDropped, ColumnAdded, ColumnDropped, RowChanged, NamespaceRestored, NamespaceCloned}
+use Rattle.model.specs.Drawn.{drawn_of, drawn_by, named_by, new_ids, to_name}
 use Rattle.model.specs.Once.{Obeyed}
 
 -- whether the identifiers are the next of their kind, in turn
@@ -21,15 +20,24 @@ are_next kind drawn (id ∷ ids) =
 abbrev pub draws_next : Act → Reply → ℕ → Master → Master → Kind → Bool
 draws_next act reply n before after kind =
     let drawn = drawn_of kind (drawn_by act reply n before) in
-    let given = given_by act reply after kind in
+    let given = new_ids before after kind in
     (drawn_of kind after.drawn == drawn_of kind before.drawn + drawn)
     && ((length given == drawn) && are_next kind (drawn_of kind before.drawn) given)
 
 abbrev pub all_kinds : List Kind
 all_kinds = Namespace ∷ Table ∷ Tablet ∷ Schedule ∷ Snapshot ∷ Restoration ∷ Clone ∷ []
 
+abbrev pub same_ids : List Id → List Id → Bool
+same_ids [] [] = true
+same_ids [] (b ∷ more) = false
+same_ids (a ∷ ids) [] = false
+same_ids (a ∷ ids) (b ∷ more) = same a b && same_ids ids more
+
+-- whether it does of each kind, and names what it has to
 abbrev pub all_draw_next : Act → Reply → ℕ → Master → Master → Bool
-all_draw_next act reply n before after = list_all (draws_next act reply n before after) all_kinds
+all_draw_next act reply n before after =
+    list_all (draws_next act reply n before after) all_kinds
+    && same_ids (named_by act reply after) (to_name act (new_ids before after))
 
 abbrev pub draw_in_turn : ℕ → List Entry → Bool
 draw_in_turn slots [] = true
@@ -47,36 +55,3 @@ differ o p = not
 abbrev pub none_again : List Obeyed → Bool
 none_again [] = true
 none_again (o ∷ os) = none_again os && list_all (differ o) os
-
--- whether a change is a restore, or a clone
-
-abbrev pub is_restore : Change → Bool
-is_restore c = elim c.act [
-  | NamespaceMade namespace name ↦ false
-  | NamespaceDropped namespace ↦ false
-  | TableMade table namespace name columns ↦ false
-  | TableRenamed table name ↦ false
-  | TableDropped table ↦ false
-  | ColumnAdded table column ↦ false
-  | ColumnDropped table column ↦ false
-  | RowChanged table key op ↦ false
-  | NamespaceRestored namespace to ↦ true
-  | NamespaceCloned source target name to tables ↦ false
-]
-
-abbrev pub is_clone : Change → Bool
-is_clone c = elim c.act [
-  | NamespaceMade namespace name ↦ false
-  | NamespaceDropped namespace ↦ false
-  | TableMade table namespace name columns ↦ false
-  | TableRenamed table name ↦ false
-  | TableDropped table ↦ false
-  | ColumnAdded table column ↦ false
-  | ColumnDropped table column ↦ false
-  | RowChanged table key op ↦ false
-  | NamespaceRestored namespace to ↦ false
-  | NamespaceCloned source target name to tables ↦ true
-]
-
-abbrev pub of_act : ChangeAct → Change
-of_act act = record { stamp = 0; act = act }

@@ -127,7 +127,6 @@ refusal_text acts.NotDone = codes "not_done"
 refusal_text (acts.Waiting on) = codes "waiting" ++ id_word on
 refusal_text (acts.InWindow at floor) = codes "in_window" ++ time_word at ++ time_word floor
 refusal_text (acts.IsListed by) = codes "listed" ++ id_word by
-refusal_text (acts.Gone wanted cutoff) = codes "gone" ++ time_word wanted ++ time_word cutoff
 
 -- Lists
 

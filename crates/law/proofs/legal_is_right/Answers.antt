@@ -1,15 +1,18 @@
 -- By the induction over the history.
 use Rattle.law.proofs.Law.{legal_holds}
 use Rattle.law.proofs.Standing.{all_stand}
+use Rattle.law.proofs.PartInTurn.{versions_stand}
 use Rattle.law.proofs.Recording.{all_recorded}
 use Rattle.law.proofs.Fixed.{fixed_stays}
+use Rattle.law.proofs.Answered.{legal_right}
 use Rattle.law.proofs.legal_is_right.Goals as goal
 
 pub returns : goal.returns
 returns c = record {
-  right = λ slots history legal. (legal_holds history slots legal).right;
+  right = λ slots history legal. legal_right history slots legal;
   holds = λ slots history legal. (legal_holds history slots legal).inv;
   stands = λ slots history legal. all_stand _ _ _ (legal_holds history slots legal).inv;
+  versions = λ slots history legal. versions_stand history slots legal;
   facts = λ slots history legal. all_recorded _ _ _ (legal_holds history slots legal).inv;
   cover = λ slots history legal.
       let cover = (legal_holds history slots legal).inv.cover in

@@ -4,5 +4,5 @@ use Rattle.law_retention.proofs.acts_take_nothing.Goals as goal
 
 pub returns : goal.returns
 returns c = record {
-  needed = λ act slots n ps activity taken changes asked covered later inv retained. act_takes_nothing act slots asked covered n ps activity taken changes later inv retained;
+  needed = λ act slots n ps activity changes later_activity later_changes asked later inv facts after. act_takes_nothing act slots asked n ps activity changes later inv facts later_activity later_changes after;
 }

@@ -3,4 +3,4 @@ use Rattle.law_retention.proofs.Retaining.{facts_retain}
 use Rattle.law_retention.proofs.retention_follows.Goals as goal
 
 pub returns : goal.returns
-returns c = record { retained = λ ps activity changes taken inv facts rise. facts_retain ps activity changes taken inv facts rise }
+returns c = record { retained = λ ps activity changes taken since inv facts h. facts_retain ps activity changes taken since inv facts h }

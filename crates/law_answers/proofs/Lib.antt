@@ -1,0 +1,9 @@
+pub mod Looking
+pub mod Placing
+pub mod Places
+pub mod Reading
+pub mod Naming
+pub mod Windows
+pub mod Refusing
+pub mod Commanding
+pub mod Answering

@@ -1,0 +1,5 @@
+pub mod States
+pub mod Entered
+pub mod Made
+pub mod Kept
+pub mod Given

@@ -4,3 +4,4 @@ pub mod Chains
 pub mod Counts
 pub mod Spaces
 pub mod Found
+pub mod Stood

@@ -1,11 +1,11 @@
 -- What the parts of the catalog keep.
-use Rattle.std.specs.Prelude.{ℕ, Bool, List, [], ◌∷◌, Option, Some, None, max, not, ◌&&◌, if◌then◌else◌, nat_le, true, false}
+use Rattle.std.specs.Prelude.{ℕ, ◌≤◌, length, Bool, List, [], ◌∷◌, Option, Some, None, max, not, ◌&&◌, if◌then◌else◌, nat_le, true, false}
 use Rattle.std.specs.Option.{option_map, unwrap_or}
 use Rattle.std.specs.Str.{bytes_eq}
 use Rattle.indexmap.specs.IndexMap.{IndexMap, get}
 use Rattle.row_values.specs.Ids.{Id, same}
-use Rattle.model.specs.Times.{is_open, ended, ended_by, before_end}
-use Rattle.model.specs.Catalog.{Catalog, NamespaceRecord, TableRecord, KeptFrom, Owner}
+use Rattle.model.specs.Times.{is_open, ended, ended_by, before_end, holds_at}
+use Rattle.model.specs.Catalog.{put_table, Catalog, NamespaceRecord, TableRecord, KeptFrom, Owner}
 
 -- a list, and for how many more there is room
 pub record Roomy (A : Type 0) : Type 0 where
@@ -98,6 +98,13 @@ abbrev pub ends_by : ℕ → List TableRecord → Bool
 ends_by at [] = true
 ends_by at (r ∷ rs) = over_or_open at r.to && ends_by at rs
 
+-- a record of the namespace that held at a time
+abbrev pub stands_in : Id → ℕ → TableRecord → Bool
+stands_in ns x r = holds_at x r.from r.to && same r.namespace ns
+
+abbrev pub put_standing : Id → ℕ → TableRecord → List TableRecord → List TableRecord
+put_standing ns x r found = if stands_in ns x r then put_table r found else found
+
 abbrev pub namespace_of : Option TableRecord → Option Id
 namespace_of r = option_map {T = TableRecord} (λ r. r.namespace) r
 
@@ -115,3 +122,7 @@ count_in eq counts ns = unwrap_or (get eq counts ns) 0
 pub record CatalogView : Type 0 where
   pub catalog : Catalog
   pub room : ℕ
+
+-- whether there is room to look up anew as many records as there are
+abbrev pub KeepRoom : CatalogView → Type 0
+KeepRoom v = (length v.catalog.namespaces ≤ v.room) × (length v.catalog.tables ≤ v.room)

@@ -1,9 +1,10 @@
-ghost use Rattle.std.specs.Prelude.{◌≡◌, ◌≤◌, ◌+◌, None, true, [], ◌∷◌, ◌++◌, length, filter, OnOk};
+ghost use Rattle.std.specs.Prelude.{◌≡◌, ◌≤◌, ◌+◌, None, true, [], ◌∷◌, ◌++◌, length, filter, IfOk, OnOk};
 ghost use Rattle.std.specs.Option.{option_copied};
 ghost use Rattle.model.specs.Times.{is_open};
-ghost use Rattle.model.specs.Catalog.{Catalog, TableRecord, empty_catalog, namespace_named, name_of, current_named, current_table, current_tables, table_named, latest, kept_from, set_kept_from, owner_of, namespace_added, namespace_ended, table_added, table_ended};
-ghost use Rattle.catalog_core.specs.Kept.{ends_by};
+ghost use Rattle.model.specs.Catalog.{Catalog, NamespaceRecord, TableRecord, tables_at, empty_catalog, namespace_named, name_of, current_named, current_table, current_tables, table_named, latest, kept_from, set_kept_from, owner_of, namespace_added, namespace_ended, table_added, table_ended};
+ghost use Rattle.catalog_core.specs.Kept.{ends_by, KeepRoom};
 
+use crate::keeping::Keeps;
 use crate::marks::Marks;
 use crate::namespaces::Namespaces;
 use crate::owners::Owners;
@@ -12,6 +13,7 @@ use crate::tables::Tables;
 use hybrid_time::HybridTime;
 use row_values::{Name, NoMemory};
 use std::alloc::Global;
+use std::cmp::max;
 use std::marker::Model;
 use table_schema::Schema;
 use yb_ident::Ident;
@@ -125,6 +127,26 @@ impl Catalog {
         self.owners.owner_of(table)
     }
 
+    /// The tables of a namespace that held at a time, in order of id. It goes over all kept records
+    /// of tables.
+    pub fn tables_at(
+        &self,
+        alloc: Global,
+        namespace: &Ident,
+        x: HybridTime,
+    ) -> Result<Vec<TableRecord>, NoMemory>
+        ensures exact { IfOk result (λ found. found.items ≡ tables_at self.now.catalog.tables namespace.now x) }
+    {
+        self.tables.tables_at(alloc, namespace, x)
+    }
+
+    /// The records of tables, the oldest first.
+    pub fn tables(&self) -> &[TableRecord]
+        ensures all { result.now ≡ self.now.catalog.tables }
+    {
+        self.tables.records()
+    }
+
     /// Whether no record of a table ends after a time. It goes through all of them.
     pub fn ends_by(&self, at: HybridTime) -> bool
         ensures { result ≡ ends_by at self.now.catalog.tables }
@@ -218,5 +240,29 @@ impl Catalog {
         ensures room { self.old.room ≤ self.new.room + 1 }
     {
         self.kept_from.set(namespace, from);
+    }
+
+    /// Makes room to look up anew what a prune leaves.
+    pub fn prepare_keep(&mut self) -> Result<(), NoMemory>
+        ensures catalog { self.new.catalog ≡ self.old.catalog }
+        ensures room { OnOk result (KeepRoom self.new) }
+    {
+        let count = max(self.namespaces.records().len(), self.tables.records().len());
+        self.prepare(count)
+    }
+
+    /// The records of namespaces and of tables that don't stay go. What is current has to stay. It
+    /// takes no memory beside the room that was made.
+    pub fn keep<S: Keeps<NamespaceRecord>, T: Keeps<TableRecord>>(&mut self, spaces: &S, tables: &T)
+        requires room { KeepRoom self.old }
+        requires spaces_stay { (r : NamespaceRecord) → is_open r.to ≡ true → S.stays spaces.now r ≡ true }
+        requires tables_stay { (r : TableRecord) → is_open r.to ≡ true → T.stays tables.now r ≡ true }
+        ensures catalog { self.new.catalog ≡ record self.old.catalog {
+          namespaces = filter (λ r. S.stays spaces.now r) self.old.catalog.namespaces;
+          tables = filter (λ r. T.stays tables.now r) self.old.catalog.tables;
+        } }
+    {
+        self.namespaces.keep(spaces);
+        self.tables.keep(tables);
     }
 }

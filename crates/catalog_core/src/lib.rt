@@ -8,14 +8,17 @@
 
 mod catalog;
 mod codes;
+mod keeping;
 mod keys;
 mod marks;
 mod namespaces;
 mod owners;
 mod records;
+mod standing;
 mod tables;
 
 pub use catalog::Catalog;
+pub use keeping::Keeps;
 pub use marks::Marks;
 pub use namespaces::Namespaces;
 pub use owners::Owners;

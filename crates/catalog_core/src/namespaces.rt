@@ -1,4 +1,4 @@
-ghost use Rattle.std.specs.Prelude.{◌≡◌, ◌≤◌, ◌-◌, ◌+◌, nat_eq, None, [], ◌∷◌, ◌++◌, map, length, filter, is_some, OnOk, vec_len, vec_capacity, slice_get, Some};
+ghost use Rattle.std.specs.Prelude.{◌≡◌, ◌≤◌, ◌-◌, ◌+◌, nat_eq, true, None, [], ◌∷◌, ◌++◌, map, length, filter, is_some, OnOk, vec_len, vec_capacity, slice_get, Some};
 ghost use Rattle.std.specs.Option.{option_copied};
 ghost use Rattle.std.specs.Str.{bytes_eq};
 ghost use Rattle.newest_index.specs.Newest.{Indexes, last_place, open_at, changed_at};
@@ -8,6 +8,7 @@ ghost use Rattle.catalog_core.specs.Codes.{space_code};
 ghost use Rattle.catalog_core.specs.Kept.{is_current_space, space_ended, one_if};
 
 use crate::codes::name_code;
+use crate::keeping::{ById, ByName, Keeps, retain};
 use crate::keys::keys_agree;
 use crate::records::NamespaceRecord;
 use hybrid_time::HybridTime;
@@ -144,6 +145,19 @@ impl Namespaces {
         keys_agree();
         let place = self.by_id.newest(id);
         self.current -= end_place(&mut self.records, place, at);
+    }
+
+    /// The records that don't stay go, and those that are left are looked up anew, in the room that
+    /// was made for as many as there are. What is current has to stay.
+    pub fn keep<T: Keeps<NamespaceRecord>>(&mut self, test: &T)
+        requires room { length self.old.items ≤ self.old.room }
+        requires current { (r : NamespaceRecord) → is_open r.to ≡ true → T.stays test.now r ≡ true }
+        ensures items { self.new.items ≡ filter (λ r. T.stays test.now r) self.old.items }
+    {
+        self.room = 0;
+        retain(&mut self.records, test);
+        self.named.index_anew(self.records.as_slice(), &ByName);
+        self.by_id.index_anew(self.records.as_slice(), &ById);
     }
 }
 

@@ -1,15 +1,18 @@
-ghost use Rattle.std.specs.Prelude.{◌≡◌, ◌≤◌, ◌<◌, ◌-◌, ◌+◌, ◌^◌, nat_eq, true, None, [], ◌∷◌, ◌++◌, map, length, OnOk, vec_len, vec_capacity, slice_get, Some};
+ghost use Rattle.std.specs.Prelude.{◌≡◌, ◌≤◌, ◌<◌, ◌-◌, ◌+◌, ◌^◌, nat_eq, true, None, [], ◌∷◌, ◌++◌, map, length, filter, IfOk, OnOk, vec_len, vec_capacity, slice_get, Some};
 ghost use Rattle.std.specs.Option.{option_copied};
 ghost use Rattle.indexmap.specs.IndexMap.{spare};
 ghost use Rattle.newest_index.specs.Newest.{Indexes, last_place, open_at, record_of, if_open, changed_at};
 ghost use Rattle.row_values.specs.Ids.{Id, same};
-ghost use Rattle.model.specs.Catalog.{TableRecord, current_named, current_table, current_tables, table_named, latest, end_table};
+ghost use Rattle.model.specs.Catalog.{TableRecord, current_named, current_table, current_tables, table_named, tables_at, latest, end_table};
+ghost use Rattle.model.specs.Times.{is_open};
 ghost use Rattle.catalog_core.specs.Codes.{table_code, code_in};
 ghost use Rattle.catalog_core.specs.Kept.{is_current_table, table_closed, stood_at, is_sought, begun_by, over_or_open, ends_by, namespace_of, is_named, one_if, count_in};
 
 use crate::codes::name_code;
+use crate::keeping::{ById, ByName, Keeps, retain};
 use crate::keys::keys_agree;
 use crate::records::TableRecord;
+use crate::standing::put_standing;
 use hybrid_time::HybridTime;
 use indexmap::IndexMap;
 use newest_index::NewestIndex;
@@ -139,6 +142,23 @@ impl Tables {
         self.records.as_slice()
     }
 
+    /// The tables of a namespace that held at a time, in order of id. It goes over all kept records.
+    pub fn tables_at(
+        &self,
+        alloc: Global,
+        namespace: &Ident,
+        x: HybridTime,
+    ) -> Result<Vec<TableRecord>, NoMemory>
+        ensures exact { IfOk result (λ found. found.items ≡ tables_at self.now.items namespace.now x) }
+    {
+        let count = self.records.len();
+        let mut found = Vec::new(alloc);
+        for past in 0..count {
+            put_standing(&mut found, &self.records[count - 1 - past], namespace, x)?;
+        }
+        Ok(found)
+    }
+
     /// Makes room for so many more records.
     pub fn prepare(&mut self, count: usize) -> Result<(), NoMemory>
         ensures kept { self.new.items ≡ self.old.items }
@@ -182,6 +202,19 @@ impl Tables {
         let place = self.by_id.newest(id);
         let namespace = end_place(&mut self.records, place, at);
         lower_count(&mut self.counts, namespace);
+    }
+
+    /// The records that don't stay go, and those that are left are looked up anew, in the room that
+    /// was made for as many as there are. What is current has to stay.
+    pub fn keep<T: Keeps<TableRecord>>(&mut self, test: &T)
+        requires room { length self.old.items ≤ self.old.room }
+        requires current { (r : TableRecord) → is_open r.to ≡ true → T.stays test.now r ≡ true }
+        ensures items { self.new.items ≡ filter (λ r. T.stays test.now r) self.old.items }
+    {
+        self.room = 0;
+        retain(&mut self.records, test);
+        self.named.index_anew(self.records.as_slice(), &ByName);
+        self.by_id.index_anew(self.records.as_slice(), &ById);
     }
 }
 
@@ -281,7 +314,7 @@ fn is_sought(
 }
 
 // The number by which the name of a table is looked up.
-fn code_in(namespace: &Ident, name: &Name) -> u64
+pub fn code_in(namespace: &Ident, name: &Name) -> u64
     ensures code { result ≡ code_in namespace.now name.now }
 {
     name_code(namespace.number % (1 << 32), name)

@@ -39,7 +39,7 @@ last_by true false i later found e = absurd (cc)
 last_by false true i later found e = absurd (cc)
 last_by false false i later found e = refl
 
-end_by : (t s : Bool) (i : Interval) (at : ℕ) → t ≡ s → (if t then ends_at at i else i) ≡ record i { to = if s then ended at i.to else i.to }
+pub end_by : (t s : Bool) (i : Interval) (at : ℕ) → t ≡ s → (if t then ends_at at i else i) ≡ record i { to = if s then ended at i.to else i.to }
 end_by true true i at e = refl
 end_by true false i at e = absurd (cc)
 end_by false true i at e = absurd (cc)

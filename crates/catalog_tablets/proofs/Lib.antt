@@ -1,1 +1,4 @@
 pub mod Active
+pub mod Counted
+pub mod Freeing
+pub mod Filtered

@@ -5,8 +5,6 @@ use Rattle.row_values.specs.Ids.{Id}
 use Rattle.row_values.specs.Ranges.{in_range}
 use Rattle.model.specs.Times.{is_open, ended}
 use Rattle.model.specs.Activity.{Interval, active_at}
-use Rattle.model.specs.Acts.{Place}
-use Rattle.catalog_tablets.specs.declared.interval.TabletPlace.{TabletPlace}
 
 -- the book's intervals, and for how many more there is room
 pub record TabletsView : Type 0 where
@@ -22,9 +20,6 @@ table_of i = i.table
 
 abbrev pub slot_of : Interval → ℕ
 slot_of i = i.slot
-
-abbrev pub place_seen : TabletPlace → Place
-place_seen p = record { slot = p.slot; tablet = p.tablet; low = p.range.low; high = p.range.high }
 
 -- an interval of the code that was active at a time, or else what was found later
 abbrev pub routed : ℕ → ℕ → Interval → Option Interval → Option Interval

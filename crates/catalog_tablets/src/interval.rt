@@ -1,8 +1,6 @@
 ghost use Rattle.std.specs.Prelude.{◌≡◌};
 ghost use Rattle.model.specs.Times.{before_end};
 ghost use Rattle.model.specs.Activity as book;
-ghost use Rattle.model.specs.Looks.{place_of};
-ghost use Rattle.catalog_tablets.specs.View.{place_seen};
 
 use hybrid_time::HybridTime;
 use partition_codes::Range;
@@ -47,14 +45,6 @@ impl Model for Interval {
     } };
 }
 
-/// Where a tablet is, and the codes that it holds.
-#[derive(Clone, Copy, Debug, PartialEq, Eq)]
-pub struct TabletPlace {
-    pub slot: u32,
-    pub tablet: Ident,
-    pub range: Range,
-}
-
 impl Interval {
     /// Whether the tablet was active at a time.
     pub fn is_active_at(&self, x: HybridTime) -> bool
@@ -68,17 +58,6 @@ impl Interval {
         ensures exact { result ≡ book.active_between a b self.now }
     {
         self.from.number() <= b.number() && is_before_end(a, self.to)
-    }
-
-    /// The tablet's place.
-    pub fn place(&self) -> TabletPlace
-        ensures exact { place_seen result ≡ place_of self.now }
-    {
-        TabletPlace {
-            slot: self.slot,
-            tablet: self.tablet,
-            range: self.range,
-        }
     }
 }
 

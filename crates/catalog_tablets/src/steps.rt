@@ -1,9 +1,11 @@
 ghost use Rattle.std.specs.Prelude.{◌≡◌};
 ghost use Rattle.model.specs.Times.{is_open};
 ghost use Rattle.model.specs.Activity as book;
+ghost use Rattle.catalog_tablets.specs.Slots.{lowered};
 ghost use Rattle.catalog_tablets.specs.View.{routed, held, later_first, ends_at};
 
 use crate::interval::Interval;
+use crate::slots::SlotCounts;
 use hybrid_time::HybridTime;
 use kept_records::{Changes, Gathers, Tests};
 
@@ -72,6 +74,20 @@ impl Changes<Interval> for Ends {
         if item.to.is_none() {
             item.to = Some(self.at);
         }
+    }
+}
+
+// The slot of an interval that goes is used once less.
+#[derive(Drop)]
+pub struct Leaves;
+
+impl Gathers<Interval, SlotCounts> for Leaves {
+    ghost step = { λ _ i later. lowered i.slot later };
+
+    fn step(&self, item: &Interval, later: SlotCounts) -> SlotCounts {
+        let mut counts = later;
+        counts.lower(item.slot);
+        counts
     }
 }
 

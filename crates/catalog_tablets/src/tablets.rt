@@ -1,17 +1,21 @@
-ghost use Rattle.std.specs.Prelude.{ℕ, ◌≡◌, ◌≤◌, ◌-◌, ◌+◌, ◌&&◌, [], ◌∷◌, ◌++◌, Some, None, OnOk, IfOk, is_some};
+ghost use Rattle.std.specs.Prelude.{ℕ, ◌≡◌, ◌≤◌, ◌-◌, ◌+◌, ◌&&◌, [], ◌∷◌, ◌++◌, Some, None, OnOk, IfOk, is_some, map, if◌then◌else◌};
 ghost use Rattle.std.specs.List.{filter};
 ghost use Rattle.row_values.specs.Ids.{same};
+ghost use Rattle.row_values.specs.Slots.{has};
+ghost use Rattle.model.specs.Times.{ended};
 ghost use Rattle.model.specs.Parts.{Master};
 ghost use Rattle.model.specs.Activity as book;
 ghost use Rattle.model.specs.Looks as looks;
 ghost use Rattle.model.specs.Cleanup.{last_in};
-ghost use Rattle.model.specs.Changed.{begins, children, next_tablet};
+ghost use Rattle.model.specs.Activity.{Interval};
+ghost use Rattle.catalog_tablets.specs.View.{slot_of};
 
 use crate::agree::keys_agree;
 use crate::interval::Interval;
-use crate::steps::{ActiveAt, ActiveBetween, Ends, Holds, Last, Open, Routes};
+use crate::slots::SlotCounts;
+use crate::steps::{ActiveAt, ActiveBetween, Ends, Holds, Last, Leaves, Open, Routes};
 use hybrid_time::HybridTime;
-use kept_records::{Kept, change, gather, select, take_out};
+use kept_records::{Kept, Tests, change, change_all, gather, passing, select, take_out};
 use newest_index::NewestIndex;
 use row_values::NoMemory;
 use std::alloc::Global;
@@ -26,6 +30,7 @@ pub struct Tablets {
     by_tablet: NewestIndex<Ident>,
     by_table: NewestIndex<Ident>,
     by_slot: NewestIndex<u32>,
+    in_slots: SlotCounts,
     room: usize,
 }
 
@@ -35,6 +40,7 @@ impl Model for Tablets {
     ghost use Rattle.newest_index.specs.Newest.{Indexes};
     ghost use Rattle.kept_records.specs.Gathered.{present_of, kept_key};
     ghost use Rattle.catalog_tablets.specs.View.{TabletsView, tablet_of, table_of, slot_of};
+    ghost use Rattle.catalog_tablets.specs.Slots.{Counts, number_in};
 
     ghost Value = { TabletsView };
 
@@ -44,6 +50,7 @@ impl Model for Tablets {
       by_tablet : Indexes ⟦<Ident as PartialEq>⟧.eq t.by_tablet.places t.by_tablet.earlier.items (map (kept_key tablet_of) t.intervals.items);
       by_table : Indexes ⟦<Ident as PartialEq>⟧.eq t.by_table.places t.by_table.earlier.items (map (kept_key table_of) t.intervals.items);
       by_slot : Indexes ⟦<u32 as PartialEq>⟧.eq t.by_slot.places t.by_slot.earlier.items (map (kept_key slot_of) t.intervals.items);
+      counted : Counts t.in_slots (number_in (present_of t.intervals.items));
       list_room : t.room ≤ vec_capacity t.intervals - vec_len t.intervals;
       tablet_room : t.room ≤ spare t.by_tablet.places;
       tablet_links : t.room ≤ vec_capacity t.by_tablet.earlier - vec_len t.by_tablet.earlier;
@@ -64,8 +71,24 @@ impl Tablets {
             by_tablet: NewestIndex::new(alloc),
             by_table: NewestIndex::new(alloc),
             by_slot: NewestIndex::new(alloc),
+            in_slots: SlotCounts::none(alloc),
             room: 0,
         }
+    }
+
+    /// No tablets, of a cluster with so many slots: how often each of them is used is counted.
+    pub fn for_slots(alloc: Global, slots: u32) -> Result<Tablets, NoMemory>
+        ensures empty { IfOk result (λ t. t ≡ record { activity = []; room = 0 }) }
+    {
+        let in_slots = SlotCounts::new(alloc, slots)?;
+        Ok(Tablets {
+            intervals: Vec::new(alloc),
+            by_tablet: NewestIndex::new(alloc),
+            by_table: NewestIndex::new(alloc),
+            by_slot: NewestIndex::new(alloc),
+            in_slots,
+            room: 0,
+        })
     }
 
     /// The interval of the table's tablet that held a code at a time; `None` exactly where no kept
@@ -118,6 +141,25 @@ impl Tablets {
     {
         keys_agree();
         gather(&self.by_slot, &slot, self.intervals.as_slice(), &Last, None)
+    }
+
+    /// Whether a kept interval is in a slot. It takes no memory, and is a look at a count where the
+    /// slot is counted.
+    pub fn is_used(&self, slot: u32) -> bool
+        ensures exact { result ≡ has (map slot_of self.now.activity) slot }
+    {
+        match self.in_slots.get(slot) {
+            Some(count) => count > 0,
+            None => self.last_in(slot).is_some(),
+        }
+    }
+
+    /// The intervals that pass a test, in the order in which they began. It goes over all of them.
+    pub fn passing<T: Tests<Interval>>(&self, test: &T) -> Result<Vec<Interval>, NoMemory>
+        ensures exact { IfOk result (λ found. found.items ≡ filter (λ i. T.passes test.now i) self.now.activity) }
+    {
+        let alloc = *self.intervals.allocator();
+        passing(alloc, self.intervals.as_slice(), test)
     }
 
     /// The table's tablets that are active, in the order in which they began.
@@ -198,6 +240,7 @@ impl Tablets {
         self.by_tablet.note(interval.tablet);
         self.by_table.note(interval.table);
         self.by_slot.note(interval.slot);
+        self.in_slots.raise(interval.slot);
         self.intervals
             .push(Kept {
                 item: interval,
@@ -224,12 +267,29 @@ impl Tablets {
         change(&self.by_table, table, &mut self.intervals, &Ends { at });
     }
 
+    /// The open intervals that pass a test end. It goes over all of them, and takes no memory.
+    pub fn end_passing<T: Tests<Interval>>(&mut self, test: &T, at: HybridTime)
+        ensures activity { self.new.activity ≡ map {A = Interval} (λ i. record i { to = if T.passes test.now i then ended at i.to else i.to }) self.old.activity }
+        ensures room { self.new.room ≡ self.old.room }
+    {
+        change_all(&mut self.intervals, test, &Ends { at });
+    }
+
     /// Nothing is known of a tablet any more. It takes no memory.
     pub fn forget(&mut self, tablet: &Ident)
         ensures activity { self.new.activity ≡ book.forget tablet.now self.old.activity }
         ensures room { self.new.room ≡ self.old.room }
     {
         keys_agree();
+        let none = SlotCounts::none(*self.intervals.allocator());
+        let counts = std::mem::replace(&mut self.in_slots, none);
+        self.in_slots = gather(
+            &self.by_tablet,
+            tablet,
+            self.intervals.as_slice(),
+            &Leaves,
+            counts,
+        );
         take_out(&self.by_tablet, tablet, &mut self.intervals);
     }
 }

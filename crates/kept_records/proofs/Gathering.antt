@@ -1,13 +1,13 @@
 -- The walk over the records of a key gathers all of them.
-use Rattle.std.proofs.Common.{ℕ, zero, suc, ◌≡◌, ◌+◌, ◌<◌, ◌≤◌, Bool, true, false, cond, List, [], ◌∷◌, ◌++◌, map, Option, Some, None, if◌then◌else◌, length, take, drop, not, slice_get, slice_set, get_or, refl, sym, ap, subst, ◌∙◌, arith, append_assoc}
-use Rattle.std.proofs.lemmas.Grind.{common_steps}
+use Rattle.std.proofs.Common.{ℕ, zero, suc, ◌≡◌, ◌<◌, ◌≤◌, Bool, true, false, List, [], ◌∷◌, ◌++◌, map, Option, Some, None, if◌then◌else◌, length, take, drop, not, slice_get, slice_set, get_or, refl, sym, ap, subst, ◌∙◌, arith, append_assoc}
 use Rattle.std.specs.List.{filter}
 use Rattle.std.specs.Cmp.{IsEquivalence}
 use Rattle.std.proofs.lemmas.List.{length-map, append-nil}
-use Rattle.newest_index.specs.Newest.{last_place}
-use Rattle.kept_records.specs.Gathered.{gathered, step_present, changed_where, changes_record, present_of, taken_out}
+use Rattle.indexmap.specs.IndexMap.{IndexMap}
+use Rattle.newest_index.specs.Newest.{last_place, Indexes}
+use Rattle.kept_records.specs.Gathered.{gathered, step_present, changed_where, changes_record, present_of, taken_out, kept_key}
 use Rattle.kept_records.specs.declared.records.Kept.{Kept}
-use Rattle.newest_index.proofs.Opens.{last_place-at, last_place-same, mapped_at}
+use Rattle.newest_index.proofs.Opens.{indexes-of, last_place-at, last_place-same, mapped_at}
 use Rattle.newest_index.proofs.Places.{got}
 use Rattle.newest_index.proofs.Walks.{keys_more, keys_none, take_some, take_none}
 
@@ -338,3 +338,11 @@ pub changes_all : {Q K : Type 0} (key : Q → K) (test : K → Bool) (change : Q
     → now ≡ last_place test (take n (map key qs)) → now ≡ None → items ≡ from_place key test change n qs
     → items ≡ changed_where (λ q. test (key q)) change qs
 changes_all key test change qs items n now at is all = all ∙ changed_none key test change qs n (sym at ∙ is)
+
+-- an index stays right where records change, or go, and their keys stay
+pub stays : {R K S : Type 0} {eq : K → K → Bool} {places : IndexMap K ℕ S} {earlier : List (Option ℕ)} (key : R → K) (test : Kept R → Bool)
+    (change : Kept R → Kept R) (old new : List (Kept R)) → ((k : Kept R) → kept_key key (change k) ≡ kept_key key k)
+    → new ≡ changed_where test change old → Indexes eq places earlier (map (kept_key key) old) → Indexes eq places earlier (map (kept_key key) new)
+stays key test change old new keeps e right =
+    indexes-of (map (kept_key key) old) (map (kept_key key) new)
+    (ap (map (kept_key key)) e ∙ keys_stay (kept_key key) test change old keeps) right

@@ -1,5 +1,5 @@
 -- What is gathered is the first record of a key, or a count.
-use Rattle.std.proofs.Common.{ℕ, ◌≡◌, ◌+◌, ◌<◌, ◌≤◌, Bool, true, false, cond, List, [], ◌∷◌, ◌++◌, map, ◌&&◌, reverse, Option, Some, None, if◌then◌else◌, length, take, drop, min, nat_lt, refl, sym, ap, ◌∙◌, arith}
+use Rattle.std.proofs.Common.{ℕ, ◌≡◌, ◌+◌, Bool, true, false, cond, List, [], ◌∷◌, ◌++◌, map, ◌&&◌, reverse, Option, Some, None, if◌then◌else◌, length, take, drop, min, nat_lt, refl, sym, ap, ◌∙◌, arith}
 use Rattle.std.proofs.lemmas.Grind.{common_steps}
 use Rattle.std.specs.List.{find, filter}
 use Rattle.std.proofs.lemmas.List.{reverse-append, length-reverse, append-nil}
@@ -19,6 +19,16 @@ cond_same true true x y z e same = refl
 cond_same true false x y z e same = absurd (cc)
 cond_same false true x y z e same = absurd (cc)
 cond_same false false x y z e same = same
+
+pub find_same : {R : Type 0} (p q : R → Bool) → ((r : R) → p r ≡ q r) → (rs : List R) → find p rs ≡ find q rs
+find_same p q alike [] = refl
+find_same p q alike (r ∷ rs) = by (p r) (q r) (alike r) (find_same p q alike rs)
+  where
+    by : (a b : Bool) {x y : Option _} → a ≡ b → x ≡ y → cond a (Some r) x ≡ cond b (Some r) y
+    by true true e same = refl
+    by true false e same = absurd (cc)
+    by false true e same = absurd (cc)
+    by false false e same = same
 
 pub filter_same : {R : Type 0} (p q : R → Bool) → ((r : R) → p r ≡ q r) → (rs : List R) → filter p rs ≡ filter q rs
 filter_same p q alike [] = refl

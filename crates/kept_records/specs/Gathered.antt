@@ -1,5 +1,5 @@
 -- What goes over the records of one key, and over no other, in a list from which records may be taken out.
-use Rattle.std.specs.Prelude.{ℕ, ◌+◌, nat_lt, Bool, List, [], ◌∷◌, ◌++◌, if◌then◌else◌, false}
+use Rattle.std.specs.Prelude.{ℕ, ◌+◌, nat_lt, not, Bool, List, [], ◌∷◌, ◌++◌, if◌then◌else◌, false}
 use Rattle.kept_records.specs.declared.records.Kept.{Kept}
 
 -- the records that were not taken out
@@ -29,8 +29,16 @@ changed_where test change (r ∷ rs) = (if test r then change r else r) ∷ chan
 abbrev pub changes_record : {R : Type 0} → (R → R) → Kept R → Kept R
 changes_record change k = record { item = change k.item; present = k.present }
 
+-- a record is changed if it passes a test
+abbrev pub changes_passing : {R : Type 0} → (R → Bool) → (R → R) → Kept R → Kept R
+changes_passing passes change k = if passes k.item then changes_record change k else k
+
 abbrev pub taken_out : {R : Type 0} → Kept R → Kept R
 taken_out k = record { item = k.item; present = false }
+
+-- a record that doesn't pass a test is taken out
+abbrev pub keeps_passing : {R : Type 0} → (R → Bool) → Kept R → Kept R
+keeps_passing passes k = if not (passes k.item) then taken_out k else k
 
 -- a record that passes a test goes behind the later ones
 abbrev pub puts : {R : Type 0} → (R → Bool) → R → List R → List R

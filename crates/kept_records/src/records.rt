@@ -41,7 +41,8 @@ fn step_of<R, B, W: Gathers<R, B>>(walk: &W, kept: &Kept<R>, later: B) -> B
     }
 }
 
-fn change_of<R, W: Changes<R>>(walk: &W, kept: &mut Kept<R>)
+// A record after its change.
+pub fn change_of<R, W: Changes<R>>(walk: &W, kept: &mut Kept<R>)
     ensures { kept.new ≡ changes_record (W.changed walk.now) kept.old }
 {
     walk.change(&mut kept.item);

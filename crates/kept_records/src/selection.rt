@@ -19,7 +19,7 @@ pub trait Tests<R> {
 }
 
 // A present record that passes goes behind the others.
-fn put<R: Copy + Drop, T: Tests<R>>(
+pub fn put<R: Copy + Drop, T: Tests<R>>(
     test: &T,
     kept: &Kept<R>,
     found: &mut Vec<R>,

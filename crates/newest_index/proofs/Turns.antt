@@ -1,12 +1,11 @@
 -- Records of which the earlier were over when the later began: what is found at the last place of a test, and what changes
 -- there.
-use Rattle.std.proofs.Common.{ℕ, zero, suc, ◌≡◌, ◌≢◌, ◌+◌, ◌<◌, ◌≤◌, ◌⊎◌, inl, inr, Bool, true, false, cond, ◌&&◌, List, [], ◌∷◌, ◌++◌, map, Option, Some, None, if◌then◌else◌, length, slice_get, slice_set, filter, refl, sym, ap, subst, ◌∙◌, arith}
-use Rattle.std.proofs.lemmas.Grind.{common_steps}
+use Rattle.std.proofs.Common.{ℕ, zero, suc, ◌≡◌, ◌+◌, ◌<◌, ◌≤◌, ◌⊎◌, inl, inr, Bool, true, false, cond, ◌&&◌, List, [], ◌∷◌, ◌++◌, map, Option, Some, None, if◌then◌else◌, length, slice_get, slice_set, filter, refl, sym, ap, subst, ◌∙◌, arith}
 use Rattle.std.specs.List.{find}
 use Rattle.std.specs.Option.{option_or}
 use Rattle.std.proofs.lemmas.Option.{slice_get_within}
 use Rattle.newest_index.specs.Newest.{last_from, last_place, if_open, record_of, changed_here, changed_at, InTurn}
-use Rattle.newest_index.proofs.Opens.{last_place-at, last_place-same, map_at, map_same, mapped_at, next_at}
+use Rattle.newest_index.proofs.Opens.{last_place-at, map_at, map_same, mapped_at, next_at}
 
 -- Last places of a list with one more item before it
 

@@ -6,7 +6,7 @@
 //! the lemmas in `proofs/` say what each table needs of it, over any type of records.
 #![tactic(auto)]
 
-ghost use Rattle.std.specs.Prelude.{ℕ, ◌≡◌, ◌≤◌, ◌-◌, ◌+◌, List, [], ◌∷◌, ◌++◌, Some, slice_get, take, OnOk, vec_len, vec_capacity};
+ghost use Rattle.std.specs.Prelude.{ℕ, ◌≡◌, ◌≤◌, ◌-◌, ◌+◌, List, [], ◌∷◌, ◌++◌, Some, slice_get, take, map, length, OnOk, vec_len, vec_capacity};
 ghost use Rattle.indexmap.specs.IndexMap.{spare};
 ghost use Rattle.newest_index.specs.Newest.{Indexes, last_place};
 
@@ -14,6 +14,15 @@ use indexmap::IndexMap;
 use row_values::NoMemory;
 use std::alloc::Global;
 use std::hash::Hash;
+
+/// By what the records of a list are looked up.
+pub trait Keyed<R, K> {
+    ghost key: { Self → R → K };
+
+    /// The key of a record.
+    fn key(&self, item: &R) -> K
+        ensures exact { result ≡ key self.now item.now };
+}
 
 /// For each key the place where it stands last, and for each place where its key stood before. It
 /// keeps no list of the keys: whoever has the list cites it.
@@ -86,6 +95,28 @@ impl<K: Eq + Hash + Drop> NewestIndex<K> {
         let at = self.earlier.len();
         let before = self.places.insert(key, at).unwrap();
         self.earlier.push(before).unwrap();
+    }
+
+    /// Forgets all keys, and keeps the room that there is.
+    pub fn clear(&mut self)
+        ensures empty { Indexes K.eq self.new.places self.new.earlier.items [] }
+        ensures places { spare self.old.places ≤ spare self.new.places }
+        ensures earlier { vec_capacity self.old.earlier - vec_len self.old.earlier ≤ vec_capacity self.new.earlier - vec_len self.new.earlier }
+    {
+        self.places.clear();
+        self.earlier.clear();
+    }
+
+    /// Takes in the keys of other records instead, in the room that was made.
+    pub fn index_anew<R, W: Keyed<R, K>>(&mut self, records: &[R], keyed: &W)
+        requires places { length records.now ≤ spare self.old.places }
+        requires earlier { length records.now ≤ vec_capacity self.old.earlier - vec_len self.old.earlier }
+        ensures anew { Indexes K.eq self.new.places self.new.earlier.items (map (λ r. W.key keyed.now r) records.now) }
+    {
+        self.clear();
+        for record in records {
+            self.note(keyed.key(record));
+        }
     }
 }
 

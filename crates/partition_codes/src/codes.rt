@@ -18,6 +18,17 @@ pub fn code(key: &Key) -> u16
     code as u16
 }
 
+/// The range of one tablet, counted from 0, of a table that is made with `n`. It takes no memory.
+pub fn share(place: u32, n: u32) -> Range
+    requires few { n ≤ 64 }
+    requires within { place < n }
+    ensures exact { result ≡ record { low = share_from n place; high = share_from n (place + 1) } }
+{
+    let low = place * 65536 / n;
+    let high = (place + 1) * 65536 / n;
+    Range { low, high }
+}
+
 /// The ranges of a table that is made with `n` tablets, in order.
 pub fn shares(alloc: Global, n: u32) -> Result<Records<Range>, NoMemory>
     requires some { 1 ≤ n }
@@ -28,9 +39,7 @@ pub fn shares(alloc: Global, n: u32) -> Result<Records<Range>, NoMemory>
 {
     let mut shares = Records::new(alloc);
     for i in 0..n {
-        let low = i * 65536 / n;
-        let high = (i + 1) * 65536 / n;
-        shares.push(Range { low, high })?;
+        shares.push(share(i, n))?;
     }
     Ok(shares)
 }

@@ -9,7 +9,7 @@
 mod codes;
 mod range;
 
-pub use codes::{code, halves, shares};
+pub use codes::{code, halves, share, shares};
 pub use range::{Range, TooNarrow};
 
 #[cfg(test)]

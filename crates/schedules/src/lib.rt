@@ -5,11 +5,17 @@
 //! reaches back after an edit, are this project's own.
 #![tactic(auto)]
 
+mod agree;
+mod list;
 mod schedule;
 mod scheduled;
+mod spaces;
+mod steps;
 
+pub use list::{CreateRefused, EditRefused, ScheduleList, UnknownSchedule};
 pub use schedule::{BadPeriod, Schedule, is_period};
 pub use scheduled::{ScheduledNamespace, or_before};
+pub use spaces::ScheduledNamespaces;
 
 #[cfg(test)]
 mod tests {

@@ -1,4 +1,4 @@
-ghost use Rattle.std.specs.Prelude.{◌≡◌, ◌≤◌, ◌*◌, None, true, false, MatchResult, OnErr};
+ghost use Rattle.std.specs.Prelude.{◌≡◌, ◌≤◌, ◌*◌, None, Some, true, false, MatchResult, OnErr};
 ghost use Rattle.model.specs.Times.{minute};
 ghost use Rattle.model.specs.Schedules as book;
 ghost use Rattle.model.specs.Schedules.{next_due, edited};
@@ -177,6 +177,15 @@ impl Schedule {
             kept_low: self.low(now),
             last: self.last,
         };
+    }
+}
+
+impl Schedule {
+    // A snapshot of the schedule was taken.
+    pub fn set_last(&mut self, at: HybridTime)
+        ensures taken { self.new ≡ record self.old { last = Some at } }
+    {
+        self.last = Some(at);
     }
 }
 

@@ -1,4 +1,4 @@
-use Rattle.std.proofs.Common.{◌≡◌, ◌≤◌, List, map, length, refl, vec_len, arith}
+use Rattle.std.proofs.Common.{◌≡◌, map, length, refl, arith}
 use Rattle.std.proofs.lemmas.Grind.{common_steps}
 use Rattle.kept_records.specs.Gathered.{kept_key, taken_out}
 use Rattle.kept_records.proofs.Gathering.{starts, goes_on, stays_within, changes_none, changes_one, changes_all}

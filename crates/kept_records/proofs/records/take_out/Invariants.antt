@@ -1,4 +1,4 @@
-use Rattle.std.proofs.Common.{◌≡◌, ◌≤◌, ◌-◌, List, map, take, vec_len, vec_capacity}
+use Rattle.std.proofs.Common.{◌≡◌, ◌≤◌, ◌-◌, map, take, vec_len, vec_capacity}
 use Rattle.newest_index.specs.Newest.{Indexes, last_place}
 use Rattle.kept_records.specs.Gathered.{kept_key, taken_out}
 use Rattle.kept_records.proofs.Gathering.{from_place}

@@ -1,4 +1,4 @@
-use Rattle.std.proofs.Common.{◌≡◌, ◌≤◌, List, [], map, length, take, drop}
+use Rattle.std.proofs.Common.{◌≡◌, ◌≤◌, [], map, length, take, drop}
 use Rattle.newest_index.specs.Newest.{Indexes, last_place}
 use Rattle.kept_records.specs.Gathered.{gathered, step_present, kept_key, puts}
 use Rattle.kept_records.proofs.selection.select.Given as goal

@@ -9,7 +9,7 @@ loop-i-preserved c =
     let i = c.loop-i.i in
     let n = c.args.n in
     let rises : i * 65536 / n ≤ (i + 1) * 65536 / n = grind arith in
-    rw c.in_ok-push.ensures.pushed (record {
+    rw (c.in_ok-push.ensures.pushed, c.share.ensures.exact) (record {
       count = grind (arith, common_steps, c.loop-i.invariant.count);
       each = each_next (share n) c.loop-i.shares i c.loop-i.invariant.count c.loop-i.invariant.each;
       cover = divide_next 0 (i * 65536 / n) ((i + 1) * 65536 / n) c.loop-i.shares (omega arith) rises c.loop-i.invariant.cover;

@@ -1,4 +1,4 @@
-use Rattle.std.proofs.Common.{◌≡◌, ◌≤◌, ◌++◌, ◌∷◌, [], map, true, sym, ap, ◌∙◌, arith}
+use Rattle.std.proofs.Common.{◌≡◌, ◌≤◌, ◌^◌, ◌++◌, ◌∷◌, [], map, true, List, ℕ, sym, ap, subst, ◌∙◌, arith}
 use Rattle.std.proofs.lemmas.List.{map-append}
 use Rattle.model.specs.Activity.{Interval}
 use Rattle.newest_index.proofs.Opens.{indexes-of}
@@ -6,6 +6,8 @@ use Rattle.kept_records.specs.declared.records.Kept.{Kept}
 use Rattle.kept_records.specs.Gathered.{present_of, kept_key}
 use Rattle.kept_records.proofs.Gathering.{present_next}
 use Rattle.catalog_tablets.specs.View.{tablet_of, table_of, slot_of}
+use Rattle.catalog_tablets.specs.Slots.{Counts, number_in, raised}
+use Rattle.catalog_tablets.proofs.Counted.{counted_next, counts_of, small_count, present_within}
 use Rattle.catalog_tablets.proofs.tablets.Tablets.begin.Goals as goal
 
 pub invariant_of-self : goal.invariant_of-self
@@ -43,6 +45,10 @@ invariant_of-self c =
           (ap (map (kept_key slot_of)) e ∙ map-append (kept_key slot_of) ks (k ∷ [])
           ∙ sym (ap (λ (j : Interval). map (kept_key slot_of) ks ++ j.slot ∷ []) c.interval.view_is))
           (c.note-3.ensures.noted (map (kept_key slot_of) ks) i.by_slot);
+      counted = counts_of (present_of ks ++ c.args.interval ∷ []) (present_of c.push.new.self.items) c.raise.new.self (ap present_of e ∙ present_next ks c.args.interval)
+          (subst (λ (counts : List ℕ). Counts counts (number_in (present_of ks ++ c.args.interval ∷ [])))
+          (sym (c.raise.ensures.counts ∙ ap (λ (j : Interval). raised j.slot c.self.inside.in_slots) c.interval.view_is))
+          (counted_next c.self.inside.in_slots (present_of ks) c.args.interval i.counted));
       list_room = omega (arith, some, l, kept, one);
       tablet_room = omega (arith, some, t, t_left);
       tablet_links = omega (arith, some, tl, tl_left);
@@ -58,3 +64,12 @@ returns-clause-activity c =
     let k : Kept Interval = record { item = c.args.interval; present = true } in
     let e : c.push.new.self.items ≡ ks ++ k ∷ [] = rw c.unwrap.ensures at c.push.ensures.items in
     rw (← c.self.view_is) (ap present_of e ∙ present_next ks c.args.interval)
+
+pub raise-requires : goal.raise-requires
+raise-requires c =
+    let ks = c.self.inside.intervals in
+    let within = present_within ks.items in
+    record {
+      small = small_count c.self.inside.in_slots (present_of ks.items) c.interval.inside.slot (2 ^ 63) (omega arith)
+          (omega (arith, within, ks.ok.0, ks.ok.1, ks.small)) c.self.invariant.counted;
+    }

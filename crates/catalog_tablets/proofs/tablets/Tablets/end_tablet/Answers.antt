@@ -1,9 +1,9 @@
-use Rattle.std.proofs.Common.{map, refl, ap, ◌∙◌}
-use Rattle.newest_index.proofs.Opens.{indexes-of}
-use Rattle.kept_records.specs.Gathered.{present_of, kept_key, changes_record}
-use Rattle.kept_records.proofs.Gathering.{changed_present, keys_stay}
+use Rattle.std.proofs.Common.{refl, ap, ◌∙◌}
+use Rattle.kept_records.specs.Gathered.{present_of, changes_record}
+use Rattle.kept_records.proofs.Gathering.{changed_present, stays}
 use Rattle.catalog_tablets.specs.View.{tablet_of, table_of, slot_of, ends_at}
 use Rattle.catalog_tablets.proofs.Active.{tablet_ended}
+use Rattle.catalog_tablets.proofs.Counted.{counted_ended, counts_of}
 use Rattle.catalog_tablets.proofs.tablets.Tablets.end_tablet.Goals as goal
 
 pub invariant_of-self : goal.invariant_of-self
@@ -13,12 +13,11 @@ invariant_of-self c =
     let i = c.self.invariant in
     let e = c.change.ensures.all tablet_of i.by_tablet in
     record {
-      by_tablet = indexes-of (map (kept_key tablet_of) old) (map (kept_key tablet_of) new)
-          (ap (map (kept_key tablet_of)) e ∙ keys_stay (kept_key tablet_of) _ (changes_record (ends_at c.args.at)) old (λ k. refl)) i.by_tablet;
-      by_table = indexes-of (map (kept_key table_of) old) (map (kept_key table_of) new)
-          (ap (map (kept_key table_of)) e ∙ keys_stay (kept_key table_of) _ (changes_record (ends_at c.args.at)) old (λ k. refl)) i.by_table;
-      by_slot = indexes-of (map (kept_key slot_of) old) (map (kept_key slot_of) new)
-          (ap (map (kept_key slot_of)) e ∙ keys_stay (kept_key slot_of) _ (changes_record (ends_at c.args.at)) old (λ k. refl)) i.by_slot;
+      by_tablet = stays tablet_of _ (changes_record (ends_at c.args.at)) old new (λ k. refl) e i.by_tablet;
+      by_table = stays table_of _ (changes_record (ends_at c.args.at)) old new (λ k. refl) e i.by_table;
+      by_slot = stays slot_of _ (changes_record (ends_at c.args.at)) old new (λ k. refl) e i.by_slot;
+      counted = counts_of _ (present_of new) c.self.inside.in_slots (ap present_of e ∙ changed_present _ (ends_at c.args.at) old)
+          (counted_ended _ c.args.at (present_of old) c.self.inside.in_slots i.counted);
       list_room = rw c.change.ensures.room i.list_room;
       tablet_room = i.tablet_room;
       tablet_links = i.tablet_links;

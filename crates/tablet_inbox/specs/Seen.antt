@@ -1,4 +1,6 @@
 -- What tablets are told, and what they say of themselves, as the book has it, and back.
+use Rattle.std.specs.Prelude.{Option, Some, None}
+use Rattle.row_values.specs.Ids.{Id, Kind, Tablet}
 use Rattle.model.specs.Tablets as book
 use Rattle.tablet_inbox.specs.declared.body.Body.{Body}
 use Rattle.tablet_inbox.specs.declared.body.Body.TheVariants as body
@@ -41,7 +43,12 @@ kind_from book.HideKind = kind.Hide
 kind_from book.CopyKind = kind.Copy
 kind_from book.ReleaseKind = kind.Release
 
+-- the identifier, or that of nothing
+abbrev pub id_or : Kind → Option Id → Id
+id_or kind None = record { kind = kind; number = 0 }
+id_or kind (Some id) = id
+
 abbrev pub standing_seen : Standing → book.Standing
 standing_seen standing.Empty = book.Empty
-standing_seen (standing.Serving tablet range) = book.Serving tablet range.low range.high
-standing_seen (standing.Hidden tablet ended) = book.Hidden tablet ended
+standing_seen (standing.Serving tablet low high) = book.Serving (id_or Tablet tablet) low high
+standing_seen (standing.Hidden tablet ended) = book.Hidden (id_or Tablet tablet) ended

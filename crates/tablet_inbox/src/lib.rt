@@ -8,11 +8,13 @@
 mod body;
 mod command;
 mod inbox;
+mod listed;
 mod standing;
 
 pub use body::{Body, BodyKind};
 pub use command::{Mark, TabletCommand};
 pub use inbox::Inbox;
+pub use listed::Listed;
 pub use standing::Standing;
 
 #[cfg(test)]

@@ -16,5 +16,5 @@ mod refused;
 pub use frozen::Frozen;
 pub use part::TabletPart;
 pub use plans::Counts;
-pub use presence::{Presence, Standing};
+pub use presence::Presence;
 pub use refused::TabletRefused;

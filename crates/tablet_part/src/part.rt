@@ -3,16 +3,16 @@ ghost use Rattle.std.specs.List.{list_all};
 ghost use Rattle.row_values.specs.declared.value.Item.{Item};
 ghost use Rattle.model.specs.Tablets.{emptied, serves, is_empty, standing};
 ghost use Rattle.model.specs.RowActs.{covers, serves_all, goes_on, count_frozen};
-ghost use Rattle.tablet_part.specs.Seen.{standing_of};
+ghost use Rattle.tablet_inbox.specs.Seen.{standing_seen};
 
 use crate::frozen::Frozen;
-use crate::presence::{Presence, Standing};
+use crate::presence::Presence;
 use hybrid_time::HybridTime;
 use partition_codes::code;
 use row_values::{Batch, Key, NoMemory, Records};
 use std::alloc::Global;
 use std::marker::Model;
-use tablet_inbox::Inbox;
+use tablet_inbox::{Inbox, Standing};
 use versions::VersionStore;
 use yb_ident::Ident;
 
@@ -38,7 +38,8 @@ impl<V: VersionStore> Model for TabletPart<V> {
     ghost use Rattle.model.specs.RowActs.{count_frozen};
     ghost use Rattle.row_values.specs.Ids.{Tablet, Table};
     ghost use Rattle.row_values.specs.Store.{Below};
-    ghost use Rattle.tablet_part.specs.Seen.{presence_of, id_or};
+    ghost use Rattle.tablet_inbox.specs.Seen.{id_or};
+    ghost use Rattle.tablet_part.specs.Seen.{presence_of};
     ghost use Rattle.tablet_part.specs.Views.{TabletView};
 
     ghost Value = { TabletView };
@@ -154,7 +155,7 @@ impl<V: VersionStore> TabletPart<V> {
 
     /// What it says of itself.
     pub fn standing(&self) -> Standing
-        ensures exact { standing_of result ≡ standing self.now.tablet }
+        ensures exact { standing_seen result ≡ standing self.now.tablet }
     {
         match self.presence {
             Presence::Empty => Standing::Empty,

@@ -1,5 +1,4 @@
 use hybrid_time::HybridTime;
-use yb_ident::Ident;
 
 /// Whether a part has a tablet, and whether that one is hidden.
 #[derive(Clone, Copy, Debug, PartialEq, Eq)]
@@ -8,19 +7,4 @@ pub enum Presence {
     Serving,
     /// Hidden at this stamp.
     Hidden { ended: HybridTime },
-}
-
-/// What a part says of itself where it is asked for a tablet that it doesn't serve.
-#[derive(Clone, Copy, Debug, PartialEq, Eq)]
-pub enum Standing {
-    Empty,
-    Serving {
-        tablet: Option<Ident>,
-        low: u32,
-        high: u32,
-    },
-    Hidden {
-        tablet: Option<Ident>,
-        ended: HybridTime,
-    },
 }

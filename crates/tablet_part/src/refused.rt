@@ -1,5 +1,5 @@
-use crate::presence::Standing;
 use hybrid_time::HybridTime;
+use tablet_inbox::Standing;
 use yb_ident::Ident;
 
 /// Why a tablet's part refuses an act.

@@ -1,0 +1,150 @@
+ghost use Rattle.std.specs.Prelude.{◌≡◌, ◌≤◌, ◌&&◌, ◌||◌, [], ◌∷◌, ◌++◌, OnOk, not, length, filter};
+ghost use Rattle.std.specs.Option.{option_copied};
+ghost use Rattle.row_values.specs.Ids.{same};
+ghost use Rattle.model.specs.Records.{is_cloned, is_visible};
+ghost use Rattle.model.specs.Operations.{clone_to, clone_with};
+ghost use Rattle.model.specs.Looks.{has_target, is_reserved};
+ghost use Rattle.model.specs.Changes.{clone_named};
+
+use crate::record::{CloneRecord, TabletPair};
+use row_values::{Name, NoMemory};
+use std::alloc::Global;
+use std::marker::Model;
+use yb_ident::Ident;
+
+/// The records of clones, in order of number. Contracts see the book's list, and for how many more
+/// there is room.
+#[derive(Drop)]
+pub struct Clones {
+    records: Vec<CloneRecord>,
+}
+
+impl Model for Clones {
+    ghost use Rattle.std.specs.Prelude.{◌-◌, vec_len, vec_capacity};
+    ghost use Rattle.clone_coord.specs.View.{ClonesView};
+
+    ghost Value = { ClonesView };
+
+    ghost view = { λ s. record { clones = s.records.items; room = vec_capacity s.records - vec_len s.records } };
+}
+
+impl Clones {
+    /// No clones. It takes no memory.
+    pub fn new(alloc: Global) -> Clones
+        ensures empty { result.clones ≡ [] }
+    {
+        Clones {
+            records: Vec::new(alloc),
+        }
+    }
+
+    /// The records, in order of number.
+    pub fn records(&self) -> &[CloneRecord]
+        ensures all { result.now ≡ self.now.clones }
+    {
+        self.records.as_slice()
+    }
+
+    /// The unfinished clone that makes a namespace. It takes no memory.
+    pub fn to_namespace(&self, namespace: &Ident) -> Option<&CloneRecord>
+        ensures exact { option_copied result ≡ clone_to self.now.clones namespace.now }
+    {
+        for record in &self.records {
+            if record.target_id == *namespace && !record.state.is_cloned() {
+                return Some(record);
+            }
+        }
+        None
+    }
+
+    /// The unfinished clone that makes a namespace, or has it as its source. It takes no memory.
+    pub fn with_namespace(&self, namespace: &Ident) -> Option<&CloneRecord>
+        ensures exact { option_copied result ≡ clone_with self.now.clones namespace.now }
+    {
+        for record in &self.records {
+            if uses(record, namespace) && !record.state.is_cloned() {
+                return Some(record);
+            }
+        }
+        None
+    }
+
+    /// The clone that is to make a namespace of this name. It takes no memory.
+    pub fn named(&self, name: &Name) -> Option<Ident>
+        ensures exact { result ≡ clone_named self.now.clones name.now }
+    {
+        for record in &self.records {
+            if record.target.as_slice() == name.as_slice() && !record.state.is_visible() {
+                return Some(record.id);
+            }
+        }
+        None
+    }
+
+    /// How many namespaces are to be made by a clone. It takes no memory.
+    pub fn count_hidden(&self) -> usize
+        ensures count { result ≡ length (filter (λ r. not (is_visible r.state)) self.now.clones) }
+    {
+        let mut count = 0;
+        for record in &self.records {
+            if !record.state.is_visible() {
+                count += 1;
+            }
+        }
+        count
+    }
+
+    /// Whether an unfinished clone has reserved a slot. It takes no memory.
+    pub fn is_reserved(&self, slot: u32) -> bool
+        ensures exact { result ≡ is_reserved self.now.clones slot }
+    {
+        for record in &self.records {
+            if reserves(record, slot) {
+                return true;
+            }
+        }
+        false
+    }
+
+    /// Makes room for one more record.
+    pub fn prepare(&mut self) -> Result<(), NoMemory>
+        ensures clones { self.new.clones ≡ self.old.clones }
+        ensures room { OnOk result (1 ≤ self.new.room) }
+    {
+        self.records.reserve(1)?;
+        Ok(())
+    }
+
+    /// One clone more, in the room that was made.
+    pub fn add(&mut self, made: CloneRecord)
+        requires room { 1 ≤ self.old.room }
+        ensures clones { self.new.clones ≡ self.old.clones ++ made ∷ [] }
+    {
+        self.records.push(made).unwrap();
+    }
+}
+
+// Whether a clone makes a namespace, or has it as its source.
+fn uses(clone: &CloneRecord, namespace: &Ident) -> bool
+    ensures exact { result ≡ (same clone.now.target_id namespace.now || same clone.now.source namespace.now) }
+{
+    clone.target_id == *namespace || clone.source == *namespace
+}
+
+// Whether a clone is unfinished and has reserved a slot.
+fn reserves(clone: &CloneRecord, slot: u32) -> bool
+    ensures exact { result ≡ (not (is_cloned clone.now.state) && has_target clone.now.tablets slot) }
+{
+    !clone.state.is_cloned() && has_target(clone.tablets.as_slice(), slot)
+}
+
+fn has_target(pairs: &[TabletPair], slot: u32) -> bool
+    ensures exact { result ≡ has_target pairs.now slot }
+{
+    for pair in pairs {
+        if pair.slot == slot {
+            return true;
+        }
+    }
+    false
+}

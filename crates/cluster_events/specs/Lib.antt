@@ -1,0 +1,3 @@
+pub mod SeenActs
+pub mod SeenStates
+pub mod SeenReplies

@@ -1,0 +1,5 @@
+pub mod Slots
+pub mod Ordering
+pub mod Least
+pub mod Allowed
+pub mod Making

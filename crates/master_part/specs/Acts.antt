@@ -1,0 +1,87 @@
+-- What the master is told, as the book's; what it needs of the master, and of the room that was made.
+use Rattle.std.specs.Prelude.{ℕ, ◌≡◌, ◌≤◌, ◌<◌, ◌+◌, true, List, None, length}
+use Rattle.row_values.specs.Ids.{Id, Kind, id_bound}
+use Rattle.row_values.specs.Schema.{first_schema}
+use Rattle.model.specs.Activity.{Interval}
+use Rattle.model.specs.Catalog.{namespace_named, name_of, current_named, current_table, owner_of}
+use Rattle.model.specs.Parts as book
+use Rattle.model.specs.Parts.{Master}
+use Rattle.model.specs.Changed.{next_namespace, next_table}
+use Rattle.model.specs.Drawn.{drawn_of, most_slots}
+use Rattle.catalog_core.specs.Kept.{ends_by}
+use Rattle.schedules.specs.Periods.{IsPeriod}
+use Rattle.master_part.specs.View.{MasterView}
+use Rattle.master_part.specs.declared.act.MasterAct.{MasterAct}
+use Rattle.master_part.specs.declared.act.MasterAct.TheVariants as act
+
+abbrev pub act_of : MasterAct → book.MasterAct
+act_of act.Ticks = book.Ticks
+act_of (act.MakesNamespace name) = book.MakesNamespace name
+act_of (act.DropsNamespace namespace) = book.DropsNamespace namespace
+act_of (act.MakesTable namespace name columns schema slots) = book.MakesTable namespace name columns slots
+act_of (act.DropsTable table) = book.DropsTable table
+act_of (act.SplitsTablet parent code low_slot high_slot) = book.SplitsTablet parent code low_slot high_slot
+act_of (act.MakesSchedule namespace interval retention) = book.MakesSchedule namespace interval retention
+act_of (act.EditsSchedule schedule interval retention) = book.EditsSchedule schedule interval retention
+act_of (act.DeletesSchedule schedule) = book.DeletesSchedule schedule
+act_of act.Restarts = book.Restarts
+
+-- What the law says of the master that a legal history leaves: few identifiers were drawn (`numbers_are_drawn`), what
+-- the catalog has was drawn before, and no record of a table ends after the clock (`legal_is_right`)
+pub record IsLawful (m : Master) : Type 0 where
+  pub few : (kind : Kind) → drawn_of kind m.drawn + most_slots < id_bound
+  pub namespaces : name_of m.catalog.namespaces (next_namespace m) ≡ None
+  pub tables : current_table m.catalog.tables (next_table m) ≡ None
+  pub owners : owner_of m.catalog.owners (next_table m) ≡ None
+  pub past : ends_by m.clock m.catalog.tables ≡ true
+
+-- a namespace of the name may be made
+pub record NamespaceFits (name : List ℕ) (m : Master) : Type 0 where
+  pub few : m.drawn.namespaces + 1 < id_bound
+  pub free : namespace_named m.catalog.namespaces name ≡ None
+  pub fresh : name_of m.catalog.namespaces (next_namespace m) ≡ None
+
+-- a table of the name may be made in the namespace, with a tablet in each of the slots
+pub record TableFits (ns : Id) (name slots : List ℕ) (n : ℕ) (m : Master) : Type 0 where
+  pub most : length slots ≤ 64
+  pub few : m.drawn.tables + 1 < id_bound
+  pub tablets : m.drawn.tablets + length slots < id_bound
+  pub free : current_named m.catalog.tables ns name ≡ None
+  pub fresh : current_table m.catalog.tables (next_table m) ≡ None
+  pub unowned : owner_of m.catalog.owners (next_table m) ≡ None
+  pub past : ends_by n m.catalog.tables ≡ true
+
+-- the tablet may be split at the code
+pub record SplitFits (parent : Interval) (code : ℕ) (m : Master) : Type 0 where
+  pub tablets : m.drawn.tablets + 2 < id_bound
+  pub above : parent.low < code
+  pub below : code < parent.high
+
+-- what an act needs of the master at a stamp
+abbrev pub May : MasterAct → ℕ → Master → Type 0
+May act.Ticks n m = Unit {0}
+May (act.MakesNamespace name) n m = NamespaceFits name m
+May (act.DropsNamespace namespace) n m = Unit {0}
+May (act.MakesTable namespace name columns schema slots) n m =
+    TableFits namespace name slots n m × (first_schema columns ≡ schema)
+May (act.DropsTable table) n m = Unit {0}
+May (act.SplitsTablet parent code low_slot high_slot) n m = SplitFits parent code m
+May (act.MakesSchedule namespace interval retention) n m =
+    (m.drawn.schedules + 1 < id_bound) × IsPeriod interval retention
+May (act.EditsSchedule schedule interval retention) n m = IsPeriod interval retention
+May (act.DeletesSchedule schedule) n m = Unit {0}
+May act.Restarts n m = Unit {0}
+
+-- and of the room that was made
+abbrev pub HasRoom : MasterAct → MasterView → Type 0
+HasRoom act.Ticks p = Unit {0}
+HasRoom (act.MakesNamespace name) p = 1 ≤ p.catalog_room
+HasRoom (act.DropsNamespace namespace) p = Unit {0}
+HasRoom (act.MakesTable namespace name columns schema slots) p =
+    (1 ≤ p.catalog_room) × (length slots ≤ p.activity_room)
+HasRoom (act.DropsTable table) p = Unit {0}
+HasRoom (act.SplitsTablet parent code low_slot high_slot) p = 2 ≤ p.activity_room
+HasRoom (act.MakesSchedule namespace interval retention) p = (1 ≤ p.schedule_room) × (1 ≤ p.scheduled_room)
+HasRoom (act.EditsSchedule schedule interval retention) p = Unit {0}
+HasRoom (act.DeletesSchedule schedule) p = Unit {0}
+HasRoom act.Restarts p = Unit {0}

@@ -1,0 +1,69 @@
+//! What the master's part is told, of any kind.
+ghost use Rattle.std.specs.Prelude.{◌≡◌, OnOk};
+ghost use Rattle.model.specs.History.{master_effect};
+ghost use Rattle.master_part.specs.Acts.{act_of, May, HasRoom};
+
+use crate::act::MasterAct;
+use crate::part::MasterPart;
+use hybrid_time::HybridTime;
+use row_values::NoMemory;
+
+impl MasterPart {
+    /// Makes room for what it is told.
+    pub fn prepare(&mut self, act: &MasterAct) -> Result<(), NoMemory>
+        ensures master { self.new.master ≡ self.old.master }
+        ensures room { OnOk result (HasRoom act.now self.new) }
+    {
+        match act {
+            MasterAct::Ticks => Ok(()),
+            MasterAct::MakesNamespace { .. } => self.prepare_namespace(),
+            MasterAct::DropsNamespace { .. } => Ok(()),
+            MasterAct::MakesTable { slots, .. } => self.prepare_table(slots.len() as usize),
+            MasterAct::DropsTable { .. } => Ok(()),
+            MasterAct::SplitsTablet { .. } => self.prepare_split(),
+            MasterAct::MakesSchedule { .. } => self.prepare_schedule(),
+            MasterAct::EditsSchedule { .. } => Ok(()),
+            MasterAct::DeletesSchedule { .. } => Ok(()),
+            MasterAct::Restarts => Ok(()),
+        }
+    }
+
+    /// Does what it is told, in the room that was made. It takes no memory.
+    pub fn apply(&mut self, act: MasterAct, stamp: HybridTime)
+        requires may { May act stamp self.old.master }
+        requires room { HasRoom act self.old }
+        ensures master { self.new.master ≡ master_effect (act_of act) stamp self.old.master }
+    {
+        match act {
+            MasterAct::Ticks => self.tick(stamp),
+            MasterAct::MakesNamespace { name } => self.make_namespace(name, stamp),
+            MasterAct::DropsNamespace { namespace } => self.drop_namespace(&namespace, stamp),
+            MasterAct::MakesTable {
+                namespace,
+                name,
+                columns: _columns,
+                schema,
+                slots,
+            } => self.make_table(namespace, name, schema, slots.as_slice(), stamp),
+            MasterAct::DropsTable { table } => self.drop_table(&table, stamp),
+            MasterAct::SplitsTablet {
+                parent,
+                code,
+                low_slot,
+                high_slot,
+            } => self.split_tablet(&parent, code, low_slot, high_slot, stamp),
+            MasterAct::MakesSchedule {
+                namespace,
+                interval,
+                retention,
+            } => self.make_schedule(namespace, interval, retention, stamp),
+            MasterAct::EditsSchedule {
+                schedule,
+                interval,
+                retention,
+            } => self.edit_schedule(&schedule, interval, retention, stamp),
+            MasterAct::DeletesSchedule { schedule } => self.delete_schedule(&schedule, stamp),
+            MasterAct::Restarts => self.restart(stamp),
+        }
+    }
+}

@@ -1,0 +1,11 @@
+pub mod Served
+pub mod SeenActs
+pub mod Tellings
+pub mod SeenTold
+pub mod SeenKept
+pub mod Plans
+pub mod Readies
+pub mod Causes
+pub mod Coding
+pub mod Starts
+pub mod Views

@@ -1,0 +1,99 @@
+ghost use Rattle.std.specs.Prelude.{◌≡◌, ◌∷◌, [], ◌+◌, ◌<◌, ◌^◌, None, IfOk, IfErr, OnOk, OnErr};
+ghost use Rattle.cluster_events.specs.SeenReplies.{reply_of};
+ghost use Rattle.model.specs.Entries.{Asked};
+ghost use Rattle.model.specs.History.{Legal, entry_of, replay};
+ghost use Rattle.step_table.specs.Histories.{history_of};
+ghost use Rattle.machine_laws.specs.Laid.{parts_of};
+ghost use Rattle.machine_laws.specs.Faults.{fault_after};
+ghost use Rattle.machine_laws.specs.Past.{IsPast, book};
+ghost use Rattle.machine_laws.specs.Core.{core_of};
+ghost use Rattle.cluster_core.specs.Served.{IsServed};
+ghost use Rattle.cluster_core.specs.Causes.{RefusedBy};
+ghost use Rattle.cluster_core.specs.Coding.{coding};
+
+use crate::answer::Answer;
+use crate::event::ServedEvent;
+use crate::fault::StepRefused;
+use crate::machine::ClusterMachine;
+use crate::start::first_line;
+use cluster_events::{Event, Reply};
+use row_values::NoMemory;
+use std::alloc::Global;
+use std::marker::Model;
+use step_line::Line;
+use versions::VersionStore;
+
+/// The parts of a cluster, and the history that their logs hold. Contracts see the history, with the
+/// newest entry first, and the parts that it left.
+#[derive(Drop)]
+pub struct Cluster<V: VersionStore> {
+    line: Line<ClusterMachine<V>>,
+    slots: u32,
+}
+
+impl<V: VersionStore> Model for Cluster<V> {
+    ghost use Rattle.step_table.specs.Histories.{history_of};
+    ghost use Rattle.machine_laws.specs.Past.{IsPast, book};
+    ghost use Rattle.machine_laws.specs.Core.{core_of};
+    ghost use Rattle.cluster_core.specs.Coding.{coding};
+    ghost use Rattle.cluster_core.specs.Views.{ClusterView};
+
+    ghost Value = { ClusterView };
+
+    ghost view = { λ c. record { slots = c.slots; history = book (history_of (core_of coding) c.line.parts); parts = c.line.parts } };
+
+    ghost invariant = { λ c. IsPast c.slots (book (history_of (core_of coding) c.line.parts)) c.line.parts };
+}
+
+impl<V: VersionStore> Cluster<V> {
+    /// The empty cluster with this count of slots for tablets.
+    pub fn new(alloc: Global, slots: u32) -> Result<Cluster<V>, NoMemory>
+        requires few { slots + 1 < 2 ^ 32 }
+        ensures slots { IfOk result (λ c. c.slots ≡ slots) }
+        ensures empty { IfOk result (λ c. c.history ≡ []) }
+        ensures parts { IfOk result (λ c. parts_of c.parts ≡ replay slots []) }
+    {
+        let line = first_line(alloc, slots)?;
+        Ok(Cluster { line, slots })
+    }
+
+    /// Performs an event: the history has one entry more, which is the book's, and stays legal; the parts
+    /// are its replay. Where it is not performed, the history and the parts are as they were.
+    pub fn step(&mut self, event: Event) -> Result<Reply, StepRefused>
+        requires served { IsServed event.act }
+        requires asked { Asked self.old.slots event }
+        ensures slots { self.new.slots ≡ self.old.slots }
+        ensures entry { OnOk result (self.new.history ≡ entry_of self.old.slots event self.old.history ∷ self.old.history) }
+        ensures reply { IfOk result (λ reply. reply_of reply ≡ (entry_of self.old.slots event self.old.history).reply) }
+        ensures no_fault { OnOk result (fault_after self.old.slots event self.old.history ≡ None) }
+        ensures cause { IfErr result (λ why. RefusedBy (fault_after self.old.slots event self.old.history) why) }
+        ensures kept { OnErr result (self.new.history ≡ self.old.history) }
+        ensures same { OnErr result (self.new.parts ≡ self.old.parts) }
+        ensures legal { Legal self.new.slots self.new.history }
+        ensures parts { parts_of self.new.parts ≡ replay self.new.slots self.new.history }
+    {
+        let answer = step_in(&mut self.line, self.slots, ServedEvent::of(event))?;
+        Ok(answer.into_reply())
+    }
+}
+
+/// One step, over the line of a past.
+fn step_in<V: VersionStore>(
+    line: &mut Line<ClusterMachine<V>>,
+    slots: u32,
+    event: ServedEvent,
+) -> Result<Answer, StepRefused>
+    requires past { IsPast slots (book (history_of (core_of coding) line.old.parts)) line.old.parts }
+    requires asked { Asked slots event }
+    ensures past { IsPast slots (book (history_of (core_of coding) line.new.parts)) line.new.parts }
+    ensures entry { OnOk result (book (history_of (core_of coding) line.new.parts) ≡ entry_of slots event (book (history_of (core_of coding) line.old.parts)) ∷ book (history_of (core_of coding) line.old.parts)) }
+    ensures reply { IfOk result (λ answer. answer.reply ≡ (entry_of slots event (book (history_of (core_of coding) line.old.parts))).reply) }
+    ensures no_fault { OnOk result (fault_after slots event (book (history_of (core_of coding) line.old.parts)) ≡ None) }
+    ensures same { OnErr result (line.new.parts ≡ line.old.parts) }
+    ensures cause { IfErr result (λ why. RefusedBy (fault_after slots event (book (history_of (core_of coding) line.old.parts))) why) }
+{
+    match line.perform(event) {
+        Ok(answer) => Ok(answer),
+        Err(why) => Err(why),
+    }
+}

@@ -1,0 +1,42 @@
+//! The parts of the empty cluster.
+ghost use Rattle.std.specs.Prelude.{◌≡◌, ◌+◌, ◌<◌, ◌^◌, map, IfOk};
+ghost use Rattle.cluster_core.specs.Tellings.{meaning};
+ghost use Rattle.cluster_core.specs.Starts.{first_parts, vacant_part};
+
+use crate::machine::ClusterMachine;
+use crate::master::MasterPart;
+use crate::part::ClusterPart;
+use row_values::{NoMemory, Records};
+use std::alloc::Global;
+use step_line::Line;
+use tablet_part::TabletPart;
+use versions::VersionStore;
+
+fn vacant<V: VersionStore>(alloc: Global) -> Result<ClusterPart<V>, NoMemory>
+    ensures exact { IfOk result (λ p. meaning p ≡ vacant_part) }
+{
+    let tablet = TabletPart::empty(alloc)?;
+    ClusterPart::of_tablet(alloc, tablet)
+}
+
+fn all_parts<V: VersionStore>(alloc: Global, slots: u32) -> Result<Vec<ClusterPart<V>>, NoMemory>
+    ensures exact { IfOk result (λ parts. map meaning parts.items ≡ first_parts slots) }
+{
+    let mut parts = Vec::new(alloc);
+    parts.push(ClusterPart::of_master(alloc, MasterPart::empty(slots))?)?;
+    for _ in 0..slots {
+        parts.push(vacant(alloc)?)?;
+    }
+    Ok(parts)
+}
+
+pub(crate) fn first_line<V: VersionStore>(
+    alloc: Global,
+    slots: u32,
+) -> Result<Line<ClusterMachine<V>>, NoMemory>
+    requires few { slots + 1 < 2 ^ 32 }
+    ensures exact { IfOk result (λ line. line.parts ≡ first_parts slots) }
+{
+    let parts = all_parts(alloc, slots)?;
+    Line::new(Records::from_vec(parts))
+}

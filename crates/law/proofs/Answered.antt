@@ -18,11 +18,11 @@ legal_known history slots legal = record {
 }
 
 -- the reply of a further entry is right
-pub entry_right : (e : Entry) (earlier : List Entry) (slots : ℕ) → Legal slots (e ∷ earlier) → AnswerRight e.event.act e.reply e.stamp (replay slots earlier) (journal_of slots earlier)
+pub entry_right : (e : Entry) (earlier : List Entry) (slots : ℕ) → Legal slots (e ∷ earlier) → AnswerRight e.event.act e.reply e.stamp (replay slots earlier) (activity_of slots earlier) (journal_of slots earlier)
 entry_right e earlier slots legal =
     let ps = replay slots earlier in
     let changes = journal_of slots earlier in
-    subst (λ r. AnswerRight e.event.act r e.stamp ps changes) (sym legal.1.reply)
+    subst (λ r. AnswerRight e.event.act r e.stamp ps (activity_of slots earlier) changes) (sym legal.1.reply)
     (answer_right e.event.act slots e.stamp ps (activity_of slots earlier) changes (stamps_later e ps legal.1.stamp) legal.1.asked.act (legal_holds earlier slots legal.0).inv (legal_known earlier slots legal.0))
 
 pub legal_right : (history : List Entry) (slots : ℕ) → Legal slots history → Right slots history

@@ -3,15 +3,8 @@ use Rattle.std.proofs.Common.{◌≡◌, ◌≢◌, ℕ, Bool, false, List, [], 
 use Rattle.std.specs.List.{filter}
 use Rattle.std.specs.Option.{option_map_or}
 use Rattle.std.proofs.lemmas.Bool.{cond_both}
-use Rattle.row_values.specs.Ids.{Id, Kind, Tablet, Snapshot, Restoration, Clone}
-use Rattle.row_values.specs.Elements.{In}
-use Rattle.row_values.specs.Slots.{has}
-use Rattle.model.specs.Activity.{Interval}
-use Rattle.model.specs.Catalog.{NamespaceRecord}
+use Rattle.model.specs.Cluster.{Id, Kind, TabletKind as Tablet, Snapshot, RestorationKind as Restoration, CloneKind as Clone, In, has, Interval, NamespaceRecord, Schedule, SnapshotRecord, RestorationRecord, RestorationState, Fencing, CloneRecord, CloneState, Accepted, Copying, is_visible, schedule_of, Act, Master, Parts, Outcome, MasterAct, MakesNamespace, DropsNamespace, Acks, Moves, Removes, Prunes}
 use Rattle.model.specs.Journal as made
-use Rattle.model.specs.Records.{Schedule, SnapshotRecord, RestorationRecord, RestorationState, Fencing, CloneRecord, CloneState, Accepted, Copying, is_visible, schedule_of}
-use Rattle.model.specs.Acts.{Act}
-use Rattle.model.specs.Parts.{Master, Parts, Outcome, MasterAct, MakesNamespace, DropsNamespace, Acks, Moves, Removes, Prunes}
 use Rattle.model.specs.Changed.{next_namespace}
 use Rattle.model.specs.Coordination.{unfinished_snapshot, unfinished_restoration, unfinished_clone, acked_by}
 use Rattle.model.specs.Moves.{with_clones_snapshot, serving_clone, completed, restoration_moved, begins_clone, clone_moved, moved_of}

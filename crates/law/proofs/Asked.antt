@@ -2,21 +2,13 @@
 use Rattle.std.proofs.Common.{◌≡◌, ℕ, ◌+◌, ◌≤◌, Bool, true, false, List, [], ◌∷◌, ◌++◌, Option, Some, None, ◌⊎◌, inl, inr, refl, sym, ap, subst, ◌∙◌, arith, map, not, ◌&&◌, Result, Ok, Err, le_trans}
 use Rattle.std.specs.Option.{option_map}
 use Rattle.std.proofs.lemmas.Bool.{true≢false}
-use Rattle.row_values.specs.Ids.{Id, same}
-use Rattle.row_values.specs.Elements.{In}
-use Rattle.model.specs.Activity.{Interval}
-use Rattle.model.specs.Times.{holds_at}
-use Rattle.model.specs.Catalog.{TableRecord, kept_from, owner_of, tables_at}
+use Rattle.model.specs.Cluster.{Id, same, In, Interval, holds_at, TableRecord, kept_from, owner_of, tables_at, Fencing, RestorationRecord, CloneRecord, Schedule as ScheduleRecord, schedule_with, Master, Parts, Outcome, If, decided, judged, refused, Fence, same_slots}
 use Rattle.model.specs.Restored.{record_at}
 use Rattle.model.specs.Journal.{Change as Made, TableView, is_in, table_at}
-use Rattle.model.specs.Records.{Fencing, RestorationRecord, CloneRecord, Schedule as ScheduleRecord, schedule_with}
 use Rattle.model.specs.Acts.{Command, CreateNamespace, DropNamespace, CreateTable, AddColumn, DropColumn, RenameTable, DropTable, Split, CreateSchedule, EditSchedule, DeleteSchedule, TakeSnapshot, Restore, CloneNamespace, ListSchedules, ListSnapshots, ListRestorations, ListClones, ListTablets, Refusal, UnknownSchedule, StalePlan, making_of, Making, ANamespace, ATable, TwoTablets, ASchedule, ASnapshot, ARestoration, AClone, Nothing}
-use Rattle.model.specs.Parts.{Master, Parts, Outcome, If, decided, judged, refused}
 use Rattle.model.specs.Looks.{found_namespace, plan_of}
 use Rattle.model.specs.Changed.{clone_time, new_clone, next_restoration, pair_tables}
 use Rattle.model.specs.Lists.{active_tablets, listing}
-use Rattle.model.specs.Tablets.{Fence}
-use Rattle.row_values.specs.Slots.{same_slots}
 use Rattle.model.specs.Changes.{change, planned, create_namespace, drop_namespace, create_table, add_column, drop_column, rename_table, drop_table, split, create_schedule, edit_schedule, delete_schedule, take_snapshot, restore, clone_namespace, list_tablets, found_schedule, restore_checks, judge_clone, judge_create_namespace, judge_drop_namespace, judge_create_table, judge_add_column, judge_drop_column, judge_rename_table, judge_drop_table, judge_split, judge_create_schedule, judge_edit_schedule, judge_delete_schedule, judge_take_snapshot, judge_restore}
 use Rattle.model.specs.Drawn.{ids_made}
 use Rattle.model.specs.History.{master_effect}
@@ -175,13 +167,7 @@ refused_asks command n m changes why = quiet_asks command n m changes (refused w
 
     no_clones : (making : Making) → clones_in making [] n m changes ≡ []
     no_clones ANamespace = refl
-    no_clones (ATable tablets) = refl
-    no_clones TwoTablets = refl
-    no_clones ASchedule = refl
-    no_clones ASnapshot = refl
-    no_clones (ARestoration schedule to) = refl
-    no_clones (AClone source target to) = refl
-    no_clones Nothing = refl
+    no_clones _ = refl
 
 decided_asks : {A : Type 0} (judgement : Result A Refusal) (go : A → Outcome) (command : Command) (n : ℕ) (m : Master) (changes : List Made) → ((a : A) → judgement ≡ Ok a → Asks command n m changes (go a)) → Asks command n m changes (decided judgement go)
 decided_asks (Err why) go command n m changes accepted = refused_asks command n m changes why

@@ -3,15 +3,9 @@ use Rattle.std.proofs.Common.{ℕ, ◌≡◌, ◌≤◌, ◌+◌, List, [], ◌�
 use Rattle.std.specs.Prelude.{Ok as Granted}
 use Rattle.std.specs.List.{filter}
 use Rattle.std.proofs.lemmas.List.{length-map, append-nil, append_assoc}
-use Rattle.row_values.specs.Ids.{Id, Kind, Namespace, Table, Tablet, Schedule, Snapshot, Restoration, Clone, same}
-use Rattle.model.specs.Times.{holds_at}
-use Rattle.model.specs.Activity.{Interval}
-use Rattle.model.specs.Catalog.{TableRecord, tables_at}
+use Rattle.model.specs.Cluster.{Id, Kind, NamespaceKind as Namespace, TableKind as Table, TabletKind as Tablet, ScheduleKind as Schedule, Snapshot, RestorationKind as Restoration, CloneKind as Clone, same, holds_at, Interval, TableRecord, tables_at, CloneRecord, IdPair, TabletPair, Change, CloneNamespace, Master, Parts, BeginsClone}
 use Rattle.model.specs.Journal.{Change as Made}
 use Rattle.model.specs.Lists.{tablets_active_at}
-use Rattle.model.specs.Records.{CloneRecord, IdPair, TabletPair}
-use Rattle.model.specs.Acts.{Change, CloneNamespace}
-use Rattle.model.specs.Parts.{Master, Parts, BeginsClone}
 use Rattle.model.specs.Looks.{free_slots}
 use Rattle.model.specs.Changed.{next_clone, next_namespace, pair_tablets, sources, clone_time, clone_begun, new_clone}
 use Rattle.model.specs.Changes.{accepts, CloneSource, judge_clone}
@@ -36,44 +30,33 @@ begun_counts Namespace m ns source target to n enough = refl
 begun_counts Table m ns source target to n enough = ap (λ k. m.drawn.tables + k) (pair_tables_long (tables_at m.catalog.tables ns to) m.drawn.tables)
 begun_counts Tablet m ns source target to n enough =
     ap (λ k. m.drawn.tablets + k) (pair_tablets_long (sources m ns to) (free_slots m) m.drawn.tablets (tables_of m ns to) enough ∙ order_long _ (tablets_active_at m.catalog.owners m.activity ns to))
-begun_counts Schedule m ns source target to n enough = omega arith
-begun_counts Snapshot m ns source target to n enough = omega arith
-begun_counts Restoration m ns source target to n enough = omega arith
 begun_counts Clone m ns source target to n enough = refl
+begun_counts _ m ns source target to n enough = omega arith
 
 -- which it has
 abbrev begun_ids : Master → Id → ℕ → Kind → List Id
 begun_ids m ns to Namespace = next_namespace m ∷ []
 begun_ids m ns to Table = map {A = IdPair} (λ p. p.target) (tables_of m ns to)
 begun_ids m ns to Tablet = map {A = TabletPair} (λ p. p.target) (tablets_of m ns to)
-begun_ids m ns to Schedule = []
-begun_ids m ns to Snapshot = []
-begun_ids m ns to Restoration = []
 begun_ids m ns to Clone = next_clone m ∷ []
+begun_ids m ns to _ = []
 
 begun_long : (kind : Kind) (m : Master) (ns : Id) (to : ℕ) → length (sources m ns to) ≤ length (free_slots m) → length (begun_ids m ns to kind) ≡ drawn_of kind (drawn_for_clone to m ns)
-begun_long Namespace m ns to enough = refl
 begun_long Table m ns to enough = length-map (tables_of m ns to) (λ (p : IdPair). p.target) ∙ pair_tables_long (tables_at m.catalog.tables ns to) m.drawn.tables
 begun_long Tablet m ns to enough =
     length-map (tablets_of m ns to) (λ (p : TabletPair). p.target) ∙ pair_tablets_long (sources m ns to) (free_slots m) m.drawn.tablets (tables_of m ns to) enough ∙ order_long _ (tablets_active_at m.catalog.owners m.activity ns to)
-begun_long Schedule m ns to enough = refl
-begun_long Snapshot m ns to enough = refl
-begun_long Restoration m ns to enough = refl
-begun_long Clone m ns to enough = refl
+begun_long _ m ns to enough = refl
 
 begun_turn : (kind : Kind) (m : Master) (ns : Id) (to : ℕ) → AreNext kind (drawn_of kind m.drawn) (begun_ids m ns to kind)
 begun_turn Namespace m ns to = (refl, tt)
 begun_turn Table m ns to = tables_next (tables_at m.catalog.tables ns to) m.drawn.tables
 begun_turn Tablet m ns to = tablets_next (sources m ns to) (free_slots m) m.drawn.tablets (tables_of m ns to)
-begun_turn Schedule m ns to = tt
-begun_turn Snapshot m ns to = tt
-begun_turn Restoration m ns to = tt
 begun_turn Clone m ns to = (refl, tt)
+begun_turn _ m ns to = tt
 
 -- its tables and tablets stand in order
 begun_reserved : (kind : Kind) (ps : Parts) (activity : List Interval) (changes : List Made) (ns : Id) (least : ℕ) (source target : List ℕ) (to n : ℕ) → ps.master.clock ≤ n → MayClone ps.master ns least target to n → KindsGood ps.master → Inv ps activity changes
     → (kind ≡ Clone → ⊥) → reserved_in kind (new_clone ns source target to ps.master) ≡ begun_ids ps.master ns to kind
-begun_reserved Namespace ps activity changes ns least source target to n le may kinds inv apart = refl
 begun_reserved Table ps activity changes ns least source target to n le may kinds inv apart =
     let m = ps.master in
     let then_ = filter (λ (r : TableRecord). holds_at to r.from r.to && same r.namespace ns) m.catalog.tables in
@@ -87,10 +70,8 @@ begun_reserved Tablet ps activity changes ns least source target to n le may kin
     (λ t isin. kinds.tables t (then_is m.catalog.tables ns to t isin).0)
     (λ i isin. let t = source_table ps activity changes ns least target to n i le may inv (source_then m ns to i isin) in (t.0, (t.1.0, t.1.1)))
     (order_chained by_place one_way_place (tablets_active_at m.catalog.owners m.activity ns to))))
-begun_reserved Schedule ps activity changes ns least source target to n le may kinds inv apart = refl
-begun_reserved Snapshot ps activity changes ns least source target to n le may kinds inv apart = refl
-begun_reserved Restoration ps activity changes ns least source target to n le may kinds inv apart = refl
 begun_reserved Clone ps activity changes ns least source target to n le may kinds inv apart = absurd (apart refl)
+begun_reserved _ ps activity changes ns least source target to n le may kinds inv apart = refl
 
 reserved_append : (cs ds : List CloneRecord) (kind : Kind) → reserved_by (cs ++ ds) kind ≡ reserved_by cs kind ++ reserved_by ds kind
 reserved_append [] ds kind = refl

@@ -3,13 +3,9 @@
 use Rattle.std.proofs.Common.{◌≡◌, ℕ, ◌+◌, Bool, true, false, List, [], ◌∷◌, ◌++◌, Option, Some, None, refl, sym, ap, subst, ◌∙◌, arith, length, not, Result, Ok, Err, if◌then◌else◌, le_of_lt}
 use Rattle.std.specs.Option.{option_map, option_map_or}
 use Rattle.std.proofs.lemmas.Bool.{cond_both}
-use Rattle.row_values.specs.Ids.{Id, Kind, Snapshot, Restoration, Clone}
-use Rattle.row_values.specs.Slots.{has, same_slots}
-use Rattle.model.specs.Activity.{Interval}
+use Rattle.model.specs.Cluster.{Id, Kind, Snapshot, RestorationKind as Restoration, CloneKind as Clone, has, same_slots, Interval, Schedule as ScheduleRecord, SnapshotRecord, RestorationRecord, RestorationState, Fencing, Snapshotting, Switching, Restoring, Releasing, Restored, CloneRecord, CloneState, Accepted, CloneSnapshot, Copying, CloneReleasing, CloneComplete, State, IsCreating, IsComplete, IsFencing, IsSnapshot, IsSwitching, IsRestoring, IsReleasing, IsRestored, IsAccepted, IsCopying, clone_state, first_unacked, is_cloned, is_restored, restoration_state, schedule_of, Master, Parts, Outcome, If, decided, refused, judged, MasterAct, Ticks, Sends, Acks, Unsends, Moves, Removes, Restarts, none_drawn}
 use Rattle.model.specs.Journal.{Change as Made}
-use Rattle.model.specs.Records.{Schedule as ScheduleRecord, SnapshotRecord, RestorationRecord, RestorationState, Fencing, Snapshotting, Switching, Restoring, Releasing, Restored, CloneRecord, CloneState, Accepted, CloneSnapshot, Copying, CloneReleasing, CloneComplete, State, IsCreating, IsComplete, IsFencing, IsSnapshot, IsSwitching, IsRestoring, IsReleasing, IsRestored, IsAccepted, IsCopying, clone_state, first_unacked, is_cloned, is_restored, restoration_state, schedule_of}
 use Rattle.model.specs.Acts.{Act, Change, Command, CreateNamespace, DropNamespace, CreateTable, AddColumn, DropColumn, RenameTable, DropTable, Split, CreateSchedule, EditSchedule, DeleteSchedule, TakeSnapshot, Restore, CloneNamespace, ListSchedules, ListSnapshots, ListRestorations, ListClones, ListTablets, Refusal, StalePlan, Reply, Look, Write, Read, Cutoff, Compact, Send, Process, Ack, Advance, Remove, Prune, Restart, Stats, Advanced}
-use Rattle.model.specs.Parts.{Master, Parts, Outcome, If, decided, refused, judged, MasterAct, Ticks, Sends, Acks, Unsends, Moves, Removes, Restarts, none_drawn}
 use Rattle.model.specs.Lists.{next_snapshot, numbered_as}
 use Rattle.model.specs.Looks.{found_namespace, plan_of}
 use Rattle.model.specs.Changed.{clone_begun, clone_time, restoration_begun, snapshot_taken}
@@ -103,11 +99,8 @@ planned_enters (DropTable namespace table) slots n ps = decided_enters (judge_dr
 planned_enters (EditSchedule schedule interval retention) slots n ps =
     decided_enters (judge_edit_schedule schedule interval retention ps.master) _ (EditSchedule schedule interval retention) slots n ps.master (λ a. record { same = λ draws. none_begun _ _ n ps.master _ draws refl refl refl })
 planned_enters (DeleteSchedule schedule) slots n ps = decided_enters (judge_delete_schedule schedule ps.master) _ (DeleteSchedule schedule) slots n ps.master (λ a. record { same = λ draws. none_begun _ _ n ps.master _ draws refl refl refl })
-planned_enters ListSchedules slots n ps = record { same = λ draws. none_begun _ _ n ps.master _ draws refl refl refl }
-planned_enters ListSnapshots slots n ps = record { same = λ draws. none_begun _ _ n ps.master _ draws refl refl refl }
-planned_enters ListRestorations slots n ps = record { same = λ draws. none_begun _ _ n ps.master _ draws refl refl refl }
-planned_enters ListClones slots n ps = record { same = λ draws. none_begun _ _ n ps.master _ draws refl refl refl }
 planned_enters (ListTablets namespace) slots n ps = decided_enters (found_namespace ps.master namespace) _ (ListTablets namespace) slots n ps.master (λ a. record { same = λ draws. none_begun _ _ n ps.master _ draws refl refl refl })
+planned_enters _ slots n ps = record { same = λ draws. none_begun _ _ n ps.master _ draws refl refl refl }
 
 -- Moves
 

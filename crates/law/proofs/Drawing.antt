@@ -1,22 +1,16 @@
 -- How many identifiers a legal history draws: so few for each entry of the master's log that numbers stay below their bound.
 use Rattle.std.proofs.Common.{sym, subst, ap, ◌∙◌, refl, cond, ◌≡◌, ℕ, ◌≤◌, ◌<◌, ◌+◌, ◌*◌, Bool, true, false, List, [], ◌∷◌, if◌then◌else◌, arith, min, fold, eqb, eqb-true, le_trans, le_of_lt}
-use Rattle.row_values.specs.Ids.{Id, Kind, Namespace, Table, Tablet, Schedule, Snapshot, Restoration, Clone}
-use Rattle.row_values.specs.Slots.{has}
+use Rattle.model.specs.Cluster.{Id, Kind, NamespaceKind as Namespace, TableKind as Table, TabletKind as Tablet, ScheduleKind as Schedule, Snapshot, RestorationKind as Restoration, CloneKind as Clone, has, Master, Parts, BeginsClone, If, judged, decided, State, IsCreating, IsComplete, IsFencing, IsSnapshot, IsSwitching, IsRestoring, IsReleasing, IsRestored, IsAccepted, IsCopying, same_slots, Interval, Refusal, StalePlan}
 use Rattle.model.specs.Acts.{Act, Change, Advance, Command, CreateNamespace, DropNamespace, CreateTable, AddColumn, DropColumn, RenameTable, DropTable, Split, CreateSchedule, EditSchedule, DeleteSchedule, TakeSnapshot, Restore, CloneNamespace, ListSchedules, ListSnapshots, ListRestorations, ListClones, ListTablets}
-use Rattle.model.specs.Parts.{Master, Parts, BeginsClone, If, judged, decided}
 use Rattle.model.specs.Entries.{Entry, slots_of, log_of, least, ActAsked, CommandAsked}
 use Rattle.model.specs.History.{outcome, told, master_effect, replay, held, most_entries, Legal}
-use Rattle.model.specs.Records.{State, IsCreating, IsComplete, IsFencing, IsSnapshot, IsSwitching, IsRestoring, IsReleasing, IsRestored, IsAccepted, IsCopying}
 use Rattle.model.specs.Drawn.{drawn_of, most_slots, DrawnWithin, DrawnBelow, drawn_by, drawn_entering, drawn_for, drawn_making, entered_by, ids_made}
 use Rattle.law_store.proofs.Keys.{either_way}
 use Rattle.std.specs.Prelude.{Result, Ok as Granted, Err as Denied, Option, not}
-use Rattle.row_values.specs.Slots.{same_slots}
-use Rattle.model.specs.Activity.{Interval}
 use Rattle.model.specs.Journal.{Change as Made}
 use Rattle.model.specs.Looks.{plan_of}
 use Rattle.model.specs.Changed.{next_clone, clone_time}
 use Rattle.model.specs.Changes.{accepts, CloneSource, judge_clone, clone_namespace, change}
-use Rattle.model.specs.Acts.{Refusal, StalePlan}
 use Rattle.model.specs.History.{activity_of, journal_of}
 use Rattle.law_invariants.specs.Invariant.{Inv, Later}
 use Rattle.law_clones.proofs.Commanding.{may_clone}
@@ -36,18 +30,7 @@ command_few (CreateSchedule interval retention namespace) n m asked clone = few 
 command_few (TakeSnapshot schedule) n m asked clone = few _ (omega arith) (omega arith) (omega arith) (omega arith) (omega arith) (omega arith) (omega arith)
 command_few (Restore schedule to) n m asked clone = few _ (omega arith) (omega arith) (omega arith) (omega arith) (omega arith) (omega arith) (omega arith)
 command_few (CloneNamespace source target at) n m asked clone = clone source target at refl
-command_few (DropNamespace name) n m asked clone = none_few
-command_few (AddColumn namespace table name kind) n m asked clone = none_few
-command_few (DropColumn namespace table name) n m asked clone = none_few
-command_few (RenameTable namespace table name) n m asked clone = none_few
-command_few (DropTable namespace table) n m asked clone = none_few
-command_few (EditSchedule schedule interval retention) n m asked clone = none_few
-command_few (DeleteSchedule schedule) n m asked clone = none_few
-command_few ListSchedules n m asked clone = none_few
-command_few ListSnapshots n m asked clone = none_few
-command_few ListRestorations n m asked clone = none_few
-command_few ListClones n m asked clone = none_few
-command_few (ListTablets namespace) n m asked clone = none_few
+command_few _ n m asked clone = none_few
 
 making_few : (made : List Id) (command : Command) (n : ℕ) (m : Master) → CommandAsked command
     → ((source target : List ℕ) (at : Option ℕ) → command ≡ CloneNamespace source target at → (kind : Kind) → drawn_of kind (drawn_making made command n m) ≤ most_slots) → (kind : Kind) → drawn_of kind (drawn_making made command n m) ≤ most_slots
@@ -55,17 +38,8 @@ making_few [] command n m asked clone = none_few
 making_few (id ∷ ids) command n m asked clone = command_few command n m asked clone
 
 entering_few : (states : List State) (kind : Kind) → drawn_of kind (drawn_entering states) ≤ most_slots
-entering_few [] = none_few
 entering_few (IsSnapshot ∷ states) = few _ (omega arith) (omega arith) (omega arith) (omega arith) (omega arith) (omega arith) (omega arith)
-entering_few (IsCreating ∷ states) = none_few
-entering_few (IsComplete ∷ states) = none_few
-entering_few (IsFencing ∷ states) = none_few
-entering_few (IsSwitching ∷ states) = none_few
-entering_few (IsRestoring ∷ states) = none_few
-entering_few (IsReleasing ∷ states) = none_few
-entering_few (IsRestored ∷ states) = none_few
-entering_few (IsAccepted ∷ states) = none_few
-entering_few (IsCopying ∷ states) = none_few
+entering_few _ = none_few
 
 judged_few : (j : Result CloneSource Refusal) (ps : Parts) (activity : List Interval) (changes : List Made) (source target : List ℕ) (at : Option ℕ) (n : ℕ) → ps.master.clock ≤ n → ps.master.slots ≤ most_slots → Inv ps activity changes
     → judge_clone source target (clone_time at n) n ps.master ≡ j → (kind : Kind) → drawn_of kind (CloneDraws source target at n ps.master (decided j (λ s. accepts (BeginsClone s.namespace source target (clone_time at n)) [] (next_clone ps.master ∷ [])))) ≤ most_slots

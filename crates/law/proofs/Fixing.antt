@@ -12,7 +12,7 @@ use Rattle.row_values.specs.Ids.{Id, same}
 use Rattle.std.specs.List.{filter}
 use Rattle.row_values.specs.Schema.{Column}
 use Rattle.model.specs.Catalog.{Owner, is_owned_by, owner_of}
-use Rattle.model.specs.Journal.{Change, ChangeAct, NamespaceMade, NamespaceDropped, TableMade, TableRenamed, TableDropped, ColumnAdded, ColumnDropped, RowChanged, NamespaceRestored, NamespaceCloned, TableView, is_in, renamed, with_column, without_column, moved_to, restored_table, restored_row, table_after, namespace_at, table_at, row_at, owner_by, owner_in}
+use Rattle.model.specs.Journal.{Change, ChangeAct, NamespaceMade, NamespaceDropped, TableMade, TableRenamed, TableDropped, ColumnAdded, ColumnDropped, RowChanged, NamespaceRestored, NamespaceCloned, TableView, is_in, renamed, with_column, without_column, moved_to, restored_table, restored_row, table_after, namespace_at, table_at, row_at, owner_by, owner_in, source_of}
 use Rattle.model.specs.Right.{fixes, is_fixed, SameThen, StillSame}
 use Rattle.model.specs.Right.{FixedStays}
 use Rattle.model.specs.History.{with, rows_made}
@@ -75,16 +75,10 @@ pub record ViewOwned (changes : List Change) : Type 0 where
 
 -- the changes that neither make a table nor take a namespace
 abbrev pub stays_home : ChangeAct → Bool
-stays_home (NamespaceMade namespace name) = true
-stays_home (NamespaceDropped namespace) = true
 stays_home (TableMade table namespace name columns) = false
-stays_home (TableRenamed table name) = true
-stays_home (TableDropped table) = true
-stays_home (ColumnAdded table column) = true
-stays_home (ColumnDropped table column) = true
-stays_home (RowChanged table key op) = true
 stays_home (NamespaceRestored namespace to) = false
 stays_home (NamespaceCloned source target name to tables) = false
+stays_home _ = true
 
 IsAtHome : Option TableView → Option TableView → Type 0
 IsAtHome before after = (v : TableView) → after ≡ Some v → (u : TableView) × ((before ≡ Some u) × (u.namespace ≡ v.namespace))
@@ -144,6 +138,32 @@ plain_owned n act changes home o = record {
       let u = h v e in
       ap (λ w. option_or w (owner_in changes id)) (none_made act id home) ∙ o.owned id x u.0 u.1.0 ∙ ap Some u.1.1;
 }
+
+-- the list of owners has each table of the journal in the namespace in which it was made
+abbrev pub OwnersStand : List Owner → List Change → Type 0
+OwnersStand os changes = (table ns : Id) → owner_in changes table ≡ Some ns → owner_of os table ≡ Some ns
+
+pub plain_stand : (n : ℕ) (act : ChangeAct) (changes : List Change) (os : List Owner) → stays_home act ≡ true → OwnersStand os changes → OwnersStand os (with n act changes)
+plain_stand n act changes os home h table ns e = h table ns (sym (ap (λ w. option_or w (owner_in changes table)) (none_made act table home)) ∙ e)
+
+pub made_stand : (n : ℕ) (made ns : Id) (name : List ℕ) (columns : List Column) (changes : List Change) (os : List Owner)
+    → ((id : Id) (x : ℕ) (v : TableView) → table_at (with n (TableMade made ns name columns) changes) x id ≡ Some v → owner_of os id ≡ Some v.namespace)
+    → OwnersStand os changes → OwnersStand os (with n (TableMade made ns name columns) changes)
+made_stand n made ns name columns changes os inside h table owner e = either_way (same made table)
+    (λ s. let q : Some ns ≡ Some owner = rw s at e in
+    ap (owner_of os) (sym (same_equal made table s)) ∙ inside made n _ (made_here n made ns name columns changes n (le_refl n)) ∙ q)
+    (λ s. h table owner (rw s at e))
+
+pub cloned_stand : (n : ℕ) (r : CloneRecord) (changes : List Change) (os : List Owner) → PairsApart r.tables → ((d : IdPair) → In d r.tables → owner_of os d.target ≡ Some r.target_id)
+    → OwnersStand os changes → OwnersStand os (clone n r changes)
+cloned_stand n r changes os apart targets h table owner e = by_source r.tables table
+    (λ none. h table owner (sym (ap (λ s. option_or (cond (is_some s) (Some r.target_id) None) (owner_in changes table)) none) ∙ e))
+    (λ d isin is. ap (owner_of os) (sym is) ∙ targets d isin
+    ∙ sym (ap (λ s. option_or (cond (is_some s) (Some r.target_id) None) (owner_in changes table)) (ap (source_of r.tables) (sym is) ∙ source_is r.tables d apart isin)) ∙ e)
+
+pub rows_stand : (items : List Item) (n : ℕ) (table : Id) (changes : List Change) (os : List Owner) → OwnersStand os changes → OwnersStand os (rows_made n table items changes)
+rows_stand [] n table changes os h = h
+rows_stand (item ∷ items) n table changes os h = rows_stand items n table (with n (RowChanged table item.key item.op) changes) os h
 
 -- one more table
 pub made_owned : (n : ℕ) (made ns : Id) (name : List ℕ) (columns : List Column) (changes : List Change) (os : List Owner)

@@ -55,7 +55,7 @@ pub record IsAnswer (slots : ℕ) (ask : Ask) (reply : Reply) : Type 0 where
   pub inv : Inv parts activity changes
   pub kinds : KindsGood parts.master
   pub is : reply ≡ (look ask stamp parts.master).reply
-  pub right : LookAnswer ask reply stamp parts changes
+  pub right : LookAnswer ask reply stamp parts activity changes
 
 -- the acts that follow a look are fit, whatever it answers
 abbrev pub Follows : ℕ → Ask → (Found → List Act) → Type 0
@@ -143,19 +143,20 @@ plan_to _ m slot all isin = absurd isin
 -- The places of a look
 
 -- a tablet's place is in a slot of the cluster
-place_in : (slots : ℕ) (ps : Parts) (activity : List Interval) (changes : List Made) (i : Interval) → ps.master.slots ≡ slots → Inv ps activity changes → In i ps.master.activity → IsSlot slots i.slot
-place_in slots ps activity changes i count inv listed =
-    let good = (inv.slots i.slot).each i listed refl in (good.slot_from, subst (λ k. i.slot ≤ k) count good.slot_to)
+place_in : (slots : ℕ) (ps : Parts) (activity : List Interval) (changes : List Made) (n : ℕ) (i : Interval) → ps.master.slots ≡ slots → ps.master.clock < n → Inv ps activity changes → In i activity → active_at n i ≡ true → IsSlot slots i.slot
+place_in slots ps activity changes n i count less inv listed active =
+    let good = (inv.slots i.slot).each i (still_kept ps.master activity i n inv.remembered less listed active) refl in (good.slot_from, subst (λ k. i.slot ≤ k) count good.slot_to)
 
 -- a look for keys that places them places one active tablet
-record OnePlace (activity : List Interval) (places : List Place) : Type 0 where
+record OnePlace (activity : List Interval) (now : ℕ) (places : List Place) : Type 0 where
   interval : Interval
   listed : In interval activity
+  active : active_at now interval ≡ true
   is : places ≡ place_of interval ∷ []
 
-keys_placed : (q : TableLook) (batch : List NamedItem) (places : List Place) (version : ℕ) (columns : List Column) → KeysAnswer q batch (Placed places version columns) → OnePlace q.activity places
+keys_placed : (q : TableLook) (batch : List NamedItem) (places : List Place) (version : ℕ) (columns : List Column) → KeysAnswer q batch (Placed places version columns) → OnePlace q.activity q.now places
 keys_placed q batch places version columns answer = elim answer [
-  | KeysPlaced found_places found_version found_columns table sound shown home inside placed ↦ record { interval = home.interval; listed = home.listed; is = placed }
+  | KeysPlaced found_places found_version found_columns table sound shown home inside placed ↦ record { interval = home.interval; listed = home.listed; active = home.active; is = placed }
 ]
 
 -- and one for a table places all its active tablets, of which there is one
@@ -169,22 +170,21 @@ table_placed q places version columns answer = elim answer [
   | TablePlaced found_places found_version found_columns table shown placed ↦ record { table = table.found.id; current = table.found.current; are = placed }
 ]
 
-some_place : (ps : Parts) (activity : List Interval) (changes : List Made) (n : ℕ) (table : Id) (places : List Place) → ps.master.clock < n → Inv ps activity changes → is_some (table_at changes n table) ≡ true → ArePlaces ps.master.activity n table places → 1 ≤ length places
-some_place ps activity changes n table places less inv current are =
+some_place : (ps : Parts) (activity : List Interval) (changes : List Made) (n : ℕ) (table : Id) (places : List Place) → Inv ps activity changes → is_some (table_at changes n table) ≡ true → ArePlaces activity n table places → 1 ≤ length places
+some_place ps activity changes n table places inv current are =
     let one = inv.cover.whole table 0 n (omega arith) current in
     let holder = holder_there activity table 0 n (omega (arith, one)) in
     let i = holder.0 in
     let outer = both_pass (same i.table table) (active_at n i && in_range i.low i.high 0) holder.1.1 in
     let inner = both_pass (active_at n i) (in_range i.low i.high 0) outer.1 in
-    let listed = still_kept ps.master activity i n inv.remembered less holder.1.0 inner.0 in
-    in_some places (place_of i) (are.all i listed (same_equal i.table table outer.0) inner.0)
+    in_some places (place_of i) (are.all i holder.1.0 (same_equal i.table table outer.0) inner.0)
 
-places_in : (slots : ℕ) (ps : Parts) (activity : List Interval) (changes : List Made) (n : ℕ) (table : Id) (places : List Place) → ps.master.slots ≡ slots → Inv ps activity changes → ArePlaces ps.master.activity n table places
+places_in : (slots : ℕ) (ps : Parts) (activity : List Interval) (changes : List Made) (n : ℕ) (table : Id) (places : List Place) → ps.master.slots ≡ slots → ps.master.clock < n → Inv ps activity changes → ArePlaces activity n table places
     → AllOf (λ place. IsSlot slots place.slot) (map at_place places)
-places_in slots ps activity changes n table places count inv are =
+places_in slots ps activity changes n table places count less inv are =
     all_mapped (λ place. IsSlot slots place.slot) (λ place. IsSlot slots place.slot) at_place places (λ place h. h)
     (all_of (λ place. IsSlot slots place.slot) places (λ place isin. let active = are.each place isin in
-    subst (IsSlot slots) (sym (ap (λ p. p.slot) active.placed)) (place_in slots ps activity changes active.interval count inv active.listed)))
+    subst (IsSlot slots) (sym (ap (λ p. p.slot) active.placed)) (place_in slots ps activity changes n active.interval count less inv active.listed active.active)))
 
 -- Batches by the ids of columns
 
@@ -222,22 +222,22 @@ rows_follow : (namespace table : List ℕ) (batch : List NamedItem) (slots : ℕ
 rows_follow namespace table batch slots asked (Placed places version columns) a =
     let one = keys_placed _ batch places version columns a.right in
     subst (λ k. AllOf (IsFit slots) (write_at k version (map (item_by_id columns) batch))) (sym one.is)
-    (record { asked = (place_in slots a.parts a.activity a.changes one.interval a.count a.inv one.listed, batch_is columns batch asked) }, tt)
+    (record { asked = (place_in slots a.parts a.activity a.changes a.stamp one.interval a.count a.later a.inv one.listed one.active, batch_is columns batch asked) }, tt)
 rows_follow namespace table batch slots asked _ a = tt
 
 row_follows : (namespace table key : List ℕ) (at : Option ℕ) (slots : ℕ) → IsKey key → IsTime at → Follows slots (AskKeys namespace table (key_alone key) at) (read_places (Some key) at)
 row_follows namespace table key at slots is time (Placed places version columns) a =
     let one = keys_placed _ (key_alone key) places version columns a.right in
     subst (λ k. AllOf (IsFit slots) (read_places (Some key) at (found_by (Placed k version columns)))) (sym one.is)
-    (record { asked = (omega arith, (place_in slots a.parts a.activity a.changes one.interval a.count a.inv one.listed, tt), is, time) }, tt)
+    (record { asked = (omega arith, (place_in slots a.parts a.activity a.changes a.stamp one.interval a.count a.later a.inv one.listed one.active, tt), is, time) }, tt)
 row_follows namespace table key at slots is time _ a = tt
 
 table_follows : (namespace table : List ℕ) (at : Option ℕ) (slots : ℕ) → IsTime at → Follows slots (AskTable namespace table at) (read_places None at)
 table_follows namespace table at slots time (Placed places version columns) a =
     let all = table_placed _ places version columns a.right in
-    let some = some_place a.parts a.activity a.changes a.stamp all.table places a.later a.inv all.current all.are in (
+    let some = some_place a.parts a.activity a.changes a.stamp all.table places a.inv all.current all.are in (
       record {
-        asked = (subst (λ k. 1 ≤ k) (sym (length-map places at_place)) some, places_in slots a.parts a.activity a.changes a.stamp all.table places a.count a.inv all.are, tt, time);
+        asked = (subst (λ k. 1 ≤ k) (sym (length-map places at_place)) some, places_in slots a.parts a.activity a.changes a.stamp all.table places a.count a.later a.inv all.are, tt, time);
       },
       tt,
     )
@@ -368,7 +368,5 @@ course_fits CompactTablets slots reading asked = (record { asked = asked }, each
 course_fits CleanUp slots reading asked = (record { asked = asked }, removals_follow slots)
 course_fits (Coordinate count) slots reading asked = record { bound = λ ps. count; is = λ ps. refl }
 course_fits Settle slots reading asked = record { bound = λ ps. left ps.master; is = λ ps. refl }
-course_fits RestartMaster slots reading asked = record { asked = asked }
-course_fits (RestartTablet slot) slots reading asked = record { asked = asked }
-course_fits (ShowStats slot) slots reading asked = record { asked = asked }
 course_fits ShowHistory slots reading asked = tt
+course_fits _ slots reading asked = record { asked = asked }

@@ -4,15 +4,10 @@ use Rattle.std.specs.Prelude.{Ok as Granted}
 use Rattle.std.specs.List.{filter}
 use Rattle.std.specs.Option.{option_map_or}
 use Rattle.std.proofs.lemmas.Bool.{cond_both}
-use Rattle.row_values.specs.Ids.{Id, Kind, Namespace, Table, Tablet, Schedule, Snapshot, Restoration, Clone, same}
+use Rattle.model.specs.Cluster.{Id, Kind, NamespaceKind as Namespace, TableKind as Table, TabletKind as Tablet, ScheduleKind as Schedule, Snapshot, RestorationKind as Restoration, CloneKind as Clone, same, Interval, TableRecord, tables_at, IdPair, TabletPair, CloneNamespace, none_drawn, Drawn, Master, Parts, Outcome}
 use Rattle.row_values.specs.Elements.{In, put_in, in_order}
-use Rattle.model.specs.Activity.{Interval}
-use Rattle.model.specs.Catalog.{TableRecord, tables_at}
 use Rattle.model.specs.Journal.{Change as Made}
-use Rattle.model.specs.Records.{IdPair, TabletPair}
 use Rattle.model.specs.Lists.{tablets_active_at}
-use Rattle.model.specs.Acts.{CloneNamespace}
-use Rattle.model.specs.Parts.{none_drawn, Drawn, Master, Parts, Outcome}
 use Rattle.model.specs.Looks.{free_slots}
 use Rattle.model.specs.Changed.{pair_tables, pair_tablets, sources, clone_time}
 use Rattle.model.specs.Changes.{CloneSource, judge_clone}

@@ -5,20 +5,11 @@ use Rattle.std.proofs.lemmas.Bool.Decides.{nat_tests}
 use Rattle.std.proofs.Math.Nat.{div-mul-le_self}
 use Rattle.std.proofs.lemmas.Nat.{le-div}
 use Rattle.std.proofs.lemmas.List.Elements.{filter-append}
-use Rattle.row_values.specs.Ids.{Id, Kind, Namespace, Table, Tablet, Schedule, Snapshot, Restoration, Clone, same}
+use Rattle.model.specs.Cluster.{Id, Kind, NamespaceKind as Namespace, TableKind as Table, TabletKind as Tablet, ScheduleKind as Schedule, Snapshot, RestorationKind as Restoration, CloneKind as Clone, same, share_from, same_slots, has, Interval, end_tablet, ended, checked, Master, Parts, Outcome, If, decided, refused, judged, none_drawn, MasterAct, Ticks, Sends, Acks, Unsends, Removes, Restarts, NamespaceRecord, TableRecord, first_schema, in_range, Fence, Told, RestorationRecord, RestorationState, Fencing, Snapshotting, Switching, Restoring, SnapshotRecord, CloneRecord, CloneState, Accepted, CloneSnapshot, Copying, CloneReleasing, CloneComplete, Schedule as ScheduleRecord, schedule_of, is_cloned, State, IsComplete, IsSnapshot, IsSwitching, IsRestoring, IsReleasing, IsRestored, IsCopying, first_unacked, is_snapshotting, named_by_restoration, named_by_clone, restoration_state, clone_state}
 use Rattle.row_values.specs.Elements.{In, put_in}
-use Rattle.row_values.specs.Ranges.{share_from}
-use Rattle.row_values.specs.Slots.{same_slots, has}
-use Rattle.model.specs.Activity.{Interval, end_tablet}
-use Rattle.model.specs.Times.{ended}
 use Rattle.model.specs.Acts.{Act, Change, Command, CreateNamespace, DropNamespace, CreateTable, AddColumn, DropColumn, RenameTable, DropTable, Split, CreateSchedule, EditSchedule, DeleteSchedule, TakeSnapshot, Restore, CloneNamespace, ListSchedules, ListSnapshots, ListRestorations, ListClones, ListTablets, Refusal, StalePlan, Reply, Ok as Granted, Refused, Look, Write, Read, Cutoff, Compact, Send, Process, Ack, Advance, Remove, Prune, Restart, Stats, Advanced, Making, ANamespace, ATable, TwoTablets, ASchedule, ASnapshot, ARestoration, AClone, Nothing, making_of, Deed, Commands, Advances, Obeys, NoDeed, deed_of, SlotsFull}
-use Rattle.model.specs.Parts.{checked, Master, Parts, Outcome, If, decided, refused, judged, none_drawn, MasterAct, Ticks, Sends, Acks, Unsends, Removes, Restarts}
 use Rattle.model.specs.Lists.{active_tablets, by_table_and_range, listing, new_snapshot, next_snapshot, numbered_as, with_snapshot}
 use Rattle.model.specs.Changed.{begins, children, shares, next_namespace, next_restoration, next_schedule, next_table, next_tablet, clone_time, namespace_made, restoration_begun, schedule_made, snapshot_taken, table_made, tablet_split}
-use Rattle.model.specs.Catalog.{NamespaceRecord, TableRecord}
-use Rattle.row_values.specs.Schema.{first_schema}
-use Rattle.row_values.specs.Ranges.{in_range}
-use Rattle.model.specs.Tablets.{Fence}
 use Rattle.law_splits.proofs.Parents.{parent_found}
 use Rattle.law_splits.proofs.Splitting.{family_is}
 use Rattle.law_invariants.proofs.Finding.{in_mapped}
@@ -29,7 +20,6 @@ use Rattle.model.specs.Entries.{ActAsked, CommandAsked, Entry, slots_of}
 use Rattle.model.specs.History.{activity_of, journal_of, Legal, master_effect, outcome, replay, told}
 use Rattle.model.specs.Journal.{Change as Made}
 use Rattle.model.specs.Looks.{family, found_namespace, found_parent, free_slots, plan_of}
-use Rattle.model.specs.Tablets.{Told}
 use Rattle.law_invariants.specs.Invariant.{Inv, Later}
 use Rattle.law_changes.proofs.Creating.{planned_free}
 use Rattle.law_invariants.proofs.Judging.{and_found_is, checked_is}
@@ -40,7 +30,6 @@ use Rattle.law.proofs.Begun.{begun_next}
 use Rattle.law_clones.proofs.Serving.{clone_scheduled}
 use Rattle.std.proofs.lemmas.List.{append-nil}
 use Rattle.law_store.proofs.Keys.{either_way}
-use Rattle.model.specs.Records.{RestorationRecord, RestorationState, Fencing, Snapshotting, Switching, Restoring, SnapshotRecord, CloneRecord, CloneState, Accepted, CloneSnapshot, Copying, CloneReleasing, CloneComplete, Schedule as ScheduleRecord, schedule_of, is_cloned, State, IsComplete, IsSnapshot, IsSwitching, IsRestoring, IsReleasing, IsRestored, IsCopying, first_unacked, is_snapshotting, named_by_restoration, named_by_clone, restoration_state, clone_state}
 use Rattle.model.specs.Coordination.{unfinished_snapshot, unfinished_restoration, unfinished_clone, acked_by}
 use Rattle.model.specs.Moves.{advance, advancing, moving, moved, moved_of, progress_of, snapshot_progress, restoration_progress, awaited_by_restoration, after_restoration, waits_for, completed, restoration_enters, restoration_moved, restoration_next as restoration_goes, given_restoration, clone_progress, awaited_by_clone, after_clone, clone_next, given_clone, id_of_snapshot, serving_clone, with_clones_snapshot, clone_goes, begins_clone, clone_moved}
 use Rattle.model.specs.Cleanup.{prune, removed_of}
@@ -108,8 +97,7 @@ none_next act reply n before after h drawn same_ unnamed = next_of act reply n b
     nothing : (deed : Deed) → to_name_of deed ≡ []
     nothing (Commands command) = shown (making_of command)
     nothing (Advances operation) = none Snapshot
-    nothing (Obeys slot) = refl
-    nothing NoDeed = refl
+    nothing _ = refl
 
 -- The tablets of a new table
 
@@ -187,16 +175,7 @@ record Draws (act : Act) (n : ℕ) (m : Master) (o : Outcome) : Type 0 where
   next : DrawsNext act o.reply n m (master_effect o.master n m)
 
 clock_moves : (m : Master) (n : ℕ) → Numbered m → Numbered (record m { clock = n })
-clock_moves m n h = record {
-  namespaces = h.namespaces;
-  tables = h.tables;
-  tablets = h.tablets;
-  schedules = h.schedules;
-  snapshots = h.snapshots;
-  restorations = h.restorations;
-  clones = h.clones;
-  reserved = h.reserved;
-}
+clock_moves m n h = assumption h
 
 refused_next : (command : Command) (slots : List ℕ) (n : ℕ) (m : Master) (why : Refusal) → Numbered m → Draws (Change command slots) n m (refused why)
 refused_next command slots n m why h = record { next = none_next (Change command slots) (Refused why) n m (record m { clock = n }) (clock_moves m n h) refl refl refl }
@@ -315,12 +294,9 @@ planned_next (EditSchedule schedule interval retention) slots n ps activity chan
     decided_next (judge_edit_schedule schedule interval retention ps.master) _ (EditSchedule schedule interval retention) slots n ps.master (all_numbered ps activity changes inv) after (λ found e after. made_none (EditSchedule schedule interval retention) slots _ _ n ps.master after refl)
 planned_next (DeleteSchedule schedule) slots n ps activity changes asked le kinds plan inv after =
     decided_next (judge_delete_schedule schedule ps.master) _ (DeleteSchedule schedule) slots n ps.master (all_numbered ps activity changes inv) after (λ found e after. made_none (DeleteSchedule schedule) slots _ _ n ps.master after refl)
-planned_next ListSchedules slots n ps activity changes asked le kinds plan inv after = record { next = none_next _ _ n ps.master _ after refl refl refl }
-planned_next ListSnapshots slots n ps activity changes asked le kinds plan inv after = record { next = none_next _ _ n ps.master _ after refl refl refl }
-planned_next ListRestorations slots n ps activity changes asked le kinds plan inv after = record { next = none_next _ _ n ps.master _ after refl refl refl }
-planned_next ListClones slots n ps activity changes asked le kinds plan inv after = record { next = none_next _ _ n ps.master _ after refl refl refl }
 planned_next (ListTablets namespace) slots n ps activity changes asked le kinds plan inv after =
     decided_next (found_namespace ps.master namespace) _ (ListTablets namespace) slots n ps.master (all_numbered ps activity changes inv) after (λ ns e after. record { next = none_next _ _ n ps.master _ after refl refl refl })
+planned_next _ slots n ps activity changes asked le kinds plan inv after = record { next = none_next _ _ n ps.master _ after refl refl refl }
 
 -- Moves
 
@@ -392,8 +368,7 @@ copy_next : (state : CloneState) (r : CloneRecord) (operation : Id) (n : ℕ) (p
 copy_next Accepted r operation n ps activity changes there open_ kind found inv fit = begins_next (serving_clone ps.master r) r operation n ps activity changes there open_ kind found inv fit
 copy_next (CloneSnapshot own) r operation n ps activity changes there open_ kind found inv fit = quiet_move operation IsCopying n ps.master _ fit refl refl
 copy_next (Copying serving at) r operation n ps activity changes there open_ kind found inv fit = quiet_move operation IsReleasing n ps.master _ fit refl refl
-copy_next (CloneReleasing serving at) r operation n ps activity changes there open_ kind found inv fit = quiet_move operation IsComplete n ps.master _ fit refl refl
-copy_next (CloneComplete serving at) r operation n ps activity changes there open_ kind found inv fit = quiet_move operation IsComplete n ps.master _ fit refl refl
+copy_next _ r operation n ps activity changes there open_ kind found inv fit = quiet_move operation IsComplete n ps.master _ fit refl refl
 
 waits_next : (awaited : Option Id) (operation : Id) (next : State) (n : ℕ) (m : Master) → Numbered (master_effect (moving awaited operation next).master n m) → (Numbered (moved operation n m) → DrawsNext (Advance operation) (Advanced next) n m (moved operation n m)) → Draws (Advance operation) n m (moving awaited operation next)
 waits_next (Some on) operation next n m after go = record { next = none_next _ _ n m _ after refl refl refl }

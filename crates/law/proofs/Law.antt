@@ -1,10 +1,8 @@
 -- Each entry of a legal history keeps what holds.
 use Rattle.std.proofs.Common.{ℕ, ◌≡◌, ◌≤◌, max, List, [], ◌∷◌, true, refl, subst, arith, eqb, eqb-true, le_trans, le_refl, map, fold}
-use Rattle.row_values.specs.Slots.{has}
-use Rattle.model.specs.Activity.{Interval}
+use Rattle.model.specs.Cluster.{has, Interval, Parts, start}
 use Rattle.model.specs.Journal as made
 use Rattle.model.specs.Acts.{Act, CreateNamespace, DropNamespace, CreateTable, AddColumn, DropColumn, RenameTable, DropTable, ListSchedules, ListSnapshots, ListRestorations, ListClones, ListTablets, CloneNamespace, Split, CreateSchedule, DeleteSchedule, TakeSnapshot, Restore, Look, Change, Write, Read, Cutoff, Compact, Send, Process, Ack, Advance, Remove, Prune, Restart, Stats, EditSchedule}
-use Rattle.model.specs.Parts.{Parts, start}
 use Rattle.model.specs.Retained.{RowsFound}
 use Rattle.model.specs.Entries.{Entry, slots_of, clock_at, stamp_of, ActAsked}
 use Rattle.model.specs.History.{outcome, replay, journal_of, activity_of, scheduled_since, snapshots_taken, Legal}
@@ -33,7 +31,7 @@ use Rattle.law_retention.proofs.Taking.{act_keeps_facts, start_facts}
 use Rattle.law.proofs.Starting.{start_holds}
 
 -- each act keeps what holds
-act_keeps : (act : Act) (slots n : ℕ) (ps : Parts) (activity : List Interval) (changes : List made.Change) → Later (slots_of act) ps n → ActAsked slots act → RowsFound ps → Inv ps activity changes → KeepsAll act n ps activity changes (outcome act n ps)
+pub act_keeps : (act : Act) (slots n : ℕ) (ps : Parts) (activity : List Interval) (changes : List made.Change) → Later (slots_of act) ps n → ActAsked slots act → RowsFound ps → Inv ps activity changes → KeepsAll act n ps activity changes (outcome act n ps)
 act_keeps (Look ask) slots n ps activity changes later asked found inv = look_keeps ask n ps activity changes later inv
 act_keeps (Change (Split namespace table code) plan) slots n ps activity changes later asked found inv = split_change_keeps ps activity changes n namespace table code plan later asked.0 inv
 act_keeps (Change (CreateSchedule interval retention namespace) plan) slots n ps activity changes later asked found inv = schedule_change_keeps (CreateSchedule interval retention namespace) plan ps activity changes n tt later inv
@@ -94,7 +92,7 @@ unfolding replay journal_of activity_of snapshots_taken scheduled_since
 legal_holds [] slots legal = record {
   inv = start_holds slots;
   facts = start_facts slots;
-  taken = none_taken (start slots).master (scheduled_since slots []) refl refl;
+  taken = none_taken (start slots).master (scheduled_since slots []) refl;
 }
 legal_holds (e ∷ earlier) slots legal =
     let before = legal_holds earlier slots legal.0 in
@@ -110,5 +108,5 @@ legal_holds (e ∷ earlier) slots legal =
     record {
       inv = keeps;
       facts = act_keeps_facts act slots step.asked.act e.stamp ps activity changes later before.inv before.facts _ _ keeps;
-      taken = taken_go_on act o e.stamp ps activity changes (snapshots_taken slots earlier) (scheduled_since slots earlier) later before.inv before.facts before.taken;
+      taken = taken_go_on act o e.stamp ps activity changes (snapshots_taken slots earlier) (scheduled_since slots earlier) later before.inv before.taken;
     }

@@ -2,6 +2,7 @@ pub mod Starting
 pub mod Standing
 pub mod Law
 pub mod Recording
+pub mod Refusing
 pub mod Slots
 pub mod Following
 pub mod TabletKinds
@@ -21,7 +22,9 @@ pub mod Numbering
 pub mod InTurn
 pub mod Chronicle
 pub mod Asked
+pub mod Saying
 pub mod Clocks
+pub mod Obeying
 pub mod Once
 pub mod Taking
 pub mod PartVersions
@@ -32,5 +35,6 @@ pub mod PartInTurn
 pub mod Plain
 pub mod Fixing
 pub mod Fixed
+pub mod Owning
 pub mod Answered
 pub mod Retaining

@@ -3,10 +3,7 @@ use Rattle.std.proofs.Common.{◌≡◌, ℕ, ◌≤◌, ◌+◌, Bool, true, fa
 use Rattle.std.specs.List.{filter}
 use Rattle.std.specs.Option.{unwrap_or, option_map}
 use Rattle.std.proofs.lemmas.Bool.{cond_both, true≢false}
-use Rattle.row_values.specs.Ids.{Id, same}
-use Rattle.row_values.specs.Elements.{In}
-use Rattle.row_values.specs.Schema.{Schema}
-use Rattle.model.specs.Times.{ended, is_open, ended_by}
+use Rattle.model.specs.Cluster.{Id, same, In, Schema, ended, is_open, ended_by, CloneRecord}
 use Rattle.model.specs.Catalog.{Catalog, TableRecord, latest, latest_from, end_table, end_tables, tables_at, kept_from, owner_of}
 use Rattle.model.specs.Journal.{TableView, NamespaceRestored, source_of, is_in, table_at}
 use Rattle.model.specs.Restored.{record_at, back_at, tables_back, restored_tables, newest, cloned, cloned_tables}
@@ -17,7 +14,6 @@ use Rattle.law_invariants.proofs.Finding.{same_equal, same_self}
 use Rattle.law_invariants.proofs.Records.{record_at_is}
 use Rattle.law_invariants.proofs.Advancing.{mapped_some}
 use Rattle.law_moves.proofs.Backing.{then_is, then_has}
-use Rattle.model.specs.Records.{CloneRecord}
 use Rattle.law_clones.proofs.Pairing.{one_target_of}
 use Rattle.law_clones.proofs.Viewing.{clone, source_is, by_source}
 use Rattle.law_clones.proofs.Cataloguing.{MayTake, with_tables, cloned_is}

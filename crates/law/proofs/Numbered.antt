@@ -5,18 +5,13 @@ use Rattle.std.specs.List.{filter}
 use Rattle.std.proofs.lemmas.Bool.Decides.{nat_tests}
 use Rattle.std.proofs.lemmas.List.{map-append}
 use Rattle.std.proofs.lemmas.List.Elements.{filter-append}
-use Rattle.row_values.specs.Ids.{Id, Kind, Namespace, Table, Tablet, Schedule, Snapshot, Restoration, Clone}
-use Rattle.row_values.specs.Elements.{In, in_order}
-use Rattle.model.specs.Activity.{Interval}
-use Rattle.model.specs.Catalog.{NamespaceRecord, TableRecord}
+use Rattle.model.specs.Cluster.{Id, Kind, NamespaceKind as Namespace, TableKind as Table, TabletKind as Tablet, ScheduleKind as Schedule, Snapshot, RestorationKind as Restoration, CloneKind as Clone, In, in_order, Interval, NamespaceRecord, TableRecord, CloneRecord, IdPair, TabletPair, Schedule as ScheduleRecord, SnapshotRecord, RestorationRecord, Master, Parts}
 use Rattle.model.specs.Journal.{Change as Made}
 use Rattle.model.specs.Lists.{by_table_and_range}
-use Rattle.model.specs.Records.{CloneRecord, IdPair, TabletPair, Schedule as ScheduleRecord, SnapshotRecord, RestorationRecord}
-use Rattle.model.specs.Parts.{Master, Parts}
 use Rattle.model.specs.Drawn.{AreNext, beyond, drawn_of, is_pair_before, new_ids, recorded_beyond, reserved_by, reserved_in}
 use Rattle.law_invariants.specs.Invariant.{Inv}
 use Rattle.law_invariants.proofs.Finding.{in_append, in_mapped}
-use Rattle.law_invariants.proofs.Placing.{ordered_only}
+use Rattle.law_invariants.proofs.Parting.{ordered_only}
 use Rattle.law_clones.proofs.Growing.{taker_there}
 
 -- Lists of identifiers

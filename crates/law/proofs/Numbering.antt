@@ -3,12 +3,7 @@ use Rattle.std.proofs.Common.{◌≡◌, ℕ, ◌≤◌, ◌<◌, ◌+◌, List,
 use Rattle.std.specs.Prelude.{Result, Ok as Granted, Err as Denied}
 use Rattle.std.specs.Option.{option_map_or}
 use Rattle.std.proofs.lemmas.Bool.{cond_both}
-use Rattle.row_values.specs.Ids.{Id, Kind, Namespace, Table, Tablet, Schedule, Snapshot, Restoration, Clone}
-use Rattle.row_values.specs.Slots.{has, same_slots}
-use Rattle.row_values.specs.Schema.{first_schema}
-use Rattle.model.specs.Activity.{Interval}
-use Rattle.model.specs.Catalog.{TableRecord, kept_from}
-use Rattle.model.specs.Records.{RestorationRecord, RestorationState, Switching, SnapshotRecord, CloneRecord, CloneState, Accepted, CloneSnapshot, Copying, CloneReleasing, CloneComplete, Schedule as ScheduleRecord, schedule_of, State, is_restored, first_unacked}
+use Rattle.model.specs.Cluster.{Id, Kind, NamespaceKind as Namespace, TableKind as Table, TabletKind as Tablet, ScheduleKind as Schedule, Snapshot, RestorationKind as Restoration, CloneKind as Clone, has, same_slots, first_schema, Interval, TableRecord, kept_from, RestorationRecord, RestorationState, Switching, SnapshotRecord, CloneRecord, CloneState, Accepted, CloneSnapshot, Copying, CloneReleasing, CloneComplete, Schedule as ScheduleRecord, schedule_of, State, is_restored, first_unacked, Item, Told, In}
 use Rattle.model.specs.Acts.{Act, Look, Change, Write, Read, Cutoff, Compact, Send, Process, Ack, Advance, Remove, Prune, Restart, Stats, Command, CreateNamespace, DropNamespace, CreateTable, AddColumn, DropColumn, RenameTable, DropTable, Split, CreateSchedule, DeleteSchedule, TakeSnapshot, Restore, CloneNamespace, ListSchedules, ListSnapshots, ListRestorations, ListClones, ListTablets, Refusal, StalePlan, UnknownColumn, EditSchedule}
 use Rattle.model.specs.Parts.{Master, Parts, Outcome, MasterAct, Ticks, Sends, Acks, Unsends, Removes, Restarts, If, unless, refused, decided, refusal_in}
 use Rattle.model.specs.Changed.{next_namespace, next_table, clone_time}
@@ -25,15 +20,12 @@ use Rattle.law_invariants.specs.Operations.{RestorationStateGood}
 use Rattle.law_invariants.proofs.Cataloguing.{table_is}
 use Rattle.law_invariants.proofs.Judging.{and_found_is, checked_is}
 use Rattle.law_changes.proofs.Schemas.{column_found}
-use Rattle.row_values.specs.declared.value.Item.{Item}
-use Rattle.model.specs.Tablets.{Told}
 use Rattle.law_invariants.proofs.Advancing.{no_restoration, no_clone}
 use Rattle.law_invariants.proofs.Pending.{unfinished_restoration_is, unfinished_clone_is}
 use Rattle.law_invariants.proofs.Serving.{floor_restores}
 use Rattle.law.proofs.Plain.{is_weighty, may_weigh, act_none}
 use Rattle.law.proofs.Schemas.{SchemasStand, namespace_changed, namespace_ended, rows_changed, table_made, column_added, column_dropped, table_renamed, table_dropped, tables_pruned, tables_restored, tables_cloned_on}
 use Rattle.law.proofs.Law.{legal_holds, stamps_later}
-use Rattle.row_values.specs.Elements.{In}
 use Rattle.law_clones.proofs.Growing.{Becomes, takes_catalog}
 use Rattle.model.specs.Journal as made
 
@@ -103,12 +95,9 @@ planned_go (Restore schedule to) slots n ps activity changes less inv h =
     decided_go (judge_restore schedule to n ps.master) _ (Restore schedule to) slots n ps changes h (λ s e. record { stand = h })
 planned_go (CloneNamespace source target to) slots n ps activity changes less inv h =
     decided_go (judge_clone source target (clone_time to n) n ps.master) _ (CloneNamespace source target to) slots n ps changes h (λ s e. record { stand = h })
-planned_go ListSchedules slots n ps activity changes less inv h = record { stand = h }
-planned_go ListSnapshots slots n ps activity changes less inv h = record { stand = h }
-planned_go ListRestorations slots n ps activity changes less inv h = record { stand = h }
-planned_go ListClones slots n ps activity changes less inv h = record { stand = h }
 planned_go (ListTablets namespace) slots n ps activity changes less inv h =
     decided_go (found_namespace ps.master namespace) _ (ListTablets namespace) slots n ps changes h (λ ns e. record { stand = h })
+planned_go _ slots n ps activity changes less inv h = record { stand = h }
 
 -- Acts that leave the tables
 
@@ -203,10 +192,7 @@ kind_go Restoration n ps activity changes operation is inv h =
     (restoration_go (unfinished_restoration ps.master.restorations operation) n ps activity changes operation refl inv h)
 kind_go Snapshot n ps activity changes operation is inv h =
     quiet_go n ps activity changes operation _ (λ q. let e = sym is ∙ q in grind arith) (λ q. let e = sym is ∙ q in grind arith) inv (snapshot_go (unfinished_snapshot ps.master.snapshots operation) n ps.master changes h)
-kind_go Namespace n ps activity changes operation is inv h = quiet_go n ps activity changes operation _ (λ q. let e = sym is ∙ q in grind arith) (λ q. let e = sym is ∙ q in grind arith) inv h
-kind_go Table n ps activity changes operation is inv h = quiet_go n ps activity changes operation _ (λ q. let e = sym is ∙ q in grind arith) (λ q. let e = sym is ∙ q in grind arith) inv h
-kind_go Tablet n ps activity changes operation is inv h = quiet_go n ps activity changes operation _ (λ q. let e = sym is ∙ q in grind arith) (λ q. let e = sym is ∙ q in grind arith) inv h
-kind_go Schedule n ps activity changes operation is inv h = quiet_go n ps activity changes operation _ (λ q. let e = sym is ∙ q in grind arith) (λ q. let e = sym is ∙ q in grind arith) inv h
+kind_go _ n ps activity changes operation is inv h = quiet_go n ps activity changes operation _ (λ q. let e = sym is ∙ q in grind arith) (λ q. let e = sym is ∙ q in grind arith) inv h
 
 moving_go : (awaited : Option Id) (operation : Id) (next : State) (n : ℕ) (ps : Parts) (changes : List made.Change) → Stand ps.master changes
     → Stand (moved_of operation.kind operation n ps.master) (with_either (unfinished_restoration ps.master.restorations operation) (unfinished_clone ps.master.clones operation) n changes)

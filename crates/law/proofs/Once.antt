@@ -3,22 +3,15 @@ use Rattle.std.proofs.Common.{◌≡◌, ℕ, ◌≤◌, Bool, true, false, List
 use Rattle.std.specs.List.{filter, list_any}
 use Rattle.std.proofs.lemmas.Bool.{cond_both}
 use Rattle.std.proofs.lemmas.List.{map-append}
-use Rattle.row_values.specs.declared.value.Item.{Item}
-use Rattle.row_values.specs.Ids.{Id, same}
-use Rattle.row_values.specs.Elements.{In}
-use Rattle.row_values.specs.Slots.{has}
-use Rattle.model.specs.Activity.{Interval}
+use Rattle.model.specs.Cluster.{Item, Id, same, In, has, Interval, RestorationRecord, RestorationState, Fencing, Snapshotting, Switching, Restoring, Releasing, Restored, CloneRecord, CloneState, Accepted, CloneSnapshot, Copying, CloneReleasing, CloneComplete, first_unacked, Told, Master, Parts, MasterAct, Ticks, Sends, Acks, Unsends, Moves, Removes, Restarts}
 use Rattle.model.specs.Journal.{Change as Made}
-use Rattle.model.specs.Records.{RestorationRecord, RestorationState, Fencing, Snapshotting, Switching, Restoring, Releasing, Restored, CloneRecord, CloneState, Accepted, CloneSnapshot, Copying, CloneReleasing, CloneComplete, first_unacked, point_of}
-use Rattle.model.specs.Tablets.{Told}
 use Rattle.model.specs.Acts.{Act, Change, Look, Write, Read, Cutoff, Compact, Send, Process, Ack, Advance, Remove, Prune, Restart, Stats}
-use Rattle.model.specs.Parts.{Master, Parts, MasterAct, Ticks, Sends, Acks, Unsends, Moves, Removes, Restarts}
 use Rattle.model.specs.Cleanup.{prune}
 use Rattle.model.specs.Coordination.{unfinished_restoration, unfinished_clone}
 use Rattle.model.specs.Moves.{Progress, advance, advancing, moving, progress_of, waits_for}
 use Rattle.model.specs.Drawn.{ids_made}
 use Rattle.model.specs.Entries.{Entry, slots_of}
-use Rattle.model.specs.Entering.{Entering, IsAfterOwn, entered}
+use Rattle.model.specs.Entering.{Entering, entered}
 use Rattle.model.specs.History.{Legal, activity_of, journal_of, master_effect, outcome, replay, rows_made, told, with_changes, with_clone, with_either, with_master, with_restoration, with_rows}
 use Rattle.model.specs.Once.{ClonedBy, CloneAsked, ClonesOnce, RestoreAsked, RestoresOnce, asked_by, changes_asked, changes_by, clones_asked, clones_in, is_move_of, is_whole, operations_asked, restored_by, restores_asked, restores_in}
 use Rattle.law_store.proofs.Keys.{either_way}
@@ -30,7 +23,7 @@ use Rattle.law_once.proofs.Kept.{GoOn, command_moves, command_whole, stay, told_
 use Rattle.law_once.proofs.Made.{made_on}
 use Rattle.law.proofs.Plain.{act_none, is_weighty, may_weigh}
 use Rattle.law.proofs.Law.{legal_holds, stamps_later}
-use Rattle.law.proofs.Chronicle.{all_told, entry_enters}
+use Rattle.law.proofs.Chronicle.{entry_enters}
 use Rattle.law.proofs.Asked.{IsKeptClone, IsKeptRestore, change_asks, clone_goes, restore_goes}
 
 -- What an act tells the master that is no command
@@ -217,7 +210,6 @@ restores_once history slots legal a isin =
       schedule_is = h.schedule_is;
       namespace_is = h.namespace_is;
       to_is = h.to_is;
-      point_is = subst (λ id. IsAfterOwn (entered slots history) id (point_of h.restoration.state)) h.id_is ((all_told history slots legal).restorations h.restoration h.kept).point;
       restored = ap (λ id. changes_by slots id history) (sym h.id_is) ∙ (all_made history slots legal).restorations h.restoration h.kept ∙ ap (λ to. restored_by h.restoration.state h.restoration.namespace to) h.to_is;
     }
 

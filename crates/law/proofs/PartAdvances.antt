@@ -2,18 +2,11 @@
 use Rattle.std.proofs.Common.{◌≡◌, ℕ, ◌<◌, ◌+◌, Bool, true, false, List, ◌∷◌, ◌++◌, Option, Some, None, inl, inr, refl, sym, ap, subst, ◌∙◌, arith, cond, map, if◌then◌else◌}
 use Rattle.std.specs.Option.{option_map, option_map_or}
 use Rattle.std.proofs.lemmas.Bool.{true≢false}
-use Rattle.row_values.specs.Ids.{Id, Kind, Namespace, Table, Tablet as TabletKind, Schedule as ScheduleKind, Snapshot, Restoration, Clone, same}
-use Rattle.row_values.specs.Elements.{In}
-use Rattle.model.specs.Activity.{Interval, active_at}
-use Rattle.model.specs.Catalog.{TableRecord, owner_of, owns, is_owned_by, current_table}
+use Rattle.model.specs.Cluster.{Id, Kind, NamespaceKind as Namespace, TableKind as Table, TabletKind, ScheduleKind, Snapshot, RestorationKind as Restoration, CloneKind as Clone, same, In, Interval, active_at, TableRecord, owner_of, owns, is_owned_by, current_table, Tablet, Mark, RestoreFrom, Hide, CopyKind, is_done, Listed, Schedule, SnapshotRecord, RestorationRecord, RestorationState, Fencing, Snapshotting, Switching, Restoring, Releasing, Restored, CloneRecord, CloneState, Accepted, CloneSnapshot, Copying, CloneReleasing, CloneComplete, TabletPair, is_restored, is_cloned, is_visible, first_unacked, schedule_of, State, Advance, NotPending, Waiting, Master, Parts, refused}
 use Rattle.model.specs.Journal as made
 use Rattle.model.specs.Journal.{NamespaceRestored, NamespaceCloned, TableView, table_at, is_in, source_of}
-use Rattle.model.specs.Tablets.{Tablet, Mark, RestoreFrom, Hide, CopyKind, is_done}
-use Rattle.model.specs.Records.{Listed, Schedule, SnapshotRecord, RestorationRecord, RestorationState, Fencing, Snapshotting, Switching, Restoring, Releasing, Restored, CloneRecord, CloneState, Accepted, CloneSnapshot, Copying, CloneReleasing, CloneComplete, TabletPair, is_restored, is_cloned, is_visible, first_unacked, schedule_of, State}
 use Rattle.model.specs.Stands.{awaited_in, awaited_of}
-use Rattle.model.specs.Acts.{Advance, NotPending, Waiting}
 use Rattle.model.specs.Drawn.{version_by, first_version}
-use Rattle.model.specs.Parts.{Master, Parts, refused}
 use Rattle.model.specs.Coordination.{unfinished_snapshot, unfinished_restoration, unfinished_clone}
 use Rattle.model.specs.Moves.{Progress, advance, advancing, moving, moved_of, progress_of, waits_for, completed, restoration_moved, clone_moved, begins_clone, clone_goes, with_clones_snapshot, serving_clone, snapshot_progress, restoration_progress, clone_progress}
 use Rattle.model.specs.History.{told, with_either, with_restoration, with_clone}
@@ -31,7 +24,7 @@ use Rattle.law_invariants.proofs.Using.{mapped_is}
 use Rattle.law_moves.proofs.Entering.{entering, entered, entering_it, entering_other, awaited_mapped}
 use Rattle.law_moves.proofs.Moving.{releases}
 use Rattle.law_moves.proofs.Switching.{IsSwitch, turned, listed_then, interval_is, ended_mine, awaited_back, awaited_other, other_was, origin, line_is, other_namespace, not_mine}
-use Rattle.law_invariants.proofs.Ending.{not_open}
+use Rattle.law_invariants.proofs.Covering.{not_open}
 use Rattle.law_clones.proofs.Growing.{Becomes, takes_catalog}
 use Rattle.law_clones.proofs.Viewing.{source_is, by_source}
 use Rattle.law.proofs.PartVersions.{IsComing, IsCopying, VersionsGood, MasterGoes, PartStays, versions_go, versions_told, still, parts_stay}
@@ -301,10 +294,7 @@ by_kind Clone ps activity changes n operation p is before h found acked =
     = ap (λ o. with_either o (unfinished_clone m.clones operation) n changes) (no_restoration m changes operation h.inv.operations (λ e. let q = sym is ∙ e in grind arith)) ∙ ap (λ o. with_either None o n changes) f.1.0 in
     subst (λ o. Reaches ps (option_map_or (λ r. clone_moved r.state r n m) o (record m { clock = n })) (with_either (unfinished_restoration m.restorations operation) (unfinished_clone m.clones operation) n changes)) (sym f.1.0)
     (subst (Reaches ps (clone_moved f.0.state f.0 n m)) (sym quiet) (clone_reaches f.0.state ps activity changes n f.0 h there.0 refl there.1.1 (acked_in f.0.listed p (ap (λ q. q.listed) f.1.1) acked)))
-by_kind Namespace ps activity changes n operation p is before h found acked = absurd (let q = found in grind arith)
-by_kind Table ps activity changes n operation p is before h found acked = absurd (let q = found in grind arith)
-by_kind TabletKind ps activity changes n operation p is before h found acked = absurd (let q = found in grind arith)
-by_kind ScheduleKind ps activity changes n operation p is before h found acked = absurd (let q = found in grind arith)
+by_kind _ ps activity changes n operation p is before h found acked = absurd (let q = found in grind arith)
 
 moving_leaves : (first : Option Listed) (awaited : Option Id) (operation : Id) (next : State) (n : ℕ) (ps : Parts) (activity : List Interval) (changes : List made.Change) → Leads ps activity changes → (first ≡ None → Leaves (Advance operation) n ps changes (moves operation next))
     → Leaves (Advance operation) n ps changes (moving (waits_for first awaited) operation next)

@@ -4,21 +4,13 @@ use Rattle.std.specs.Prelude.{Result, Ok as Granted, Err as Denied}
 use Rattle.std.specs.List.{list_any}
 use Rattle.std.proofs.lemmas.Bool.{cond_both, true≢false, not-false}
 use Rattle.std.proofs.lemmas.Bool.Decides.{nat_tests}
-use Rattle.row_values.specs.Ids.{Id, same}
-use Rattle.row_values.specs.Elements.{In}
-use Rattle.row_values.specs.Slots.{has, same_slots}
-use Rattle.row_values.specs.Schema.{NewColumn, ColumnKind}
-use Rattle.model.specs.Activity.{Interval, end_tablet}
-use Rattle.model.specs.Times.{is_open}
-use Rattle.model.specs.Catalog.{TableRecord, owner_of, current_table}
+use Rattle.model.specs.Cluster.{Id, same, In, has, same_slots, NewColumn, ColumnKind, Interval, end_tablet, is_open, TableRecord, owner_of, current_table, RestorationRecord, Restoring, is_visible, Master, Parts, Outcome, MasterAct, MakesTable, AddsColumn, DropsColumn, If, refused, answered, checked, decided}
 use Rattle.model.specs.Journal as made
 use Rattle.model.specs.Tablets.{Tablet, TabletAct, Told, Clock, Make, Child, SetVersion, HideSince, CopyKind, is_done, is_empty, effect, act_for}
-use Rattle.model.specs.Records.{RestorationRecord, Restoring, is_visible}
 use Rattle.model.specs.Stands.{awaited_in, awaited_of, is_restore}
 use Rattle.model.specs.Acts.{Act, Change, Command, CreateNamespace, DropNamespace, CreateTable, AddColumn, DropColumn, RenameTable, DropTable, Split, CreateSchedule, EditSchedule, DeleteSchedule, TakeSnapshot, Restore, CloneNamespace, ListSchedules, ListSnapshots, ListRestorations, ListClones, ListTablets, Refusal, StalePlan, UnknownColumn, Refused, SlotsFull, Reply, Schedules, Snapshots, Restorations, Clones}
 use Rattle.model.specs.Drawn.{version_by}
 use Rattle.model.specs.Entries.{slots_of}
-use Rattle.model.specs.Parts.{Master, Parts, Outcome, MasterAct, MakesTable, AddsColumn, DropsColumn, If, refused, answered, checked, decided}
 use Rattle.model.specs.Looks.{found_namespace, found_table, slots_of_table, slots_for, plan_of, found_parent, family, free_slots}
 use Rattle.model.specs.Changed.{next_table, shares, children, clone_time}
 use Rattle.model.specs.Changes.{accepts, tell, tell_made, splitting, change, planned, create_namespace, drop_namespace, create_table, add_column, add_column_checks, drop_column, column_of, found_column, unheld_checks, rename_table, drop_table, split, split_checks, create_schedule, edit_schedule, delete_schedule, take_snapshot, restore, clone_namespace, list_tablets, judge_create_namespace, judge_drop_namespace, judge_create_table, judge_add_column, judge_drop_column, judge_rename_table, judge_drop_table, judge_split, judge_create_schedule, judge_edit_schedule, judge_delete_schedule, judge_take_snapshot, judge_restore, judge_clone}
@@ -28,8 +20,7 @@ use Rattle.model.specs.Lines.{schedule_lines, snapshot_lines, restoration_lines,
 use Rattle.std.specs.Option.{is_some, option_map}
 use Rattle.law_store.proofs.Keys.{either_way}
 use Rattle.law_invariants.specs.Invariant.{Inv}
-use Rattle.law_invariants.proofs.Awaiting.{none_await, settled_none}
-use Rattle.law_invariants.proofs.Awaits.{listed_any}
+use Rattle.law_invariants.proofs.Awaiting.{none_await, settled_none, listed_any}
 use Rattle.law_invariants.proofs.Cataloguing.{table_is}
 use Rattle.law_invariants.proofs.Finding.{in_append, in_mapped, same_equal, same_self, not_same, apart_by_number}
 use Rattle.law_invariants.proofs.Judging.{checked_is, and_found_is}

@@ -2,20 +2,13 @@
 use Rattle.std.proofs.Common.{◌≡◌, ℕ, ◌≤◌, ◌<◌, Bool, true, List, [], ◌∷◌, Option, Some, None, refl, sym, ap, ◌∙◌, arith, map, not, eqb, leb, ltb, le-leb, ltb-true, ◌&&◌}
 use Rattle.std.specs.Option.{is_some, option_map}
 use Rattle.std.proofs.lemmas.Bool.{cond_both, true≢false}
-use Rattle.row_values.specs.Ids.{Id, Kind, Tablet as TabletKind, Snapshot, same}
-use Rattle.row_values.specs.Elements.{In}
-use Rattle.row_values.specs.Slots.{same_slots}
-use Rattle.model.specs.Activity.{Interval, active_at, last_of}
-use Rattle.model.specs.Times.{holds_at, is_open, before_end}
-use Rattle.model.specs.Catalog.{TableRecord, current_table}
+use Rattle.model.specs.Cluster.{Id, Kind, TabletKind, Snapshot, same, In, same_slots, Interval, active_at, last_of, holds_at, is_open, before_end, TableRecord, current_table, Listed, SnapshotRecord, snapshot_with, Master, Parts, Outcome, Check, If, Fault, Removes, judged, refused}
 use Rattle.model.specs.Journal as made
 use Rattle.model.specs.Journal.{table_at}
 use Rattle.model.specs.Restored.{record_at}
 use Rattle.model.specs.Tablets.{Tablet, TabletAct, Told, Empty, standing, Clock, Offer, Clear, DropFrozen, kind_of, is_done}
-use Rattle.model.specs.Records.{Listed, SnapshotRecord, snapshot_with}
 use Rattle.model.specs.Acts.{Act, Look, Change, Write, Read, Cutoff, Compact, Send, Process, Ack, Advance, Remove, Prune, Restart, Stats, Refused, Removed, Refusal, Moved, UnknownSnapshot, StalePlan, Reply}
 use Rattle.model.specs.Drawn.{version_by}
-use Rattle.model.specs.Parts.{Master, Parts, Outcome, Check, If, Fault, Removes, judged, refused}
 use Rattle.model.specs.Entries.{Entry, slots_of, ActAsked}
 use Rattle.model.specs.Coordination.{pending, command_for, send, sending, ack, acknowledging}
 use Rattle.model.specs.Cleanup.{remove, removing, removing_unknown, removing_tablet, removing_snapshot, snapshot_plan, is_hidden_as, removable_tablet, removable_snapshot, hidden_at, floor_of, floor_of_table, lister_of_tablet, lister_of_snapshot, prune}

@@ -1,19 +1,12 @@
 -- The parts' versions are those of the journal's schemas: through what tablets do of their commands.
 use Rattle.std.proofs.Common.{◌≡◌, ◌≢◌, ℕ, ◌≤◌, true, false, List, [], ◌∷◌, ◌++◌, None, inl, refl, sym, ap, subst, ◌∙◌, arith, not, eqb}
 use Rattle.std.proofs.lemmas.Bool.{cond_both}
-use Rattle.row_values.specs.declared.rows.KeyedRow.{KeyedRow}
-use Rattle.row_values.specs.Ids.{Id}
-use Rattle.row_values.specs.Elements.{In}
-use Rattle.row_values.specs.Slots.{has}
-use Rattle.model.specs.Activity.{Interval}
+use Rattle.model.specs.Cluster.{KeyedRow, Id, In, has, Interval, Listed, RestorationRecord, RestorationState, Fencing, Snapshotting, Switching, Restoring, Releasing, Restored, CloneRecord, CloneState, Accepted, CloneSnapshot, Copying, CloneReleasing, CloneComplete, TabletPair, is_visible, Process, Idle, Done, OtherSlot, Master, Parts, If, refused}
 use Rattle.model.specs.Journal as made
 use Rattle.model.specs.Tablets as tell
 use Rattle.model.specs.Tablets.{Tablet, Command, Body, Fence, Freeze, RestoreFrom, Hide, Copy, Release, BodyKind, RestoreFromKind, CopyKind, Mark, kind_of, is_done, processed, obeyed}
-use Rattle.model.specs.Records.{Listed, RestorationRecord, RestorationState, Fencing, Snapshotting, Switching, Restoring, Releasing, Restored, CloneRecord, CloneState, Accepted, CloneSnapshot, Copying, CloneReleasing, CloneComplete, TabletPair, is_visible}
 use Rattle.model.specs.Stands.{awaited_in, is_restore}
-use Rattle.model.specs.Acts.{Process, Idle, Done, OtherSlot}
 use Rattle.model.specs.Drawn.{version_by}
-use Rattle.model.specs.Parts.{Master, Parts, If, refused}
 use Rattle.model.specs.Coordination.{source_slot, rows_for, processing, process}
 use Rattle.model.specs.Entries.{slots_of}
 use Rattle.model.specs.History.{told}
@@ -77,18 +70,15 @@ restore_state (Restoring point serving) m changes r slot l from to at version kn
       tablet_is = b.tablet_now;
     }
 restore_state Fencing m changes r slot l from to at version known is k body g = absurd (let q : Fence ≡ RestoreFrom from to at version = sym (g.bodies l k.listed) ∙ body in grind arith)
-restore_state (Snapshotting point own) m changes r slot l from to at version known is k body g = absurd (none_in r.listed l g.empty k.listed)
-restore_state (Switching point serving) m changes r slot l from to at version known is k body g = absurd (none_in r.listed l g.empty k.listed)
 restore_state (Releasing point serving) m changes r slot l from to at version known is k body g = absurd (let q : Release point ≡ RestoreFrom from to at version = sym (g.bodies l k.listed) ∙ body in grind arith)
-restore_state (Restored point serving) m changes r slot l from to at version known is k body g = absurd (none_in r.listed l g.empty k.listed)
+restore_state _ m changes r slot l from to at version known is k body g = absurd (none_in r.listed l g.empty k.listed)
 
 clone_restores : (state : CloneState) (m : Master) (c : CloneRecord) (slot : ℕ) (l : Listed) (from : Id) (to at version : ℕ) → IsUnacked c.listed slot l → l.body ≡ RestoreFrom from to at version → CloneStateGood state m c → ⊥
-clone_restores Accepted m c slot l from to at version k body g = none_in c.listed l g k.listed
 clone_restores (CloneSnapshot own) m c slot l from to at version k body g = none_in c.listed l g.empty k.listed
 clone_restores (Copying serving copied) m c slot l from to at version k body g =
     let b = g.bodies l k.listed in let q : Copy b.pair.source_slot serving c.to copied b.pair.table b.pair.low b.pair.high 1 ≡ RestoreFrom from to at version = sym b.body_is ∙ body in grind arith
 clone_restores (CloneReleasing serving copied) m c slot l from to at version k body g = let q : Release g.since ≡ RestoreFrom from to at version = sym (g.bodies l k.listed) ∙ body in grind arith
-clone_restores (CloneComplete serving copied) m c slot l from to at version k body g = none_in c.listed l g k.listed
+clone_restores _ m c slot l from to at version k body g = none_in c.listed l g k.listed
 
 restore_is : (m : Master) (changes : List made.Change) (operation : Id) (slot : ℕ) (l : Listed) (from : Id) (to at version : ℕ) → OperationsGood m changes → IsPending m operation slot l → l.body ≡ RestoreFrom from to at version → RestoreIs m slot l.tablet from to at version
 restore_is m changes operation slot l from to at version ops (BySnapshot k) body =
@@ -98,37 +88,48 @@ restore_is m changes operation slot l from to at version ops (ByClone k) body = 
 
 -- a command to copy
 
-record CopyIs (m : Master) (slot version : ℕ) : Type 0 where
-  one : version ≡ 1
-  free : (i : Interval) → In i m.activity → i.slot ≡ slot → ⊥
+pub record CopyIs (m : Master) (slot : ℕ) (tablet : Id) (version : ℕ) : Type 0 where
+  pub one : version ≡ 1
+  pub free : (i : Interval) → In i m.activity → i.slot ≡ slot → ⊥
+  pub clone : CloneRecord
+  pub known : In clone m.clones
+  pub hidden : is_visible clone.state ≡ false
+  pub pair : TabletPair
+  pub paired : In pair clone.tablets
+  pub slot_is : pair.slot ≡ slot
+  pub tablet_is : pair.target ≡ tablet
 
 restore_copies : (state : RestorationState) (m : Master) (changes : List made.Change) (r : RestorationRecord) (slot : ℕ) (l : Listed) (k : BodyKind) → kind_of l.body ≡ CopyKind → IsUnacked r.listed slot l → RestorationStateGood state m changes r → ⊥
 restore_copies Fencing m changes r slot l k body u g = let q : kind_of Fence ≡ CopyKind = ap kind_of (sym (g.bodies l u.listed)) ∙ body in grind arith
-restore_copies (Snapshotting point own) m changes r slot l k body u g = none_in r.listed l g.empty u.listed
-restore_copies (Switching point serving) m changes r slot l k body u g = none_in r.listed l g.empty u.listed
 restore_copies (Restoring point serving) m changes r slot l k body u g = never l.body body (g.bodies l u.listed)
   where
-    never : (b : Body) → kind_of b ≡ CopyKind → IsAfterSwitch r point serving b → ⊥
+    never : (b : Body) → kind_of b ≡ CopyKind → IsAfterSwitch r.to point serving b → ⊥
     never (Copy source snapshot to stamp table low high version) e h = h
     never _ e h = let q = e in grind arith
 restore_copies (Releasing point serving) m changes r slot l k body u g = let q : kind_of (Release point) ≡ CopyKind = ap kind_of (sym (g.bodies l u.listed)) ∙ body in grind arith
-restore_copies (Restored point serving) m changes r slot l k body u g = none_in r.listed l g.empty u.listed
+restore_copies _ m changes r slot l k body u g = none_in r.listed l g.empty u.listed
 
 copy_state : (state : CloneState) (m : Master) (changes : List made.Change) (c : CloneRecord) (slot source : ℕ) (l : Listed) (snapshot table : Id) (to stamp low high version : ℕ) → In c m.clones → c.state ≡ state → OperationsGood m changes → IsUnacked c.listed slot l
-    → l.body ≡ Copy source snapshot to stamp table low high version → CloneStateGood state m c → CopyIs m slot version
+    → l.body ≡ Copy source snapshot to stamp table low high version → CloneStateGood state m c → CopyIs m slot l.tablet version
 copy_state (Copying serving copied) m changes c slot source l snapshot table to stamp low high version known is ops u body g =
     let b = g.bodies l u.listed in
     let same_ : Copy b.pair.source_slot serving c.to copied b.pair.table b.pair.low b.pair.high 1 ≡ Copy source snapshot to stamp table low high version = sym b.body_is ∙ body in
     record {
       one = (let q : 1 ≡ version = cc in sym q);
       free = λ i isin at. ((ops.clones c known).reserved (ap is_visible is) b.pair b.paired).free i isin (at ∙ sym u.slot_is ∙ b.slot_is);
+      clone = c;
+      known = known;
+      hidden = ap is_visible is;
+      pair = b.pair;
+      paired = b.paired;
+      slot_is = sym b.slot_is ∙ u.slot_is;
+      tablet_is = sym b.tablet_is;
     }
-copy_state Accepted m changes c slot source l snapshot table to stamp low high version known is ops u body g = absurd (none_in c.listed l g u.listed)
 copy_state (CloneSnapshot own) m changes c slot source l snapshot table to stamp low high version known is ops u body g = absurd (none_in c.listed l g.empty u.listed)
 copy_state (CloneReleasing serving copied) m changes c slot source l snapshot table to stamp low high version known is ops u body g = absurd (let q : Release g.since ≡ Copy source snapshot to stamp table low high version = sym (g.bodies l u.listed) ∙ body in grind arith)
-copy_state (CloneComplete serving copied) m changes c slot source l snapshot table to stamp low high version known is ops u body g = absurd (none_in c.listed l g u.listed)
+copy_state _ m changes c slot source l snapshot table to stamp low high version known is ops u body g = absurd (none_in c.listed l g u.listed)
 
-copy_is : (m : Master) (changes : List made.Change) (operation : Id) (slot source : ℕ) (l : Listed) (snapshot table : Id) (to stamp low high version : ℕ) → OperationsGood m changes → IsPending m operation slot l → l.body ≡ Copy source snapshot to stamp table low high version → CopyIs m slot version
+pub copy_is : (m : Master) (changes : List made.Change) (operation : Id) (slot source : ℕ) (l : Listed) (snapshot table : Id) (to stamp low high version : ℕ) → OperationsGood m changes → IsPending m operation slot l → l.body ≡ Copy source snapshot to stamp table low high version → CopyIs m slot l.tablet version
 copy_is m changes operation slot source l snapshot table to stamp low high version ops (BySnapshot k) body =
     absurd (let q : Freeze k.snapshot.id k.snapshot.at ≡ Copy source snapshot to stamp table low high version = sym ((ops.snapshots k.snapshot k.kept).bodies l k.line.listed) ∙ body in grind arith)
 copy_is m changes operation slot source l snapshot table to stamp low high version ops (ByRestoration k) body = absurd (restore_copies k.restoration.state m changes k.restoration slot l CopyKind (ap kind_of body) k.line (ops.restorations k.restoration k.kept).in_state)

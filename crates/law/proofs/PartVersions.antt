@@ -1,22 +1,14 @@
 -- The parts' versions are those of the journal's schemas: through acts that change no schema, and begin no tablet.
 use Rattle.std.proofs.Common.{◌≡◌, ℕ, ◌≤◌, ◌<◌, Bool, true, false, List, [], ◌∷◌, ◌++◌, Option, Some, None, ◌&&◌, ◌||◌, ◌⊎◌, inl, inr, refl, sym, ap, subst, ◌∙◌, arith, cond, map, not, eqb}
 use Rattle.std.proofs.lemmas.Bool.{cond_both, true≢false}
-use Rattle.row_values.specs.declared.value.Item.{Item}
-use Rattle.row_values.specs.Ids.{Id, Kind, Tablet as TabletKind, Snapshot, Restoration, Clone, same}
-use Rattle.row_values.specs.Elements.{In}
-use Rattle.row_values.specs.Slots.{has}
-use Rattle.model.specs.Activity.{Interval}
-use Rattle.model.specs.Times.{ended}
+use Rattle.model.specs.Cluster.{Item, Id, Kind, TabletKind, Snapshot, RestorationKind as Restoration, CloneKind as Clone, same, In, has, Interval, ended, Listed, RestorationRecord, Fencing, Restoring, CloneRecord, Accepted, Copying, TabletPair, acked_at, Act, Master, Parts, Outcome, MasterAct, Ticks, MakesNamespace, DropsNamespace, MakesTable, AddsColumn, DropsColumn, RenamesTable, DropsTable, SplitsTablet, MakesSchedule, EditsSchedule, DeletesSchedule, TakesSnapshot, BeginsRestoration, BeginsClone, Sends, Acks, Unsends, Moves, Removes, Prunes, Restarts}
 use Rattle.model.specs.Journal as made
 use Rattle.model.specs.Tablets.{Tablet, RestoreFrom, CopyKind, is_done, is_empty, TabletAct, Clock, Make, Child, SetVersion, HideSince, Write as WriteRows, RaiseCutoff, Compact as CompactTablet, Offer, Process as ProcessTablet, Clear, DropFrozen, Restart as RestartTablet, effect, act_for, Told}
-use Rattle.model.specs.Records.{Listed, RestorationRecord, Fencing, Restoring, CloneRecord, Accepted, Copying, TabletPair, acked_at}
 use Rattle.model.specs.Stands.{awaited_in}
-use Rattle.model.specs.Acts.{Act}
 use Rattle.model.specs.Drawn.{version_by}
 use Rattle.model.specs.Entries.{slots_of}
 use Rattle.model.specs.Coordination.{acked_by}
 use Rattle.model.specs.Cleanup.{removed_of}
-use Rattle.model.specs.Parts.{Master, Parts, Outcome, MasterAct, Ticks, MakesNamespace, DropsNamespace, MakesTable, AddsColumn, DropsColumn, RenamesTable, DropsTable, SplitsTablet, MakesSchedule, EditsSchedule, DeletesSchedule, TakesSnapshot, BeginsRestoration, BeginsClone, Sends, Acks, Unsends, Moves, Removes, Prunes, Restarts}
 use Rattle.model.specs.History.{told, master_effect, with_master, rows_made, with_rows}
 use Rattle.law_invariants.proofs.Finding.{in_append, filter_in}
 use Rattle.law_invariants.proofs.Using.{mapped_is}
@@ -134,19 +126,11 @@ still m new old tablet changes more a r c v = record {
 -- What a tablet is told
 
 abbrev pub is_light : TabletAct → Bool
-is_light Clock = true
 is_light (Make tablet table low high version) = false
 is_light (Child tablet table low high version versions cutoff) = false
 is_light (SetVersion version) = false
-is_light (HideSince at) = true
-is_light (WriteRows batch) = true
-is_light (RaiseCutoff to) = true
-is_light CompactTablet = true
-is_light (Offer command) = true
 is_light (ProcessTablet rows) = false
-is_light Clear = true
-is_light (DropFrozen snapshot) = true
-is_light RestartTablet = true
+is_light _ = true
 
 pub light_stays : (a : TabletAct) (n : ℕ) (t : Tablet) → is_light a ≡ true → PartStays t (effect a n t)
 light_stays Clear n t e = inr (refl, refl)
@@ -172,23 +156,7 @@ is_calm (AddsColumn table name kind) = false
 is_calm (DropsColumn table column) = false
 is_calm (SplitsTablet parent code low_slot high_slot) = false
 is_calm (Moves operation) = false
-is_calm Ticks = true
-is_calm (MakesNamespace name) = true
-is_calm (DropsNamespace namespace) = true
-is_calm (RenamesTable table name) = true
-is_calm (DropsTable table) = true
-is_calm (MakesSchedule namespace interval retention) = true
-is_calm (EditsSchedule schedule interval retention) = true
-is_calm (DeletesSchedule schedule) = true
-is_calm (TakesSnapshot schedule) = true
-is_calm (BeginsRestoration schedule to) = true
-is_calm (BeginsClone namespace source target to) = true
-is_calm (Sends operation slot) = true
-is_calm (Acks operation slot) = true
-is_calm (Unsends operation slot) = true
-is_calm (Removes target) = true
-is_calm Prunes = true
-is_calm Restarts = true
+is_calm _ = true
 
 -- an interval that is open after some have ended was there
 pub still_open : (is : List Interval) (ends : Interval → Bool) (n : ℕ) (i : Interval) → In i (map {A = Interval} (λ i. record i { to = cond (ends i) (ended n i.to) i.to }) is) → i.to ≡ None → In i is

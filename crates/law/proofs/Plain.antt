@@ -1,13 +1,11 @@
 -- Acts by which the master is told no command, to move no record and not to prune.
 use Rattle.std.proofs.Common.{◌≡◌, ℕ, Bool, true, false, List, [], ◌∷◌, Option, Some, None, refl, arith, eqb, length, Result, Ok, Err}
 use Rattle.std.proofs.lemmas.Bool.{cond_both}
-use Rattle.row_values.specs.Ids.{Id, Kind, Tablet, Snapshot}
-use Rattle.model.specs.Records.{Listed, snapshot_with, SnapshotRecord}
+use Rattle.model.specs.Cluster.{Id, Kind, TabletKind as Tablet, Snapshot, Listed, snapshot_with, SnapshotRecord, Interval, last_of}
 use Rattle.model.specs.Acts.{Act, Ask, AskPlan, AskKeys, AskTable, AskWork, AskRemovable, AskPresent, Look, Change, Write, Read, Cutoff, Compact, Send, Process, Ack, Advance, Remove, Prune, Restart, Stats, Refusal, NoTablet, Counts}
 use Rattle.model.specs.Parts.{Master, Parts, Outcome, MasterAct, Ticks, MakesNamespace, DropsNamespace, MakesTable, AddsColumn, DropsColumn, RenamesTable, DropsTable, SplitsTablet, MakesSchedule, EditsSchedule, DeletesSchedule, TakesSnapshot, BeginsRestoration, BeginsClone, Sends, Acks, Unsends, Moves, Removes, Prunes, Restarts, answered, unless, decided}
 use Rattle.model.specs.History.{outcome, look}
 use Rattle.model.specs.Drawn.{ids_made}
-use Rattle.model.specs.Activity.{Interval, last_of}
 use Rattle.model.specs.Tablets.{Tablet as TabletPart, Command as TabletCommand, kind_of, is_done, is_empty}
 use Rattle.model.specs.Looks.{look_plan, look_keys, look_table, look_present, found_at, judge_keys}
 use Rattle.model.specs.RowActs.{count_frozen, write, read, cutoff, compact, stats, restart}
@@ -18,28 +16,13 @@ use Rattle.model.specs.Cleanup.{remove, removing, removing_tablet, removing_snap
 
 -- whether it is told a command, to move a record or to prune
 abbrev pub is_weighty : MasterAct → Bool
-is_weighty (MakesNamespace name) = true
-is_weighty (DropsNamespace namespace) = true
-is_weighty (MakesTable namespace name columns slots) = true
-is_weighty (AddsColumn table name kind) = true
-is_weighty (DropsColumn table column) = true
-is_weighty (RenamesTable table name) = true
-is_weighty (DropsTable table) = true
-is_weighty (SplitsTablet parent code low_slot high_slot) = true
-is_weighty (MakesSchedule namespace interval retention) = true
-is_weighty (EditsSchedule schedule interval retention) = true
-is_weighty (DeletesSchedule schedule) = true
-is_weighty (TakesSnapshot schedule) = true
-is_weighty (BeginsRestoration schedule to) = true
-is_weighty (BeginsClone namespace source target to) = true
 is_weighty Ticks = false
 is_weighty (Sends operation slot) = false
 is_weighty (Acks operation slot) = false
 is_weighty (Unsends operation slot) = false
-is_weighty (Moves operation) = true
 is_weighty (Removes target) = false
-is_weighty Prunes = true
 is_weighty Restarts = false
+is_weighty _ = true
 
 -- an outcome by which the master is told none of that, and whose reply names nothing that was made
 pub record IsPlain (o : Outcome) : Type 0 where
@@ -57,12 +40,9 @@ decided_none (Ok a) go plain = plain a
 
 look_none : (ask : Ask) (n : ℕ) (m : Master) → IsPlain (look ask n m)
 unfolding look_plan look_keys look_table look_present
-look_none (AskPlan command) n m = record { none = refl; unmade = refl }
 look_none (AskKeys namespace table batch at) n m = decided_none (judge_keys namespace table batch at n m) _ (λ t. record { none = refl; unmade = refl })
 look_none (AskTable namespace table at) n m = decided_none (found_at namespace table at n m) _ (λ t. record { none = refl; unmade = refl })
-look_none AskWork n m = record { none = refl; unmade = refl }
-look_none AskRemovable n m = record { none = refl; unmade = refl }
-look_none AskPresent n m = record { none = refl; unmade = refl }
+look_none _ n m = record { none = refl; unmade = refl }
 
 sending_none : (found : Option Listed) (operation : Id) (slot : ℕ) → IsPlain (sending found operation slot)
 sending_none None operation slot = record { none = refl; unmade = refl }
@@ -97,28 +77,14 @@ restart_none slot n ps = cond_both (eqb slot 0) _ _ IsPlain (λ e. record { none
 -- whether an act may tell the master any of that
 abbrev pub may_weigh : Act → Bool
 may_weigh (Change command slots) = true
-may_weigh (Look ask) = false
-may_weigh (Write place version batch) = false
-may_weigh (Read places version key at columns) = false
-may_weigh (Cutoff slot) = false
-may_weigh (Compact slot) = false
-may_weigh (Send operation slot) = false
-may_weigh (Process slot other) = false
-may_weigh (Ack operation slot) = false
 may_weigh (Advance operation) = true
-may_weigh (Remove target slots) = false
 may_weigh Prune = true
-may_weigh (Restart slot) = false
-may_weigh (Stats slot) = false
+may_weigh _ = false
 
 pub act_none : (act : Act) (n : ℕ) (ps : Parts) → may_weigh act ≡ false → IsPlain (outcome act n ps)
 unfolding write read cutoff compact stats send process ack remove
 act_none (Change command slots) n ps e = absurd (let q = e in grind arith)
 act_none (Look ask) n ps e = look_none ask n ps.master
-act_none (Write place version batch) n ps e = search (unless_none)
-act_none (Read places version key at columns) n ps e = search (unless_none)
-act_none (Cutoff slot) n ps e = search (unless_none)
-act_none (Compact slot) n ps e = search (unless_none)
 act_none (Send operation slot) n ps e = sending_none (pending ps.master operation slot) operation slot
 act_none (Process slot other) n ps e = processing_none (ps.tablet slot).inbox slot other (ps.tablet other)
 act_none (Ack operation slot) n ps e = acknowledging_none (pending ps.master operation slot) operation slot (ps.tablet slot)
@@ -127,3 +93,4 @@ act_none (Remove target slots) n ps e = removing_none target.kind target slots n
 act_none Prune n ps e = absurd (let q = e in grind arith)
 act_none (Restart slot) n ps e = restart_none slot n ps
 act_none (Stats slot) n ps e = cond_both (is_empty (ps.tablet slot).presence) NoTablet (Counts (ps.tablet slot).cutoff (length (ps.tablet slot).versions) (count_frozen (ps.tablet slot).frozen) (length (ps.tablet slot).inbox)) (λ reply. IsPlain (answered reply)) (λ e. record { none = refl; unmade = refl }) (λ e. record { none = refl; unmade = refl })
+act_none _ n ps e = search (unless_none)

@@ -1,21 +1,14 @@
 -- What the records' states say of the parts follows from what holds after each entry.
-use Rattle.std.proofs.Common.{ℕ, ◌≡◌, ◌≢◌, List, [], ◌∷◌, Option, Some, None, Bool, true, false, ◌||◌, inl, inr, refl, sym, ap, subst, ◌∙◌, arith}
+use Rattle.std.proofs.Common.{ℕ, ◌≡◌, ◌≢◌, List, Option, Some, None, Bool, true, false, ◌||◌, inl, inr, refl, sym, ap, subst, ◌∙◌, arith}
 use Rattle.std.proofs.lemmas.Bool.{true≢false}
 use Rattle.row_values.specs.Ids.{Kind, kind_digit, Restoration, Clone, Id, same}
-use Rattle.row_values.specs.Elements.{In}
-use Rattle.model.specs.Times.{is_open}
-use Rattle.model.specs.Catalog.{is_owned_by, owner_of}
-use Rattle.model.specs.Activity.{Interval}
-use Rattle.model.specs.Journal.{Change, source_of}
-use Rattle.model.specs.Tablets.{Tablet, BodyKind, FenceKind, FreezeKind, ReleaseKind, kind_of, is_done, holds_command}
-use Rattle.model.specs.Records.{IdPair, RestorationRecord, RestorationState, Fencing, Snapshotting, Switching, Restoring, Releasing, Restored, CloneRecord, CloneState, Copying, CloneReleasing, CloneComplete, is_restored, is_cloned}
-use Rattle.model.specs.Parts.{Master, Parts}
-use Rattle.model.specs.Stands.{was_given, AllFenced, NoneFenced, RestorationStateFacts, CloneStateFacts, FenceFacts, RecordFacts, AreRowsAt}
-use Rattle.law_store.proofs.Keys.{either_way}
+use Rattle.model.specs.Cluster.{In, is_open, is_owned_by, owner_of, Interval, Tablet, BodyKind, FenceKind, kind_of, is_done, holds_command, RestorationRecord, RestorationState, Fencing, Snapshotting, Switching, Restoring, Releasing, Restored, CloneRecord, CloneState, Copying, CloneReleasing, CloneComplete, is_restored, is_cloned, Master, Parts}
+use Rattle.model.specs.Journal.{Change}
+use Rattle.model.specs.Stands.{was_given, AllFenced, NoneFenced, RestorationStateFacts, CloneStateFacts, FenceFacts, RecordFacts}
 use Rattle.law_invariants.specs.Operations.{CloneStateGood}
 use Rattle.law_invariants.specs.Orders.{IsAfter, RestorationSlot, CloneSlot, FencedSlot}
 use Rattle.law_invariants.specs.Invariant.{SlotWorks, Inv}
-use Rattle.law_invariants.proofs.Finding.{same_equal, same_self, either_is}
+use Rattle.law_invariants.proofs.Finding.{same_self, either_is}
 use Rattle.law_invariants.proofs.Ordering.{place_left, clone_left}
 use Rattle.law_invariants.proofs.DoneMarks.{mark_there, command_there}
 use Rattle.law_invariants.proofs.Undoing.{owned_is}
@@ -116,21 +109,21 @@ restoration_facts (Restoring point serving) ps activity changes r is inv isin ea
 restoration_facts (Releasing point serving) ps activity changes r is inv isin each = λ l lists acked. (let h = each l.slot l lists refl in unfenced r.id (ps.tablet l.slot).fence (h.released (h.acked acked)))
 restoration_facts (Restored point serving) ps activity changes r is inv isin each = none_fenced ps activity changes r inv isin (ap is_restored is)
 
-source_there : (ps : List IdPair) (target source : Id) → source_of ps target ≡ Some source → (d : IdPair) × (In d ps × ((d.target ≡ target) × (d.source ≡ source)))
-source_there [] target source e = absurd (let q = e in grind arith)
-source_there (p ∷ ps) target source e = either_way (same p.target target)
-    (λ b. let q : Some p.source ≡ Some source = rw b at e in (p, (inl refl, (same_equal p.target target b, (let k : p.source ≡ source = cc in k)))))
-    (λ b. let r = source_there ps target source (rw b at e) in (r.0, (inr r.1.0, r.1.1)))
-
 clone_facts : (state : CloneState) (ps : Parts) (activity : List Interval) (changes : List Change) (c : CloneRecord) → c.state ≡ state → Inv ps activity changes → In c ps.master.clones
     → CloneStateGood state ps.master c → ((slot : ℕ) → CloneSlot state ps.master changes c slot (ps.tablet slot)) → CloneStateFacts state c ps changes
-clone_facts (Copying serving at) ps activity changes c is inv isin good each = λ l p source lists paired same_ found acked. (
+clone_facts (Copying serving at) ps activity changes c is inv isin good each = λ l lists acked. (
     let b = good.bodies l lists in
-    let one : p ≡ b.pair = (inv.operations.clones c isin).one_target p b.pair paired b.paired (same_ ∙ b.tablet_is) in
-    let here : p.slot ≡ l.slot = ap (λ q. q.slot) one ∙ sym b.slot_is in
-    let k = (each l.slot).copied p paired here ((each l.slot).acked l lists refl acked) in
-    let d = source_there c.tables p.table source found in
-    (k.fenced, subst (λ table. AreRowsAt (ps.tablet l.slot).versions p.low p.high at changes c.to table) d.1.1.1 (k.rows d.0 d.1.0 d.1.1.0)))
+    let source = (inv.operations.clones c isin).sources (ap is_cloned is) b.pair b.paired in
+    record {
+      pair = b.pair;
+      paired = b.paired;
+      target_is = sym b.tablet_is;
+      slot_is = sym b.slot_is;
+      tables = source.pair;
+      cloned = source.paired;
+      table_is = source.target_is;
+      copy = (each l.slot).copied b.pair b.paired (sym b.slot_is) ((each l.slot).acked l lists refl acked);
+    })
 clone_facts (CloneReleasing serving at) ps activity changes c is inv isin good each = λ l lists acked. (let h = each l.slot l lists refl in unfenced c.id (ps.tablet l.slot).fence (h.released (h.acked acked)))
 clone_facts (CloneComplete serving at) ps activity changes c is inv isin good each = none_fenced_clone ps activity changes c inv isin (ap is_cloned is)
 clone_facts _ ps activity changes c is inv isin good each = tt
@@ -141,11 +134,8 @@ all_recorded ps activity changes inv = record {
   restorations = λ r isin. restoration_facts r.state ps activity changes r refl inv isin (λ slot. (inv.works slot).obeyed.restorations r isin);
   clones = λ c isin. clone_facts c.state ps activity changes c refl inv isin (inv.operations.clones c isin).in_state (λ slot. (inv.works slot).obeyed.clones c isin);
   after_rows = λ r point isin at c table key op there is owned. inv.journal.undone r point isin at c table key op there is owned;
-  after_freeze = λ slot r isin given. (given_after ps.master changes slot (ps.tablet slot) r.id FreezeKind (inv.works slot) given).snapshot r isin refl;
   after_fence = λ slot r isin given. (given_after ps.master changes slot (ps.tablet slot) r.id FenceKind (inv.works slot) given).restoration r isin refl;
   after_point = λ slot r point kind isin at later given. (given_after ps.master changes slot (ps.tablet slot) r.id kind (inv.works slot) given).point r point isin refl at later;
-  after_copy = λ slot c at kind isin is given. (given_after ps.master changes slot (ps.tablet slot) c.id kind (inv.works slot) given).copied c at isin refl is;
-  after_release = λ c l cutoff isin lists is given. (given_after ps.master changes l.slot (ps.tablet l.slot) c.id ReleaseKind (inv.works l.slot) given).released c l cutoff isin refl lists is refl;
   fences = λ slot operation e. fence_facts ps activity changes slot operation inv e;
   once = λ slot. (inv.works slot).orders.once;
   fresh = λ slot c isin. (inv.works slot).orders.fresh c isin;

@@ -2,9 +2,7 @@
 use Rattle.std.proofs.Common.{ℕ, ◌≡◌, ◌<◌, ◌+◌, ◌^◌, List, [], ◌∷◌, ◌++◌, true, refl, sym, ap, subst, ◌∙◌, arith, cond, ltb, ltb-true, Option, Some, None, zero, suc}
 use Rattle.std.specs.Option.{option_map_or}
 use Rattle.std.proofs.lemmas.Bool.{cond_both}
-use Rattle.model.specs.Times.{end_of_time}
-use Rattle.model.specs.Acts.{Act, Look, Ask, Event}
-use Rattle.row_values.specs.Elements.{AllOf}
+use Rattle.model.specs.Cluster.{end_of_time, Act, Look, Ask, Event, AllOf}
 use Rattle.model.specs.Entries.{Asked, log_of, stamp_of, touches, Entry}
 use Rattle.model.specs.History.{IsStep, Legal, entry_of, held, journal_of, activity_of, most_entries, replay}
 use Rattle.model.specs.Settling.{event_of, after_act, coordinated}
@@ -38,9 +36,8 @@ with_entry slots event r = record r { history = entry_of slots event r.history �
 
 -- a lag takes from the reading
 less_reading : (touched : List ℕ) (r : Run) → r.reading < 2 ^ 50 → reading_for touched r < 2 ^ 50
-less_reading [] r less = less
 less_reading (slot ∷ []) r less = omega (arith, less)
-less_reading (slot ∷ other ∷ slots) r less = less
+less_reading _ r less = less
 
 entry_legal : (slots : ℕ) (event : Event) (r : Run) → IsLegalRun slots r → event.reading < 2 ^ 50 → IsFit slots event.act → may_follow slots event r.history ≡ true → IsLegalRun slots (with_entry slots event r)
 unfolding entry_of

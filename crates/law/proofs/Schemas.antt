@@ -2,18 +2,13 @@
 use Rattle.std.proofs.Common.{◌≡◌, ℕ, ◌≤◌, ◌<◌, ◌+◌, true, false, List, [], ◌∷◌, ◌++◌, inl, inr, Option, Some, None, refl, sym, ap, ◌∙◌, le_trans, arith, max, length, fold, not, if◌then◌else◌}
 use Rattle.std.proofs.lemmas.Bool.{true≢false, leb-true, leb-false}
 use Rattle.std.proofs.lemmas.Bool.Decides.{nat_tests}
-use Rattle.row_values.specs.declared.value.Item.{Item}
-use Rattle.row_values.specs.Ids.{Id, same}
-use Rattle.row_values.specs.Elements.{In}
-use Rattle.row_values.specs.Schema.{Schema, Column, ColumnKind, NewColumn, numbered, first_schema, with_column, without_column}
-use Rattle.model.specs.Times.{ended, ended_by, is_open}
+use Rattle.model.specs.Cluster.{Item, Id, same, In, Schema, Column, ColumnKind, NewColumn, numbered, first_schema, with_column, without_column, ended, ended_by, is_open, Master, CloneRecord}
 use Rattle.model.specs.Catalog.{kept_from, owner_of, TableRecord, end_table, change_table}
 use Rattle.model.specs.Journal as made
 use Rattle.model.specs.Journal.{NamespaceMade, NamespaceDropped, TableMade, TableRenamed, TableDropped, ColumnAdded, ColumnDropped, NamespaceRestored, RowChanged}
 use Rattle.model.specs.Drawn.{ColumnsNew, NumberedFrom, given_to, greatest_id, version_by}
 use Rattle.model.specs.History.{with, rows_made}
 use Rattle.model.specs.Cleanup.{is_old_table, prune_to}
-use Rattle.model.specs.Parts.{Master}
 use Rattle.model.specs.Restored.{restored_tables}
 use Rattle.std.specs.List.{filter}
 use Rattle.law_invariants.specs.Invariant.{EndsBy, RecordsRise, TablesStand}
@@ -21,7 +16,6 @@ use Rattle.law_invariants.proofs.Finding.{same_self}
 use Rattle.law.proofs.Newest.{AllNewest, newest_added, newest_ended, newest_back, newest_cloned, current_latest, pruned_latest, YoungAfter}
 use Rattle.law.proofs.Versions.{VersionsFollow, version_plain, versions_same, versions_added, versions_ended, versions_pruned, version_current, versions_back, versions_cloned}
 use Rattle.model.specs.Answers.{version_at}
-use Rattle.model.specs.Records.{CloneRecord}
 use Rattle.law_clones.proofs.Viewing.{clone}
 use Rattle.law_clones.proofs.Cataloguing.{MayTake, with_tables}
 

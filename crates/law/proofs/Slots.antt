@@ -2,11 +2,7 @@
 use Rattle.std.proofs.Common.{ℕ, ◌≡◌, List, [], ◌∷◌, Option, Some, None, refl, ◌∙◌}
 use Rattle.std.specs.Option.{option_map_or}
 use Rattle.std.proofs.lemmas.Bool.{cond_both}
-use Rattle.row_values.specs.Ids.{Id, Kind, Tablet, Snapshot, Restoration, Clone}
-use Rattle.row_values.specs.Slots.{has}
-use Rattle.model.specs.Records.{Schedule, SnapshotRecord, RestorationRecord, RestorationState, Fencing, CloneRecord, CloneState, Accepted, schedule_of}
-use Rattle.model.specs.Acts.{Act}
-use Rattle.model.specs.Parts.{Master, Parts, MasterAct, Acks, Moves, Removes, Outcome}
+use Rattle.model.specs.Cluster.{Id, Kind, TabletKind as Tablet, Snapshot, RestorationKind as Restoration, CloneKind as Clone, has, Schedule, SnapshotRecord, RestorationRecord, RestorationState, Fencing, CloneRecord, CloneState, Accepted, schedule_of, Act, Master, Parts, MasterAct, Acks, Moves, Removes, Outcome}
 use Rattle.model.specs.Coordination.{unfinished_snapshot, unfinished_restoration, unfinished_clone, acked_by}
 use Rattle.model.specs.Moves.{with_clones_snapshot, serving_clone, completed, restoration_moved, begins_clone, clone_moved, moved_of}
 use Rattle.model.specs.Cleanup.{removed_of}

@@ -2,11 +2,9 @@
 use Rattle.std.proofs.Common.{ℕ, ◌≡◌, ◌≤◌, ◌<◌, ◌+◌, List, [], ◌∷◌, map, Bool, true, false, cond, ◌&&◌, ◌||◌, inl, inr, refl, sym, ap, subst, ◌∙◌, arith, le_trans, ltb, ltb-true, eqb}
 use Rattle.std.proofs.lemmas.Bool.{true≢false}
 use Rattle.std.proofs.lemmas.Bool.Decides.{nat_tests}
-use Rattle.row_values.specs.Ids.{Id, Kind, Table, Tablet, same}
+use Rattle.model.specs.Cluster.{Id, Kind, TableKind as Table, TabletKind as Tablet, same, Interval, IdPair, TabletPair}
 use Rattle.row_values.specs.Elements.{In, put_in, in_order}
-use Rattle.model.specs.Activity.{Interval}
 use Rattle.model.specs.Catalog.{TableRecord, put_table, by_id}
-use Rattle.model.specs.Records.{IdPair, TabletPair}
 use Rattle.model.specs.Changed.{pair_tables, pair_tablets, target_in}
 use Rattle.model.specs.Drawn.{AreNext, is_pair_before}
 use Rattle.law_store.proofs.Keys.{either_way}
@@ -25,9 +23,8 @@ rest_chained before x (y ∷ ys) h = h.1
 
 -- such a list is in order
 pub order_same : {A : Type 0} (before : A → A → Bool) (xs : List A) → Chained before xs → in_order before xs ≡ xs
-order_same before [] h = refl
-order_same before (x ∷ []) h = refl
 order_same before (x ∷ y ∷ ys) h = ap (put_in before x) (order_same before (y ∷ ys) h.1) ∙ ap (λ b. cond b (y ∷ put_in before x ys) (x ∷ y ∷ ys)) h.0
+order_same before _ h = refl
 
 behind : {A : Type 0} (before : A → A → Bool) (x y : A) (zs : List A) → before x y ≡ false → Chained before (y ∷ zs) → Chained before (put_in before x zs) → Chained before (y ∷ put_in before x zs)
 behind before x y [] e h put = (e, tt)
@@ -70,9 +67,8 @@ by_id_chained [] = tt
 by_id_chained (t ∷ ts) = table_chained t (by_id ts) (by_id_chained ts)
 
 pub pair_tables_chained : (ts : List TableRecord) (drawn : ℕ) → Chained by_number ts → Chained (λ (p q : IdPair). ltb p.source.number q.source.number) (pair_tables ts drawn)
-pair_tables_chained [] drawn h = tt
-pair_tables_chained (t ∷ []) drawn h = tt
 pair_tables_chained (t ∷ u ∷ us) drawn h = (h.0, pair_tables_chained (u ∷ us) (drawn + 1) h.1)
+pair_tables_chained _ drawn h = tt
 
 pub tables_next : (ts : List TableRecord) (drawn : ℕ) → AreNext Table drawn (map {A = IdPair} (λ p. p.target) (pair_tables ts drawn))
 tables_next [] drawn = tt

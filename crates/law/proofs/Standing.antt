@@ -3,16 +3,12 @@
 use Rattle.std.proofs.Common.{ℕ, ◌≡◌, List, Option, Some, None, true, false, not, refl, sym, ap, ◌∙◌, eqb, arith}
 use Rattle.std.proofs.lemmas.Bool.Decides.{nat_tests}
 use Rattle.std.specs.Option.{is_some}
-use Rattle.row_values.specs.Elements.{In}
-use Rattle.model.specs.Times.{is_open}
-use Rattle.row_values.specs.Ranges.{in_range}
-use Rattle.model.specs.Activity.{Interval}
+use Rattle.model.specs.Cluster.{In, is_open, in_range, Interval, FrozenSet, is_empty, Parts}
 use Rattle.model.specs.Journal.{Change, table_at, row_at}
-use Rattle.model.specs.Tablets.{FrozenSet, is_empty}
-use Rattle.model.specs.Parts.{Parts}
 use Rattle.model.specs.Stands.{Stands, LiveStands, FrozenStands, awaited, counted}
 use Rattle.law_invariants.specs.Invariant.{Inv, TurnsAt, is_awaited}
 use Rattle.law_invariants.proofs.Finding.{same_equal, second_fails, filter_in}
+use Rattle.law.proofs.Fixing.{OwnersStand}
 use Rattle.law_invariants.proofs.Lasting.{last_in}
 use Rattle.law_invariants.proofs.Ticking.{not_true}
 
@@ -55,11 +51,14 @@ frozen_stands ps activity changes slot f present held inv = record {
       g.sets f held key x (range_same t.low t.high i.low i.high _ g.low_is g.high_is ranged) cut by active ∙ ap (λ k. row_at changes x k key) (sym g.table_is));
 }
 
-pub all_stand : (ps : Parts) (activity : List Interval) (changes : List Change) → Inv ps activity changes → Stands ps changes
-all_stand ps activity changes inv = record {
+pub all_stand : (ps : Parts) (activity : List Interval) (changes : List Change) → Inv ps activity changes → OwnersStand ps.master.catalog.owners changes → Stands ps changes
+all_stand ps activity changes inv owners = record {
   held = λ i isin. let g = (inv.slots i.slot).each i isin refl in record { present = g.present; tablet_is = g.tablet_is; table_is = g.table_is; low_is = g.low_is; high_is = g.high_is };
   serves = λ i isin opened came. ((inv.slots i.slot).each i isin refl).serves opened came;
   active = λ slot serving unfenced. let o = (inv.slots slot).opens serving unfenced in (o.interval, (o.listed, (o.slot_is, o.opened)));
+  home = λ slot present. (inv.works slot).obeyed.home present;
+  hidden = λ i at isin hides came. ((inv.slots i.slot).each i isin refl).hidden at hides came;
+  owners = owners;
   live = λ slot present. live_stands ps activity changes slot present inv;
   frozen = λ slot f present held. frozen_stands ps activity changes slot f present held inv;
 }

@@ -3,13 +3,8 @@
 use Rattle.std.proofs.Common.{ℕ, ◌≡◌, ◌∙◌, List, [], ◌∷◌, ◌++◌, map, Option, Some, None, false, cond, inl, inr, refl, sym, ap, not, length, ◌+◌}
 use Rattle.std.specs.Option.{option_map_or}
 use Rattle.std.proofs.lemmas.Bool.{cond_both, true≢false}
-use Rattle.row_values.specs.Ids.{Id, Kind, Namespace, Table, Tablet, Schedule, Snapshot, Restoration, Clone, same}
-use Rattle.row_values.specs.Elements.{In}
-use Rattle.row_values.specs.Slots.{has}
-use Rattle.model.specs.Times.{ended}
+use Rattle.model.specs.Cluster.{Id, Kind, NamespaceKind as Namespace, TableKind as Table, TabletKind as Tablet, ScheduleKind as Schedule, Snapshot, RestorationKind as Restoration, CloneKind as Clone, same, In, has, ended, Interval, active_at, end_tablet, Listed, Schedule as ScheduleRecord, acked_at, schedule_of, IdPair, TabletPair, RestorationRecord, RestorationState, Fencing, Snapshotting, Switching, Restoring, Releasing, Restored, SnapshotRecord, CloneRecord, CloneState, Accepted, CloneSnapshot, Copying, CloneReleasing, CloneComplete, State, first_unacked, Schema}
 use Rattle.model.specs.Catalog.{owns, TableRecord, change_table, end_table, end_tables, tables_at}
-use Rattle.model.specs.Activity.{Interval, active_at, end_tablet}
-use Rattle.model.specs.Records.{Listed, Schedule as ScheduleRecord, acked_at, schedule_of, IdPair, TabletPair, RestorationRecord, RestorationState, Fencing, Snapshotting, Switching, Restoring, Releasing, Restored, SnapshotRecord, CloneRecord, CloneState, Accepted, CloneSnapshot, Copying, CloneReleasing, CloneComplete, State, first_unacked}
 use Rattle.model.specs.Restored.{begun_at, end_namespace_tablets, cloned_activity, back_at, cloned_tables, tables_back}
 use Rattle.model.specs.Lists.{tablets_active_at, intervals_in}
 use Rattle.model.specs.Changed.{next_table, shares, children, pair_tables, pair_tablets, new_clone, clone_time}
@@ -23,7 +18,6 @@ use Rattle.law_invariants.proofs.Finding.{in_append, in_added, in_mapped, filter
 use Rattle.law_invariants.proofs.Pending.{unfinished_clone_is}
 use Rattle.model.specs.Acts.{Ack, Act, AddColumn, Advance, Change, CloneNamespace, Command, Compact, CreateNamespace, CreateSchedule, CreateTable, Cutoff, DeleteSchedule, DropColumn, DropNamespace, DropTable, EditSchedule, ListClones, ListRestorations, ListSchedules, ListSnapshots, ListTablets, Look, Process, Prune, Read, Refusal, Remove, RenameTable, Restart, Restore, Send, Split, Stats, TakeSnapshot, UnknownColumn, Write}
 use Rattle.std.specs.Prelude.{Err as Denied, Ok as Granted, Result}
-use Rattle.row_values.specs.Schema.{Schema}
 use Rattle.law.proofs.Plain.{act_none, is_weighty}
 use Rattle.model.specs.Changes.{add_column, add_column_checks, change, clone_namespace, column_of, create_namespace, create_schedule, create_table, delete_schedule, drop_column, drop_namespace, drop_table, edit_schedule, found_column, judge_add_column, judge_clone, judge_create_namespace, judge_create_schedule, judge_create_table, judge_delete_schedule, judge_drop_column, judge_drop_namespace, judge_drop_table, judge_edit_schedule, judge_rename_table, judge_restore, judge_split, judge_take_snapshot, list_tablets, planned, rename_table, rename_table_checks, restore, split, take_snapshot, unheld_checks}
 use Rattle.law_invariants.proofs.Judging.{and_found_is, checked_is}
@@ -80,8 +74,6 @@ paired_good (t ∷ ts) drawn d (inr isin) = paired_good ts (drawn + 1) d isin
 -- Moves
 
 restoration_kinds : (state : RestorationState) (r : RestorationRecord) (n : ℕ) (m : Master) → KindsGood m → KindsGood (restoration_moved state r n m)
-restoration_kinds Fencing r n m h = record { activity = h.activity; clones = h.clones; tables = h.tables; pairs = h.pairs }
-restoration_kinds (Snapshotting point own) r n m h = record { activity = h.activity; clones = h.clones; tables = h.tables; pairs = h.pairs }
 restoration_kinds (Switching point serving) r n m h = record {
   activity = more_good (end_namespace_tablets m.catalog.owners r.namespace point m.activity) (map (begun_at point) (tablets_active_at m.catalog.owners m.activity r.namespace r.to))
       (in_mapped {A = Interval} {B = Interval} (λ i. record i { to = cond (owns m.catalog.owners r.namespace i.table) (ended point i.to) i.to }) OfTablet m.activity h.activity)
@@ -94,9 +86,7 @@ restoration_kinds (Switching point serving) r n m h = record {
       (λ t isin. h.tables t (then_is m.catalog.tables r.namespace r.to t isin).0));
   pairs = h.pairs;
 }
-restoration_kinds (Restoring point serving) r n m h = record { activity = h.activity; clones = h.clones; tables = h.tables; pairs = h.pairs }
-restoration_kinds (Releasing point serving) r n m h = record { activity = h.activity; clones = h.clones; tables = h.tables; pairs = h.pairs }
-restoration_kinds (Restored point serving) r n m h = record { activity = h.activity; clones = h.clones; tables = h.tables; pairs = h.pairs }
+restoration_kinds _ r n m h = record { activity = h.activity; clones = h.clones; tables = h.tables; pairs = h.pairs }
 
 -- records of clones that enter states keep their targets
 entered_kinds : (r : CloneRecord) (state : CloneState) (listed : List Listed) (cs : List CloneRecord) → ((c : CloneRecord) (p : TabletPair) → In c cs → In p c.tablets → p.target.kind ≡ Tablet)
@@ -119,7 +109,6 @@ begins_kinds None r n m h = own_kinds (schedule_of m.schedules r.source) r n m h
 
 clone_kinds : (state : CloneState) (r : CloneRecord) (n : ℕ) (m : Master) → In r m.clones → KindsGood m → KindsGood (clone_moved state r n m)
 clone_kinds Accepted r n m there h = begins_kinds (serving_clone m r) r n m h
-clone_kinds (CloneSnapshot own) r n m there h = record { activity = h.activity; clones = entered_kinds r _ _ m.clones h.clones; tables = h.tables; pairs = entered_pairs r _ _ m.clones h.pairs }
 clone_kinds (Copying serving at) r n m there h = record {
   activity = more_good m.activity (cloned_activity n r.tablets) h.activity
       (in_mapped {A = TabletPair} {B = Interval} (λ p. record { slot = p.slot; tablet = p.target; table = p.table; low = p.low; high = p.high; from = n; to = None }) OfTablet r.tablets (λ p isin. h.clones r p there isin));
@@ -128,8 +117,8 @@ clone_kinds (Copying serving at) r n m there h = record {
       (λ t isin. let k = cloned_is m.catalog.tables r.target_id r.to n r.tables t isin in sym (ap (λ t. t.id.kind) k.is) ∙ h.pairs r k.pair there k.paired);
   pairs = entered_pairs r _ _ m.clones h.pairs;
 }
-clone_kinds (CloneReleasing serving at) r n m there h = record { activity = h.activity; clones = entered_kinds r _ _ m.clones h.clones; tables = h.tables; pairs = entered_pairs r _ _ m.clones h.pairs }
 clone_kinds (CloneComplete serving at) r n m there h = record { activity = h.activity; clones = h.clones; tables = h.tables; pairs = h.pairs }
+clone_kinds _ r n m there h = record { activity = h.activity; clones = entered_kinds r _ _ m.clones h.clones; tables = h.tables; pairs = entered_pairs r _ _ m.clones h.pairs }
 
 snapshot_kinds : (found : Option SnapshotRecord) (n : ℕ) (m : Master) → KindsGood m → KindsGood (option_map_or (λ r. completed r n m) found (record m { clock = n }))
 snapshot_kinds None n m h = record { activity = h.activity; clones = h.clones; tables = h.tables; pairs = h.pairs }
@@ -147,10 +136,7 @@ moved_kinds : (kind : Kind) (operation : Id) (n : ℕ) (m : Master) → KindsGoo
 moved_kinds Snapshot operation n m h = snapshot_kinds (unfinished_snapshot m.snapshots operation) n m h
 moved_kinds Restoration operation n m h = restored_kinds (unfinished_restoration m.restorations operation) n m h
 moved_kinds Clone operation n m h = cloned_kinds (unfinished_clone m.clones operation) n m (λ r found. (unfinished_clone_is m.clones operation r found).0) h
-moved_kinds Namespace operation n m h = record { activity = h.activity; clones = h.clones; tables = h.tables; pairs = h.pairs }
-moved_kinds Table operation n m h = record { activity = h.activity; clones = h.clones; tables = h.tables; pairs = h.pairs }
-moved_kinds Tablet operation n m h = record { activity = h.activity; clones = h.clones; tables = h.tables; pairs = h.pairs }
-moved_kinds Schedule operation n m h = record { activity = h.activity; clones = h.clones; tables = h.tables; pairs = h.pairs }
+moved_kinds _ operation n m h = record { activity = h.activity; clones = h.clones; tables = h.tables; pairs = h.pairs }
 
 acked_kinds : (kind : Kind) (operation : Id) (slot n : ℕ) (m : Master) → KindsGood m → KindsGood (acked_by kind operation slot n m)
 acked_kinds Clone operation slot n m h = record {
@@ -159,21 +145,11 @@ acked_kinds Clone operation slot n m h = record {
   tables = h.tables;
   pairs = λ c d isin. in_mapped {A = CloneRecord} {B = CloneRecord} (λ x. record x { listed = cond (same x.id operation) (acked_at slot x.listed) x.listed }) (λ c. In d c.tables → d.target.kind ≡ Table) m.clones (λ c there. h.pairs c d there) c isin;
 }
-acked_kinds Snapshot operation slot n m h = record { activity = h.activity; clones = h.clones; tables = h.tables; pairs = h.pairs }
-acked_kinds Restoration operation slot n m h = record { activity = h.activity; clones = h.clones; tables = h.tables; pairs = h.pairs }
-acked_kinds Namespace operation slot n m h = record { activity = h.activity; clones = h.clones; tables = h.tables; pairs = h.pairs }
-acked_kinds Table operation slot n m h = record { activity = h.activity; clones = h.clones; tables = h.tables; pairs = h.pairs }
-acked_kinds Tablet operation slot n m h = record { activity = h.activity; clones = h.clones; tables = h.tables; pairs = h.pairs }
-acked_kinds Schedule operation slot n m h = record { activity = h.activity; clones = h.clones; tables = h.tables; pairs = h.pairs }
+acked_kinds _ operation slot n m h = record { activity = h.activity; clones = h.clones; tables = h.tables; pairs = h.pairs }
 
 removed_kinds : (kind : Kind) (target : Id) (n : ℕ) (m : Master) → KindsGood m → KindsGood (removed_of kind target n m)
 removed_kinds Tablet target n m h = record { activity = λ i isin. h.activity i (filter_in m.activity (λ i. not (same i.tablet target)) i isin).0; clones = h.clones; tables = h.tables; pairs = h.pairs }
-removed_kinds Snapshot target n m h = record { activity = h.activity; clones = h.clones; tables = h.tables; pairs = h.pairs }
-removed_kinds Restoration target n m h = record { activity = h.activity; clones = h.clones; tables = h.tables; pairs = h.pairs }
-removed_kinds Clone target n m h = record { activity = h.activity; clones = h.clones; tables = h.tables; pairs = h.pairs }
-removed_kinds Namespace target n m h = record { activity = h.activity; clones = h.clones; tables = h.tables; pairs = h.pairs }
-removed_kinds Table target n m h = record { activity = h.activity; clones = h.clones; tables = h.tables; pairs = h.pairs }
-removed_kinds Schedule target n m h = record { activity = h.activity; clones = h.clones; tables = h.tables; pairs = h.pairs }
+removed_kinds _ target n m h = record { activity = h.activity; clones = h.clones; tables = h.tables; pairs = h.pairs }
 
 -- What the master is told
 
@@ -185,9 +161,6 @@ KnownTable (RenamesTable t name) = OfTable t
 KnownTable _ = Unit {0}
 
 effect_kinds : (act : MasterAct) (n : ℕ) (m : Master) → KnownTable act → KindsGood m → KindsGood (master_effect act n m)
-effect_kinds Ticks n m known h = record { activity = h.activity; clones = h.clones; tables = h.tables; pairs = h.pairs }
-effect_kinds (MakesNamespace name) n m known h = record { activity = h.activity; clones = h.clones; tables = h.tables; pairs = h.pairs }
-effect_kinds (DropsNamespace namespace) n m known h = record { activity = h.activity; clones = h.clones; tables = h.tables; pairs = h.pairs }
 effect_kinds (MakesTable namespace name columns slots) n m known h = record {
   activity = more_good m.activity (shares slots 0 (length slots) n m.drawn.tablets (next_table m)) h.activity (shares_good slots 0 (length slots) n m.drawn.tablets (next_table m));
   clones = h.clones;
@@ -211,11 +184,6 @@ effect_kinds (SplitsTablet parent code low_slot high_slot) n m known h = record 
   tables = h.tables;
   pairs = h.pairs;
 }
-effect_kinds (MakesSchedule namespace interval retention) n m known h = record { activity = h.activity; clones = h.clones; tables = h.tables; pairs = h.pairs }
-effect_kinds (EditsSchedule schedule interval retention) n m known h = record { activity = h.activity; clones = h.clones; tables = h.tables; pairs = h.pairs }
-effect_kinds (DeletesSchedule schedule) n m known h = record { activity = h.activity; clones = h.clones; tables = h.tables; pairs = h.pairs }
-effect_kinds (TakesSnapshot schedule) n m known h = record { activity = h.activity; clones = h.clones; tables = h.tables; pairs = h.pairs }
-effect_kinds (BeginsRestoration schedule to) n m known h = record { activity = h.activity; clones = h.clones; tables = h.tables; pairs = h.pairs }
 effect_kinds (BeginsClone namespace source target to) n m known h = record {
   activity = h.activity;
   clones = λ c p. in_added (λ c. In p c.tablets → p.target.kind ≡ Tablet) m.clones (new_clone namespace source target to m) (λ c there. h.clones c p there)
@@ -224,13 +192,11 @@ effect_kinds (BeginsClone namespace source target to) n m known h = record {
   pairs = λ c d. in_added (λ c. In d c.tables → d.target.kind ≡ Table) m.clones (new_clone namespace source target to m) (λ c there. h.pairs c d there)
       (λ paired. paired_good _ _ d paired) c;
 }
-effect_kinds (Sends operation slot) n m known h = record { activity = h.activity; clones = h.clones; tables = h.tables; pairs = h.pairs }
 effect_kinds (Acks operation slot) n m known h = acked_kinds operation.kind operation slot n m h
-effect_kinds (Unsends operation slot) n m known h = record { activity = h.activity; clones = h.clones; tables = h.tables; pairs = h.pairs }
 effect_kinds (Moves operation) n m known h = moved_kinds operation.kind operation n m h
 effect_kinds (Removes target) n m known h = removed_kinds target.kind target n m h
 effect_kinds Prunes n m known h = record { activity = h.activity; clones = h.clones; tables = λ t isin. h.tables t (filter_in m.catalog.tables (λ r. not (is_old_table m n r)) t isin).0; pairs = h.pairs }
-effect_kinds Restarts n m known h = record { activity = h.activity; clones = h.clones; tables = h.tables; pairs = h.pairs }
+effect_kinds _ n m known h = record { activity = h.activity; clones = h.clones; tables = h.tables; pairs = h.pairs }
 
 -- no other act tells it of a table
 plain_known : (act : MasterAct) → is_weighty act ≡ false → KnownTable act
@@ -274,11 +240,8 @@ planned_known (DeleteSchedule schedule) slots n ps h = decided_known (judge_dele
 planned_known (TakeSnapshot schedule) slots n ps h = decided_known (judge_take_snapshot schedule n ps.master) _ (λ a e. tt)
 planned_known (Restore schedule to) slots n ps h = decided_known (judge_restore schedule to n ps.master) _ (λ a e. tt)
 planned_known (CloneNamespace source target at) slots n ps h = decided_known (judge_clone source target (clone_time at n) n ps.master) _ (λ a e. tt)
-planned_known ListSchedules slots n ps h = tt
-planned_known ListSnapshots slots n ps h = tt
-planned_known ListRestorations slots n ps h = tt
-planned_known ListClones slots n ps h = tt
 planned_known (ListTablets namespace) slots n ps h = decided_known (found_namespace ps.master namespace) _ (λ a e. tt)
+planned_known _ slots n ps h = tt
 
 moving_known : (awaited : Option Id) (operation : Id) (next : State) → KnownTable (moving awaited operation next).master
 moving_known (Some on) operation next = tt

@@ -1,42 +1,54 @@
--- Kept snapshots are as they were taken: nothing but their acks, and whether they are complete, changes.
-use Rattle.std.proofs.Common.{◌≡◌, ℕ, ◌<◌, Bool, true, List, [], ◌∷◌, ◌++◌, Option, Some, None, ◌⊎◌, inl, inr, refl, ◌∙◌, subst, map, arith, ltb, not}
+-- Kept snapshots are as they were taken, in their order: nothing but their acks, and whether they are complete, changes.
+use Rattle.std.proofs.Common.{◌≡◌, ℕ, ◌<◌, Bool, true, false, List, [], ◌∷◌, ◌++◌, Option, Some, None, inl, inr, refl, sym, ap, ◌∙◌, subst, map, arith, ltb, not, cond}
 use Rattle.std.specs.Option.{option_map_or}
+use Rattle.std.specs.List.{filter}
 use Rattle.std.proofs.lemmas.Bool.{cond_both}
 use Rattle.std.proofs.lemmas.Bool.Decides.{nat_tests}
-use Rattle.row_values.specs.Ids.{Id, Kind, Snapshot, Restoration, Clone, same}
-use Rattle.row_values.specs.Elements.{In}
-use Rattle.row_values.specs.Slots.{has}
-use Rattle.model.specs.Records.{Schedule as ScheduleRecord, Listed, SnapshotRecord, RestorationRecord, RestorationState, Fencing, CloneRecord, CloneState, Accepted, schedule_of}
-use Rattle.model.specs.Parts.{Master, Parts, MasterAct, TakesSnapshot, Acks, Moves, Removes}
+use Rattle.model.specs.Cluster.{Id, Kind, Snapshot, RestorationKind as Restoration, CloneKind as Clone, same, has, Schedule as ScheduleRecord, Listed, SnapshotRecord, RestorationRecord, RestorationState, Fencing, CloneRecord, CloneState, Accepted, acked_at, schedule_of, Master, Parts, MasterAct, TakesSnapshot, Acks, Moves, Removes}
 use Rattle.model.specs.Cleanup.{removed_of}
 use Rattle.model.specs.Coordination.{acked_by, unfinished_snapshot, unfinished_restoration, unfinished_clone}
-use Rattle.model.specs.Drawn.{IsAsTaken, SnapshotsAsTaken}
+use Rattle.model.specs.Drawn.{IsPartOf, SnapshotsAsTaken, as_taken}
 use Rattle.model.specs.Entries.{Entry, slots_of}
-use Rattle.model.specs.History.{master_effect, next, outcome, replay, snapshots_since, snapshots_taken}
+use Rattle.model.specs.History.{master_effect, next, outcome, replay, snapshots_taken}
 use Rattle.model.specs.Lists.{new_snapshot, with_snapshot}
-use Rattle.model.specs.Moves.{begins_clone, clone_moved, completed, moved_of, restoration_moved, serving_clone, with_clones_snapshot}
-use Rattle.law_invariants.proofs.Finding.{filter_in, in_append, in_filter, in_first, in_mapped, in_second}
+use Rattle.model.specs.Moves.{anew, begins_clone, clone_moved, completed, moved_of, restoration_moved, serving_clone, with_clones_snapshot}
+use Rattle.law_invariants.proofs.Parting.{part_append, part_left, part_mapped, part_same}
 
--- a snapshot is one that was kept before, as it was but for its acks and whether it is complete
-abbrev WasKept : List SnapshotRecord → SnapshotRecord → Type 0
-WasKept rs r = IsAsTaken rs r
+abbrev pub Taken : List SnapshotRecord → List SnapshotRecord → Type 0
+Taken rs taken = IsPartOf (map as_taken rs) (map as_taken taken)
 
--- each snapshot after an act is new, or was kept before
-abbrev Goes : Master → List SnapshotRecord → Type 0
-Goes m rs = (r : SnapshotRecord) → In r rs → (m.drawn.snapshots < r.id.number) ⊎ WasKept m.snapshots r
+-- the snapshots after an act are some of those that were kept, as they were taken; or one more behind them
+pub data Goes (m : Master) (rs : List SnapshotRecord) : Type 0 where
+  Stays : Taken rs m.snapshots → Goes m rs
+  Adds : (new : SnapshotRecord) → m.drawn.snapshots < new.id.number → rs ≡ m.snapshots ++ new ∷ [] → Goes m rs
 
 stays : (m : Master) → Goes m m.snapshots
-stays m r isin = inr (record { snapshot = r; was_taken = isin; id_is = refl; schedule_is = refl; namespace_is = refl; after_is = refl; at_is = refl })
+stays m = Stays (part_same (map as_taken m.snapshots))
 
-updated : (m : Master) (complete : SnapshotRecord → Bool) (listed : SnapshotRecord → List Listed) → Goes m (map {A = SnapshotRecord} (λ x. record x { complete = complete x; listed = listed x }) m.snapshots)
-updated m complete listed = in_mapped {A = SnapshotRecord} {B = SnapshotRecord} (λ x. record x { complete = complete x; listed = listed x }) (λ r. (m.drawn.snapshots < r.id.number) ⊎ WasKept m.snapshots r) m.snapshots
-    (λ x isin. inr (record { snapshot = x; was_taken = isin; id_is = refl; schedule_is = refl; namespace_is = refl; after_is = refl; at_is = refl }))
+-- records with other acks, and complete or not
+updated : (m : Master) (complete : SnapshotRecord → Bool) (listed : SnapshotRecord → List Listed) → ((r : SnapshotRecord) → anew (listed r) ≡ anew r.listed)
+    → Goes m (map {A = SnapshotRecord} (λ x. record x { complete = complete x; listed = listed x }) m.snapshots)
+updated m complete listed anew_is = Stays (subst (λ rs. IsPartOf rs (map as_taken m.snapshots)) (sym (as_before m.snapshots)) (part_same (map as_taken m.snapshots)))
+  where
+    as_before : (rs : List SnapshotRecord) → map as_taken (map {A = SnapshotRecord} (λ x. record x { complete = complete x; listed = listed x }) rs) ≡ map as_taken rs
+    as_before [] = refl
+    as_before (r ∷ rs) = ap (λ ls. record r { complete = false; listed = ls } ∷ map as_taken (map {A = SnapshotRecord} (λ x. record x { complete = complete x; listed = listed x }) rs)) (anew_is r)
+        ∙ ap (λ qs. as_taken r ∷ qs) (as_before rs)
+
+anew_twice : (ls : List Listed) → anew (anew ls) ≡ anew ls
+anew_twice [] = refl
+anew_twice (l ∷ ls) = ap (λ ks. record l { acked = false } ∷ ks) (anew_twice ls)
+
+anew_acked : (slot : ℕ) (ls : List Listed) → anew (acked_at slot ls) ≡ anew ls
+anew_acked slot [] = refl
+anew_acked slot (l ∷ ls) = ap (λ ks. record l { acked = false } ∷ ks) (anew_acked slot ls)
+
+either_anew : (b : Bool) (ks ls : List Listed) → anew ks ≡ anew ls → anew (cond b ks ls) ≡ anew ls
+either_anew true ks ls e = e
+either_anew false ks ls e = refl
 
 added : (m : Master) (ns schedule : Id) (n : ℕ) → Goes m (with_snapshot ns schedule n m).snapshots
-added m ns schedule n r isin = elim (in_append m.snapshots (new_snapshot m ns schedule n ∷ []) r isin) [
-  | inl old ↦ stays m r old
-  | inr new ↦ (elim new [ inl e ↦ inl (subst (λ q. m.drawn.snapshots < q.id.number) e (omega arith)) | inr none ↦ absurd none ])
-]
+added m ns schedule n = Adds (new_snapshot m ns schedule n) (omega arith) refl
 
 clones_own_goes : (s : Option ScheduleRecord) (c : CloneRecord) (n : ℕ) (m : Master) → Goes m (with_clones_snapshot s c n m).snapshots
 clones_own_goes None c n m = stays m
@@ -56,7 +68,7 @@ clone_goes _ c n m = stays m
 
 found_snapshot : (found : Option SnapshotRecord) (n : ℕ) (m : Master) → Goes m (option_map_or (λ r. completed r n m) found (record m { clock = n })).snapshots
 found_snapshot None n m = stays m
-found_snapshot (Some r) n m = updated m _ _
+found_snapshot (Some r) n m = updated m _ _ (λ x. either_anew (same x.id r.id) (anew x.listed) x.listed (anew_twice x.listed))
 
 found_restoration : (found : Option RestorationRecord) (n : ℕ) (m : Master) → Goes m (option_map_or (λ r. restoration_moved r.state r n m) found (record m { clock = n })).snapshots
 found_restoration None n m = stays m
@@ -73,13 +85,16 @@ move_goes Clone id n m = found_clone (unfinished_clone m.clones id) n m
 move_goes _ id n m = stays m
 
 acked_goes : (kind : Kind) (operation : Id) (slot n : ℕ) (m : Master) → Goes m (acked_by kind operation slot n m).snapshots
-acked_goes Snapshot operation slot n m = updated m (λ x. x.complete) _
+acked_goes Snapshot operation slot n m = updated m (λ x. x.complete) _ (λ x. either_anew (same x.id operation) (acked_at slot x.listed) x.listed (anew_acked slot x.listed))
 acked_goes Restoration operation slot n m = stays m
 acked_goes Clone operation slot n m = stays m
 acked_goes _ operation slot n m = stays m
 
+left_taken : (test : SnapshotRecord → Bool) (rs : List SnapshotRecord) → Taken (filter test rs) rs
+left_taken test rs = part_mapped as_taken rs (filter test rs) (part_left test rs rs (part_same rs))
+
 removed_goes : (kind : Kind) (target : Id) (n : ℕ) (m : Master) → Goes m (removed_of kind target n m).snapshots
-removed_goes Snapshot target n m = λ r isin. stays m r (filter_in m.snapshots (λ q. not (same q.id target)) r isin).0
+removed_goes Snapshot target n m = Stays (left_taken (λ q. not (same q.id target)) m.snapshots)
 removed_goes _ target n m = stays m
 
 told_goes : (a : MasterAct) (n : ℕ) (m : Master) → Goes m (master_effect a n m).snapshots
@@ -94,34 +109,48 @@ entry_goes e ps = cond_both (has (slots_of e.event.act) 0) (master_effect (outco
     (λ touched. told_goes (outcome e.event.act e.stamp ps).master e.stamp ps.master) (λ alone. stays ps.master)
 
 -- what was taken goes on to have been taken
-still_taken : (taken new : List SnapshotRecord) (q r : SnapshotRecord) → IsAsTaken taken q → q.id ≡ r.id → q.schedule ≡ r.schedule → q.namespace ≡ r.namespace → q.after ≡ r.after → q.at ≡ r.at → IsAsTaken (taken ++ new) r
-still_taken taken new q r h a b c d e = record {
-  snapshot = h.snapshot;
-  was_taken = in_first taken new h.snapshot h.was_taken;
-  id_is = h.id_is ∙ a;
-  schedule_is = h.schedule_is ∙ b;
-  namespace_is = h.namespace_is ∙ c;
-  after_is = h.after_is ∙ d;
-  at_is = h.at_is ∙ e;
-}
 
-pub as_taken : (history : List Entry) (slots : ℕ) → SnapshotsAsTaken slots history
+map_append : (rs qs : List SnapshotRecord) → map as_taken (rs ++ qs) ≡ map as_taken rs ++ map as_taken qs
+map_append [] qs = refl
+map_append (r ∷ rs) qs = ap (λ ks. as_taken r ∷ ks) (map_append rs qs)
+
+more_taken : (rs taken new qs : List SnapshotRecord) → Taken rs taken → Taken qs new → Taken (rs ++ qs) (taken ++ new)
+more_taken rs taken new qs h k = subst (λ ks. IsPartOf ks (map as_taken (taken ++ new))) (sym (map_append rs qs))
+    (subst (λ ks. IsPartOf (map as_taken rs ++ map as_taken qs) ks) (sym (map_append taken new)) (part_append (map as_taken taken) (map as_taken rs) (map as_taken qs) (map as_taken new) h k))
+
+append_none : (rs : List SnapshotRecord) → rs ++ [] ≡ rs
+append_none [] = refl
+append_none (r ∷ rs) = ap (λ ks. r ∷ ks) (append_none rs)
+
+-- the last of a list is one of those of it that pass a test, where it passes
+one_more : (b : Bool) (r new : SnapshotRecord) (rest : List SnapshotRecord) → Taken (new ∷ []) rest → Taken (new ∷ []) (cond b (r ∷ rest) rest)
+one_more true r new rest h = inr h
+one_more false r new rest h = h
+
+last_left : (test : SnapshotRecord → Bool) (rs : List SnapshotRecord) (new : SnapshotRecord) → test new ≡ true → Taken (new ∷ []) (filter test (rs ++ new ∷ []))
+last_left test [] new passes = rw passes (inl (refl, tt))
+last_left test (r ∷ rs) new passes = one_more (test r) r new (filter test (rs ++ new ∷ [])) (last_left test rs new passes)
+
+-- a part of a part is one
+part_trans : {A : Type 0} (zs ys xs : List A) → IsPartOf ys zs → IsPartOf xs ys → IsPartOf xs zs
+part_trans zs [] [] h k = tt
+part_trans zs [] (x ∷ xs) h k = absurd k
+part_trans [] (y ∷ ys) xs h k = absurd h
+part_trans (z ∷ zs) (y ∷ ys) [] h k = tt
+part_trans (z ∷ zs) (y ∷ ys) (x ∷ xs) (inl h) (inl k) = inl (k.0 ∙ h.0, part_trans zs ys xs h.1 k.1)
+part_trans (z ∷ zs) (y ∷ ys) (x ∷ xs) (inl h) (inr k) = inr (part_trans zs ys (x ∷ xs) h.1 k)
+part_trans (z ∷ zs) (y ∷ ys) (x ∷ xs) (inr h) k = inr (part_trans zs (y ∷ ys) (x ∷ xs) h k)
+
+goes_taken : (m : Master) (rs taken : List SnapshotRecord) → Goes m rs → Taken m.snapshots taken → Taken rs (taken ++ filter (λ r. ltb m.drawn.snapshots r.id.number) rs)
+goes_taken m rs taken (Stays part) h = subst (λ qs. Taken qs (taken ++ filter (λ r. ltb m.drawn.snapshots r.id.number) rs)) (append_none rs)
+    (more_taken rs taken (filter (λ r. ltb m.drawn.snapshots r.id.number) rs) [] (part_trans (map as_taken taken) (map as_taken m.snapshots) (map as_taken rs) h part) tt)
+goes_taken m rs taken (Adds new drawn is) h = subst (λ qs. Taken qs (taken ++ filter (λ r. ltb m.drawn.snapshots r.id.number) qs)) (sym is)
+    (more_taken m.snapshots taken (filter (λ r. ltb m.drawn.snapshots r.id.number) (m.snapshots ++ new ∷ [])) (new ∷ []) h
+    (last_left (λ r. ltb m.drawn.snapshots r.id.number) m.snapshots new (grind (arith, nat_tests))))
+
+pub all_as_taken : (history : List Entry) (slots : ℕ) → SnapshotsAsTaken slots history
 unfolding replay snapshots_taken
-as_taken [] slots r isin = absurd isin
-as_taken (e ∷ earlier) slots r isin =
+all_as_taken [] slots = tt
+all_as_taken (e ∷ earlier) slots =
     let ps = replay slots earlier in
-    let since = snapshots_since ps.master (next e ps).master in
-    elim (entry_goes e ps r isin) [
-      | inl new ↦ (
-          let later : ltb ps.master.drawn.snapshots r.id.number ≡ true = grind (arith, nat_tests) in
-          record {
-            snapshot = r;
-            was_taken = in_second (snapshots_taken slots earlier) since r (in_filter (next e ps).master.snapshots (λ q. ltb ps.master.drawn.snapshots q.id.number) r isin later);
-            id_is = refl;
-            schedule_is = refl;
-            namespace_is = refl;
-            after_is = refl;
-            at_is = refl;
-          })
-      | inr old ↦ still_taken (snapshots_taken slots earlier) since old.snapshot r (as_taken earlier slots old.snapshot old.was_taken) old.id_is old.schedule_is old.namespace_is old.after_is old.at_is
-    ]
+    goes_taken ps.master (next e ps).master.snapshots (snapshots_taken slots earlier) (entry_goes e ps) (all_as_taken earlier slots)

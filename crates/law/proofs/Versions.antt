@@ -4,15 +4,11 @@ use Rattle.std.specs.List.{filter}
 use Rattle.std.specs.Option.{unwrap_or}
 use Rattle.std.proofs.lemmas.Bool.{true≢false}
 use Rattle.std.proofs.lemmas.Bool.Decides.{nat_tests}
-use Rattle.row_values.specs.Ids.{Id, same}
-use Rattle.row_values.specs.Elements.{In}
-use Rattle.row_values.specs.Schema.{Schema}
-use Rattle.model.specs.Times.{holds_at, before_end, ended, ended_by, is_open}
+use Rattle.model.specs.Cluster.{Id, same, In, Schema, holds_at, before_end, ended, ended_by, is_open, CloneRecord}
 use Rattle.model.specs.Catalog.{Catalog, TableRecord, latest_from, end_tables, tables_at, kept_from, owner_of}
 use Rattle.model.specs.Journal as made
 use Rattle.model.specs.Journal.{NamespaceRestored, source_of, is_in, table_at}
 use Rattle.model.specs.Restored.{back_at, tables_back, restored_tables, newest, cloned_tables}
-use Rattle.model.specs.Records.{CloneRecord}
 use Rattle.model.specs.Drawn.{version_after, first_version}
 use Rattle.model.specs.Answers.{version_at}
 use Rattle.model.specs.History.{with}

@@ -3,14 +3,9 @@ use Rattle.std.proofs.Common.{ℕ, ◌≡◌, ◌≤◌, List, [], ◌∷◌, �
 use Rattle.std.specs.Option.{option_or, option_map}
 use Rattle.std.specs.List.{filter}
 use Rattle.std.proofs.lemmas.Bool.{cond_both}
-use Rattle.row_values.specs.Ids.{Id}
-use Rattle.row_values.specs.Elements.{In, AllOf}
+use Rattle.model.specs.Cluster.{Id, In, AllOf, Listed, Sent, RestorationRecord, RestorationState, Fencing, Restoring, Releasing, CloneRecord, CloneState, Accepted, CloneSnapshot, Copying, CloneReleasing, CloneComplete, is_restored, is_cloned, is_sent, first_unacked, Interval, Act, WorkItem, SendWork, CollectWork, AdvanceWork, Master, Parts}
 use Rattle.model.specs.Tablets.{Command, Body, Fence, Freeze, RestoreFrom, Hide, Release}
-use Rattle.model.specs.Records.{Listed, Sent, RestorationRecord, RestorationState, Fencing, Restoring, Releasing, CloneRecord, CloneState, Accepted, CloneSnapshot, Copying, CloneReleasing, CloneComplete, is_restored, is_cloned, is_sent, first_unacked}
 use Rattle.model.specs.Journal.{Change as Made}
-use Rattle.model.specs.Activity.{Interval}
-use Rattle.model.specs.Acts.{Act, WorkItem, SendWork, CollectWork, AdvanceWork}
-use Rattle.model.specs.Parts.{Master, Parts}
 use Rattle.model.specs.Coordination.{source_slot}
 use Rattle.model.specs.Moves.{Progress, snapshot_progress, restoration_progress, clone_progress}
 use Rattle.model.specs.Work.{unfinished_records, work_at, work_for, first_work, next_work, collecting, act_of_work, next_act}
@@ -40,7 +35,7 @@ known_slot slots ps activity changes l count inv known =
 own_line : (slots : ℕ) (l : Listed) (body : Body) → l.body ≡ body → source_slot l.slot body ≡ l.slot → IsSlot slots l.slot → LineGood slots l
 own_line slots l body is own good = (good, subst (IsSlot slots) (sym (ap (source_slot l.slot) is ∙ own)) good)
 
-after_line : (body : Body) (r : RestorationRecord) (point slots : ℕ) (serving : Id) (l : Listed) → l.body ≡ body → IsAfterSwitch r point serving body → IsSlot slots l.slot → LineGood slots l
+after_line : (body : Body) (r : RestorationRecord) (point slots : ℕ) (serving : Id) (l : Listed) → l.body ≡ body → IsAfterSwitch r.to point serving body → IsSlot slots l.slot → LineGood slots l
 after_line (RestoreFrom snapshot to at version) r point slots serving l is after good = own_line slots l (RestoreFrom snapshot to at version) is refl good
 after_line (Hide ended) r point slots serving l is after good = own_line slots l (Hide ended) is refl good
 after_line _ r point slots serving l is after good = absurd after
@@ -57,7 +52,6 @@ restoring_line _ m changes r slots l good still isin is = absurd (nothing_in r.l
 -- a target is in a slot of the cluster, and so is its source
 cloning_line : (state : CloneState) (slots : ℕ) (ps : Parts) (activity : List Interval) (changes : List Made) (r : CloneRecord) (l : Listed) → ps.master.slots ≡ slots → Inv ps activity changes → CloneGood ps.master changes r → is_cloned r.state ≡ false
     → CloneStateGood state ps.master r → In l r.listed → LineGood slots l
-cloning_line Accepted slots ps activity changes r l count inv good still h isin = absurd (nothing_in r.listed l h isin)
 cloning_line (CloneSnapshot own) slots ps activity changes r l count inv good still h isin = absurd (nothing_in r.listed l h.empty isin)
 cloning_line (Copying serving at) slots ps activity changes r l count inv good still h isin =
     let k = h.bodies l isin in
@@ -70,7 +64,7 @@ cloning_line (Copying serving at) slots ps activity changes r l count inv good s
 cloning_line (CloneReleasing serving at) slots ps activity changes r l count inv good still h isin =
     let k = h.active l isin in
     own_line slots l (Release h.since) (h.bodies l isin) refl (known_slot slots ps activity changes l count inv (record { interval = k.interval; kept = k.kept; tablet_is = k.tablet_is; slot_is = k.slot_is }))
-cloning_line (CloneComplete serving at) slots ps activity changes r l count inv good still h isin = absurd (nothing_in r.listed l h isin)
+cloning_line _ slots ps activity changes r l count inv good still h isin = absurd (nothing_in r.listed l h isin)
 
 not_true : (b : Bool) → not b ≡ true → b ≡ false
 not_true false e = refl

@@ -2,19 +2,22 @@
 //! of definitions alone, and so of no code. Each act has a lemma that it keeps what holds, and a line in the dispatch.
 #![tactic(auto)]
 
-ghost use Rattle.std.specs.Prelude.{◌≡◌, ℕ, ◌≤◌, List, ◌∷◌, ◌++◌, filter};
+ghost use Rattle.std.specs.Prelude.{◌≡◌, ◌⊎◌, ℕ, ◌≤◌, Some, true, is_some, List, ◌∷◌, ◌++◌};
 ghost use Rattle.model.specs.Scripts.{Numbered};
 ghost use Rattle.model_runs.specs.Courses.{ScriptAsked};
 ghost use Rattle.model_runs.specs.Running.{run_of};
 ghost use Rattle.model.specs.Entries.{Entry};
 ghost use Rattle.row_values.specs.Elements.{AllOf, In};
 ghost use Rattle.row_values.specs.Ids.{Id};
-ghost use Rattle.model.specs.History.{Legal, replay, journal_of, activity_of, scheduled_since, snapshots_taken};
+ghost use Rattle.model.specs.Catalog.{owner_of};
+ghost use Rattle.model.specs.Journal.{owner_in, source_of};
+ghost use Rattle.model.specs.Records.{CloneRecord};
+ghost use Rattle.model.specs.History.{Legal, RefusedTicks, replay, journal_of, activity_of, scheduled_since, snapshots_taken};
 ghost use Rattle.model.specs.Cleanup.{pruned};
 ghost use Rattle.model.specs.Retained.{Retained, RowsFound};
 ghost use Rattle.model.specs.Taking.{MarkRaised, TakesNothingNeeded};
 ghost use Rattle.model.specs.Drawn.{DrawnBelow, DrawnWithin, DrawsInTurn, most_slots, SchemasDrawn, SnapshotsAsTaken};
-ghost use Rattle.model.specs.Once.{CloneAsked, ClonesOnce, RestoreAsked, RestoresOnce, changes_asked, clones_asked, is_whole, restores_asked};
+ghost use Rattle.model.specs.Once.{Once};
 ghost use Rattle.model.specs.Entering.{ClocksAfter, EntersAt, EntersOnce, entered};
 ghost use Rattle.model.specs.Replies.{Right};
 ghost use Rattle.model.specs.Right.{FixedStays};
@@ -27,16 +30,20 @@ ghost use Rattle.law_invariants.specs.Invariant.{Inv};
 /// that were active then cover the codes, none twice, tablets that were removed since counted in; no range is empty
 /// or ends beyond the codes. Each tablet that the master knows is in its slot, and stands for the journal: what is
 /// read of its live store from its cutoff on, and of a frozen set up to its time, is the view's row. An active one
-/// that awaits no rows has the version of its table's current schema. And the states of the records of operations say
-/// of the parts what they have to.
+/// that awaits no rows has the version of its table's current schema. The catalog has each table of the journal in the
+/// namespace in which it was made, and besides those alone that a clone's record has for its target. The states of the
+/// records of operations say of the parts what they have to. And a refused entry changes the clocks of the parts that it
+/// touches alone; an ack that finds its command not done clears its sent mark besides.
 pub fn legal_is_right()
     ensures right { (slots : ℕ) (history : List Entry) → Legal slots history → Right slots history }
     ensures holds { (slots : ℕ) (history : List Entry) → Legal slots history → Inv (replay slots history) (activity_of slots history) (journal_of slots history) }
     ensures stands { (slots : ℕ) (history : List Entry) → Legal slots history → Stands (replay slots history) (journal_of slots history) }
+    ensures owned { (slots : ℕ) (history : List Entry) (table ns : Id) → Legal slots history → owner_of (replay slots history).master.catalog.owners table ≡ Some ns → (owner_in (journal_of slots history) table ≡ Some ns) ⊎ ((c : CloneRecord) × (In c (replay slots history).master.clones × ((c.target_id ≡ ns) × (is_some (source_of c.tables table) ≡ true)))) }
     ensures versions { (slots : ℕ) (history : List Entry) → Legal slots history → VersionsStand (replay slots history) }
     ensures facts { (slots : ℕ) (history : List Entry) → Legal slots history → RecordFacts (replay slots history) (journal_of slots history) }
     ensures cover { (slots : ℕ) (history : List Entry) → Legal slots history → Divides (activity_of slots history) (journal_of slots history) }
     ensures fixed { (slots : ℕ) (history : List Entry) → Legal slots history → FixedStays (journal_of slots history) }
+    ensures refused { (slots : ℕ) (e : Entry) (earlier : List Entry) → Legal slots (e ∷ earlier) → RefusedTicks e (replay slots earlier) }
 {}
 
 /// Each entry of a legal history draws as many identifiers of each kind as its act takes. They are those of the
@@ -45,8 +52,8 @@ pub fn legal_is_right()
 /// draws few: at most so many of each kind, for each entry of the master's log. So numbers of identifiers stay below
 /// their bound, of which code makes its identifiers. A new column gets one more than the greatest id that was ever
 /// given to its table; and the newest schema that the catalog keeps of a table has as its version the changes of
-/// columns, and the restores and the clone, that made the table current, counted from 1. A kept snapshot is as it was
-/// taken, in any history.
+/// columns, and the restores and the clone, that made the table current, counted from 1. Kept snapshots are as they
+/// were taken, and in that order, in any history.
 pub fn numbers_are_drawn()
     ensures drawn { (slots : ℕ) (history : List Entry) → Legal slots history → DrawsInTurn slots history }
     ensures within { (slots : ℕ) (history : List Entry) → Legal slots history → slots ≤ most_slots → DrawnWithin slots history }
@@ -60,23 +67,21 @@ pub fn numbers_are_drawn()
 /// restoration's point, that of a clone's copies, and the one at which its target became current. A tablet
 /// that was given a command has a clock above the stamp at which the record entered the state that gives it. An
 /// accepted command to restore or to clone has a record as it was asked; its moves made one restore, or one clone, of
-/// the journal, or none yet. The journal has no others.
+/// the journal, or none yet. The journal has no others. No tablet does a command of an operation twice.
 pub fn operations_come_once()
     ensures entered { (slots : ℕ) (history : List Entry) → Legal slots history → EntersOnce (replay slots history) (entered slots history) }
     ensures stamps { (slots : ℕ) (history : List Entry) → Legal slots history → EntersAt (replay slots history) (entered slots history) }
     ensures clocks { (slots : ℕ) (history : List Entry) → Legal slots history → ClocksAfter (replay slots history) (entered slots history) }
-    ensures restores { (slots : ℕ) (history : List Entry) (asked : RestoreAsked) → Legal slots history → In asked (restores_asked slots history) → RestoresOnce slots history asked }
-    ensures clones { (slots : ℕ) (history : List Entry) (asked : CloneAsked) → Legal slots history → In asked (clones_asked slots history) → ClonesOnce slots history asked }
-    ensures journal { (slots : ℕ) (history : List Entry) → Legal slots history → filter (λ c. is_whole c.act) (journal_of slots history) ≡ changes_asked slots history }
+    ensures once { (slots : ℕ) (history : List Entry) → Legal slots history → Once slots history }
 {}
 
 /// Retention holds of what a legal history leaves: each tablet that was active from the floor of a
 /// namespace with a schedule on is present, its rows at each time from the floor on can be had, cutoffs
 /// and the catalog's marks pass nothing that is needed, a record in progress finds its tablets, and all
 /// snapshots that were ever taken follow each other. A command in an inbox finds the rows that it takes
-/// from a frozen set: they are never gone. No act of such a history takes anything that
-/// a time needs, from the floor up to the master's clock; and a prune on what it leaves raises a mark at
-/// most to the less of the floor and 900 seconds before its stamp.
+/// from a frozen set: they are never gone. No act of such a history takes anything that a time needs,
+/// from the floor on, before the act's stamp where the master takes part in it; and a prune on what it
+/// leaves raises a mark at most to the less of the floor and 900 seconds before its stamp.
 pub fn retention_is_kept()
     ensures retained { (slots : ℕ) (history : List Entry) → Legal slots history → Retained (replay slots history) (activity_of slots history) (snapshots_taken slots history) (scheduled_since slots history) }
     ensures found { (slots : ℕ) (history : List Entry) → Legal slots history → RowsFound (replay slots history) }

@@ -9,11 +9,12 @@ use Rattle.row_values.specs.Ids.{Id}
 use Rattle.row_values.specs.Slots.{same_slots}
 use Rattle.model.specs.Activity.{Interval}
 use Rattle.model.specs.Catalog.{namespace_named, current_named}
-use Rattle.model.specs.Journal.{Change as Made}
+use Rattle.model.specs.Journal.{Change as Made, namespace_at}
+use Rattle.model.specs.Right.{NamespaceFound}
 use Rattle.model.specs.Schedules.{next_due}
-use Rattle.model.specs.Acts.{Command, CreateNamespace, DropNamespace, CreateTable, AddColumn, DropColumn, RenameTable, DropTable, Split, CreateSchedule, EditSchedule, DeleteSchedule, TakeSnapshot, Restore, CloneNamespace, ListSchedules, ListSnapshots, ListRestorations, ListClones, ListTablets, Refusal, UnknownNamespace, UnknownTable, UnknownColumn, UnknownSchedule, BadPeriod, NotEmpty, UnderSchedule, TooMany, SlotsFull, TooNarrow, NotDue, Refused, Tablets, TabletLine}
+use Rattle.model.specs.Acts.{Command, CreateNamespace, DropNamespace, CreateTable, AddColumn, DropColumn, RenameTable, DropTable, Split, CreateSchedule, EditSchedule, DeleteSchedule, TakeSnapshot, Restore, CloneNamespace, ListSchedules, ListSnapshots, ListRestorations, ListClones, ListTablets, Refusal, UnknownNamespace, UnknownTable, UnknownColumn, UnknownSchedule, BadPeriod, NotEmpty, UnderSchedule, TooMany, SlotsFull, TooNarrow, NotDue, Refused, Tablets}
 use Rattle.model.specs.Looks.{free_slots, found_namespace, found_table, found_parent, Parent, family, holding, plan_of}
-use Rattle.model.specs.Lines.{tablet_lines, schedule_lines, snapshot_lines, restoration_lines, clone_lines}
+use Rattle.model.specs.Lines.{tablet_lines}
 use Rattle.model.specs.Changes.{most_namespaces, most_tables, most_columns, most_schedules, create_namespace, create_namespace_checks, judge_create_namespace, drop_namespace, drop_namespace_checks, judge_drop_namespace, create_table, create_table_checks, judge_create_table, add_column, add_column_checks, judge_add_column, drop_column, column_of, found_column, unheld_checks, judge_drop_column, rename_table, rename_table_checks, judge_rename_table, drop_table, judge_drop_table, split, split_checks, judge_split, create_schedule, create_schedule_checks, judge_create_schedule, edit_schedule, edit_schedule_checks, found_schedule, judge_edit_schedule, delete_schedule, delete_schedule_checks, judge_delete_schedule, take_snapshot, take_snapshot_checks, judge_take_snapshot, list_tablets, planned, change}
 use Rattle.model.specs.Changed.{next_namespace, next_table, next_schedule, next_tablet}
 use Rattle.model.specs.Lists.{next_snapshot}
@@ -24,6 +25,7 @@ use Rattle.law_invariants.specs.Invariant.{Inv}
 use Rattle.law_invariants.proofs.Finding.{passes_both}
 use Rattle.law_invariants.proofs.Ticking.{not_true}
 use Rattle.law_invariants.proofs.Told.{slots_equal}
+use Rattle.law_answers.proofs.Looking.{asked, namespace_found, no_namespace}
 use Rattle.law_answers.proofs.Naming.{RecordsApart}
 use Rattle.law_answers.proofs.Refusing.{Refuses, missing_is, found_is, checked_is, decided_answers}
 use Rattle.law_answers.proofs.Windows.{restore_answered, clone_answered}
@@ -49,7 +51,7 @@ granted_refuses : {A : Type 0} (Why : Refusal → Type 0) (a : A) → Refuses Wh
 granted_refuses Why a why e = absurd (let q = e in grind arith)
 
 pub command_answered : (command : Command) (slots : List ℕ) (n : ℕ) (ps : Parts) (activity : List Interval) (changes : List Made) → ps.master.clock < n → Inv ps activity changes → RecordsApart ps.master.catalog.namespaces
-    → CommandAnswer command (planned command slots n ps).reply n ps changes
+    → CommandAnswer command (planned command slots n ps).reply n ps activity changes
 unfolding create_namespace drop_namespace create_table add_column drop_column rename_table drop_table split create_schedule edit_schedule delete_schedule take_snapshot list_tablets
 command_answered (CreateNamespace name) slots n ps activity changes before inv apart =
     let W : Refusal → Type 0 = λ why. IsNameTaken why ⊎ (why ≡ TooMany most_namespaces) in
@@ -129,16 +131,19 @@ command_answered (TakeSnapshot schedule) slots n ps activity changes before inv 
     (λ s. (next_snapshot m, refl))
 command_answered (Restore schedule to) slots n ps activity changes before inv apart = restore_answered schedule to n ps.master
 command_answered (CloneNamespace source target at) slots n ps activity changes before inv apart = clone_answered ps activity changes n source target at before inv apart
-command_answered ListSchedules slots n ps activity changes before inv apart = (schedule_lines n ps.master, refl)
-command_answered ListSnapshots slots n ps activity changes before inv apart = (snapshot_lines ps.master, refl)
-command_answered ListRestorations slots n ps activity changes before inv apart = (restoration_lines ps.master, refl)
-command_answered ListClones slots n ps activity changes before inv apart = (clone_lines ps.master, refl)
-command_answered (ListTablets namespace) slots n ps activity changes before inv apart = by (namespace_named ps.master.catalog.namespaces namespace)
+command_answered ListSchedules slots n ps activity changes before inv apart = refl
+command_answered ListSnapshots slots n ps activity changes before inv apart = refl
+command_answered ListRestorations slots n ps activity changes before inv apart = refl
+command_answered ListClones slots n ps activity changes before inv apart = refl
+command_answered (ListTablets namespace) slots n ps activity changes before inv apart =
+    let h = asked ps.master n changes before inv.master in
+    by (namespace_named ps.master.catalog.namespaces namespace) (λ none. no_namespace ps.master n changes namespace h none) (λ id some. namespace_found ps.master n changes namespace id h some)
   where
-    by : (found : Option Id) → ((lines : List TabletLine) × ((decided (ok_or found UnknownNamespace) (λ ns. answered (Tablets (tablet_lines ps.master ns)))).reply ≡ Tablets lines))
-        ⊎ ((decided (ok_or found UnknownNamespace) (λ ns. answered (Tablets (tablet_lines ps.master ns)))).reply ≡ Refused UnknownNamespace)
-    by None = inr refl
-    by (Some ns) = inl (tablet_lines ps.master ns, refl)
+    by : (found : Option Id) → (found ≡ None → NamespaceFound changes n namespace → ⊥) → ((id : Id) → found ≡ Some id → namespace_at changes n id ≡ Some namespace)
+        → ((ns : NamespaceFound changes n namespace) × ((decided (ok_or found UnknownNamespace) (λ ns. answered (Tablets (tablet_lines ps.master ns)))).reply ≡ Tablets (tablet_lines ps.master ns.id)))
+        ⊎ ((NamespaceFound changes n namespace → ⊥) × ((decided (ok_or found UnknownNamespace) (λ ns. answered (Tablets (tablet_lines ps.master ns)))).reply ≡ Refused UnknownNamespace))
+    by None missing there = inr (missing refl, refl)
+    by (Some ns) missing there = inl (record { id = ns; named = there ns refl }, refl)
 
 -- The plan
 
@@ -151,7 +156,7 @@ pub slots_apart : (slots plan : List ℕ) → same_slots slots plan ≡ false �
 slots_apart slots plan e is = true≢false (sym (ap (same_slots slots) (sym is) ∙ slots_self slots) ∙ e)
 
 pub change_answered : (command : Command) (slots : List ℕ) (n : ℕ) (ps : Parts) (activity : List Interval) (changes : List Made) → ps.master.clock < n → Inv ps activity changes → RecordsApart ps.master.catalog.namespaces
-    → ChangeAnswer command slots (change command slots n ps).reply n ps changes
+    → ChangeAnswer command slots (change command slots n ps).reply n ps activity changes
 unfolding change
 change_answered command slots n ps activity changes before inv apart =
     let plan = plan_of command ps.master in

@@ -7,6 +7,7 @@ use Rattle.row_values.specs.Elements.{In}
 use Rattle.model.specs.Times.{holds_at, time_of, is_future, is_below}
 use Rattle.model.specs.Catalog.{TableRecord, namespace_named, name_of, table_named, current_named, current_table, kept_from}
 use Rattle.model.specs.Restored.{record_at}
+use Rattle.model.specs.Activity.{Interval}
 use Rattle.model.specs.Journal.{Change, namespace_at, table_at}
 use Rattle.model.specs.Looks.{found_at, table_asked, if_current}
 use Rattle.model.specs.Acts.{Refusal, UnknownNamespace, UnknownTable, Future, TooOld}
@@ -92,9 +93,9 @@ abbrev pub VersionsThen : List TableRecord → List Change → Type 0
 VersionsThen rs changes = (r : TableRecord) (x : ℕ) → In r rs → holds_at x r.from r.to ≡ true → version_at changes x r.id ≡ r.schema.version
 
 -- a look by the master's catalog and activity
-abbrev pub look_of : List ℕ → List ℕ → Option ℕ → ℕ → Master → List Change → TableLook
-look_of namespace table at n m changes =
-    record { namespace = namespace; table = table; at = at; now = n; changes = changes; marks = m.catalog.kept_from; activity = m.activity }
+abbrev pub look_of : List ℕ → List ℕ → Option ℕ → ℕ → Master → List Interval → List Change → TableLook
+look_of namespace table at n m activity changes =
+    record { namespace = namespace; table = table; at = at; now = n; changes = changes; marks = m.catalog.kept_from; activity = activity }
 
 -- the table that the records have is that of the view at the asked time, in its version then
 pub record FoundThen (q : TableLook) (t : TableRecord) : Type 0 where
@@ -103,9 +104,9 @@ pub record FoundThen (q : TableLook) (t : TableRecord) : Type 0 where
   pub id_is : table.found.id ≡ t.id
   pub version_is : t.schema.version ≡ version_at q.changes (time_of q.at q.now) table.found.id
 
-view_found : (m : Master) (n : ℕ) (changes : List Change) (namespace table : List ℕ) (at : Option ℕ) (ns : Id) (t : TableRecord) → IsAsked m n changes → VersionsThen m.catalog.tables changes → namespace_named m.catalog.namespaces namespace ≡ Some ns
-    → is_future at n ≡ false → is_below at (kept_from m.catalog.kept_from ns) ≡ false → IsFoundAt m n (time_of at n) ns table t → FoundThen (look_of namespace table at n m changes) t
-view_found m n changes namespace table at ns t h versions named over below f =
+view_found : (m : Master) (n : ℕ) (activity : List Interval) (changes : List Change) (namespace table : List ℕ) (at : Option ℕ) (ns : Id) (t : TableRecord) → IsAsked m n changes → VersionsThen m.catalog.tables changes → namespace_named m.catalog.namespaces namespace ≡ Some ns
+    → is_future at n ≡ false → is_below at (kept_from m.catalog.kept_from ns) ≡ false → IsFoundAt m n (time_of at n) ns table t → FoundThen (look_of namespace table at n m activity changes) t
+view_found m n activity changes namespace table at ns t h versions named over below f =
     let x = time_of at n in
     let kept = asked_kept m n changes ns at h below in
     let kept_then : kept_from m.catalog.kept_from t.namespace ≤ x = subst (λ k. kept_from m.catalog.kept_from k ≤ x) (sym f.is.namespace_is) kept in
@@ -169,16 +170,16 @@ at_namespace ns table at n m =
     (λ ns. table_asked m.catalog.tables ns table at) UnknownTable
 
 -- a look is refused with its cause, or finds the table that the view has
-pub found_answers : (P : Result TableRecord Refusal → Type 0) (m : Master) (n : ℕ) (changes : List Change) (namespace table : List ℕ) (at : Option ℕ) → IsAsked m n changes → VersionsThen m.catalog.tables changes
-    → ((why : Refusal) → LookRefused (look_of namespace table at n m changes) why → P (Err why)) → ((t : TableRecord) → FoundThen (look_of namespace table at n m changes) t → P (Ok t)) → P (found_at namespace table at n m)
-found_answers P m n changes namespace table at h versions no_ yes_ = by_namespace (namespace_named m.catalog.namespaces namespace) refl
+pub found_answers : (P : Result TableRecord Refusal → Type 0) (m : Master) (n : ℕ) (activity : List Interval) (changes : List Change) (namespace table : List ℕ) (at : Option ℕ) → IsAsked m n changes → VersionsThen m.catalog.tables changes
+    → ((why : Refusal) → LookRefused (look_of namespace table at n m activity changes) why → P (Err why)) → ((t : TableRecord) → FoundThen (look_of namespace table at n m activity changes) t → P (Ok t)) → P (found_at namespace table at n m)
+found_answers P m n activity changes namespace table at h versions no_ yes_ = by_namespace (namespace_named m.catalog.namespaces namespace) refl
   where
     by_table : (ns : Id) (found : Option TableRecord) → namespace_named m.catalog.namespaces namespace ≡ Some ns → is_future at n ≡ false → is_below at (kept_from m.catalog.kept_from ns) ≡ false
         → table_asked m.catalog.tables ns table at ≡ found → P (ok_or found UnknownTable)
     by_table ns None named over below e =
         no_ UnknownTable (NoTable (record { id = ns; named = namespace_found m n changes namespace ns h named }) (record { over = over; kept = below })
         (no_table m n changes namespace table ns at h named (asked_kept m n changes ns at h below) e))
-    by_table ns (Some t) named over below e = yes_ t (view_found m n changes namespace table at ns t h versions named over below (table_found m n changes ns table at t h e))
+    by_table ns (Some t) named over below e = yes_ t (view_found m n activity changes namespace table at ns t h versions named over below (table_found m n changes ns table at t h e))
 
     by_namespace : (ns : Option Id) → namespace_named m.catalog.namespaces namespace ≡ ns → P (at_namespace ns table at n m)
     by_namespace None e = no_ UnknownNamespace (NoNamespace (no_namespace m n changes namespace h e))

@@ -23,9 +23,8 @@ use Rattle.law_invariants.specs.Invariant.{Covered, Inv, IsPast, EndsBy}
 use Rattle.law_invariants.specs.Remembered.{Remembered}
 use Rattle.law_invariants.proofs.Finding.{both_pass, passes_both, same_equal, same_self, map_in, in_mapped, in_filter, filter_in, find_is, find_none}
 use Rattle.law_invariants.proofs.Overlap.{holds, one_holder, holder_there, code_below}
-use Rattle.law_invariants.proofs.Parting.{part_in, part_counts, part_left, part_same}
+use Rattle.law_invariants.proofs.Parting.{part_in, part_counts, part_left, part_same, ordered_has, ordered_only, all_past, AllPast}
 use Rattle.law_invariants.proofs.Judging.{step_fault, step_found}
-use Rattle.law_invariants.proofs.Placing.{ordered_has, ordered_only, all_past, AllPast}
 use Rattle.law_invariants.proofs.Remembering.{still_kept}
 use Rattle.law_answers.proofs.Looking.{asked, VersionsThen, look_of, FoundThen, found_answers}
 
@@ -109,47 +108,46 @@ by_range_rises table n [] h = tt
 by_range_rises table n (i ∷ is) h = put_rises i (by_range is) (λ j isin. low_apart table n i is j h (ordered_only _ is j isin)) (by_range_rises table n is (once_rest table n i is h))
 
 -- what a look at tablets goes by, beside the catalog
-record IsSeen (m : Master) (n : ℕ) (changes : List Change) : Type 0 where
-  activity : List Interval
+record IsSeen (m : Master) (n : ℕ) (activity : List Interval) (changes : List Change) : Type 0 where
   before : m.clock < n
   past : AllPast m
   remembered : Remembered m activity
   cover : Covered activity changes
 
-seen : (ps : Parts) (activity : List Interval) (changes : List Change) (n : ℕ) → ps.master.clock < n → Inv ps activity changes → IsSeen ps.master n changes
-seen ps activity changes n before inv = record { activity = activity; before = before; past = all_past ps activity changes inv; remembered = inv.remembered; cover = inv.cover }
+seen : (ps : Parts) (activity : List Interval) (changes : List Change) (n : ℕ) → ps.master.clock < n → Inv ps activity changes → IsSeen ps.master n activity changes
+seen ps activity changes n before inv = record { before = before; past = all_past ps activity changes inv; remembered = inv.remembered; cover = inv.cover }
 
-each_once : (m : Master) (n : ℕ) (changes : List Change) (table : Id) → IsSeen m n changes → EachOnce table n (active_in m table)
-each_once m n changes table h = record {
+each_once : (m : Master) (n : ℕ) (activity : List Interval) (changes : List Change) (table : Id) → IsSeen m n activity changes → EachOnce table n (active_in m table)
+each_once m n activity changes table h = record {
   of_table = λ i isin. (active_only m n table i h.before h.past isin).1;
-  ranges = λ i isin. h.cover.ranges i (part_in h.activity m.activity i h.remembered.part (active_only m n table i h.before h.past isin).0);
+  ranges = λ i isin. h.cover.ranges i (part_in activity m.activity i h.remembered.part (active_only m n table i h.before h.past isin).0);
   once = λ code below.
       le_trans (part_counts m.activity (active_in m table) table code n (part_left (λ i. is_open i.to && same i.table table) m.activity m.activity (part_same m.activity)))
-      (le_trans (part_counts h.activity m.activity table code n h.remembered.part) (h.cover.once table code n below));
+      (le_trans (part_counts activity m.activity table code n h.remembered.part) (h.cover.once table code n below));
 }
 
-places_are : (m : Master) (n : ℕ) (changes : List Change) (table : Id) → IsSeen m n changes → ArePlaces m.activity n table (map place_of (by_range (active_in m table)))
-places_are m n changes table h = record {
-  each = in_mapped place_of (IsActivePlace m.activity n table) (by_range (active_in m table)) (λ i isin.
+places_are : (m : Master) (n : ℕ) (activity : List Interval) (changes : List Change) (table : Id) → IsSeen m n activity changes → ArePlaces activity n table (map place_of (by_range (active_in m table)))
+places_are m n activity changes table h = record {
+  each = in_mapped place_of (IsActivePlace activity n table) (by_range (active_in m table)) (λ i isin.
       let a = active_only m n table i h.before h.past (ordered_only _ (active_in m table) i isin) in
-      record { interval = i; listed = a.0; table_is = a.1.0; active = a.1.1; placed = refl });
-  all = λ i isin is active. map_in place_of (by_range (active_in m table)) i (ordered_has _ (active_in m table) i (active_has m n table i h.before h.past isin is active));
-  rising = by_range_rises table n (active_in m table) (each_once m n changes table h);
+      record { interval = i; listed = part_in activity m.activity i h.remembered.part a.0; table_is = a.1.0; active = a.1.1; placed = refl });
+  all = λ i isin is active. map_in place_of (by_range (active_in m table)) i (ordered_has _ (active_in m table) i (active_has m n table i h.before h.past (still_kept m activity i n h.remembered h.before isin active) is active));
+  rising = by_range_rises table n (active_in m table) (each_once m n activity changes table h);
 }
 
 pub table_answered : (ps : Parts) (n : ℕ) (activity : List Interval) (changes : List Change) (namespace table : List ℕ) (at : Option ℕ) → ps.master.clock < n → Inv ps activity changes → VersionsThen ps.master.catalog.tables changes
-    → TableAnswer (look_of namespace table at n ps.master changes) (look_table namespace table at n ps.master).reply
+    → TableAnswer (look_of namespace table at n ps.master activity changes) (look_table namespace table at n ps.master).reply
 unfolding look_table
 table_answered ps n activity changes namespace table at before inv versions =
     let m = ps.master in
-    let q = look_of namespace table at n m changes in
+    let q = look_of namespace table at n m activity changes in
     let h = seen ps activity changes n before inv in
     let P : Result TableRecord Refusal → Type 0 = λ j. TableAnswer q (decided j (λ t. placed (by_range (active_in m t.id)) t)).reply in
-    found_answers P m n changes namespace table at (asked m n changes before inv.master) versions
+    found_answers P m n activity changes namespace table at (asked m n changes before inv.master) versions
     (λ why refused. TableRefused why refused)
     (λ t found. TablePlaced (map place_of (by_range (active_in m t.id))) t.schema.version t.schema.columns found.table
     (record { version_is = found.version_is; columns_are = ap (λ v. v.columns) (sym found.view_is) })
-    (subst (λ k. ArePlaces m.activity n k (map place_of (by_range (active_in m t.id)))) (sym found.id_is) (places_are m n changes t.id h)))
+    (subst (λ k. ArePlaces activity n k (map place_of (by_range (active_in m t.id)))) (sym found.id_is) (places_are m n activity changes t.id h)))
 
 -- The tablet that holds the keys
 
@@ -158,28 +156,28 @@ first_below [] = omega arith
 first_below (item ∷ items) = code_below item.key
 
 -- a current table has a tablet that holds the code
-home_there : (m : Master) (n : ℕ) (changes : List Change) (table : Id) (code : ℕ) → code < 65536 → IsSeen m n changes → is_some (table_at changes n table) ≡ true → holding m table code ≡ None → ⊥
-home_there m n changes table code below h current none =
+home_there : (m : Master) (n : ℕ) (activity : List Interval) (changes : List Change) (table : Id) (code : ℕ) → code < 65536 → IsSeen m n activity changes → is_some (table_at changes n table) ≡ true → holding m table code ≡ None → ⊥
+home_there m n activity changes table code below h current none =
     let one = h.cover.whole table code n below current in
-    let holder = holder_there h.activity table code n (omega (arith, one)) in
+    let holder = holder_there activity table code n (omega (arith, one)) in
     let i = holder.0 in
     let outer = both_pass (same i.table table) (active_at n i && in_range i.low i.high code) holder.1.1 in
     let inner = both_pass (active_at n i) (in_range i.low i.high code) outer.1 in
-    let listed = still_kept m h.activity i n h.remembered h.before holder.1.0 inner.0 in
+    let listed = still_kept m activity i n h.remembered h.before holder.1.0 inner.0 in
     true≢false (sym inner.1 ∙ find_none (λ i. in_range i.low i.high code) (active_in m table) none i (active_has m n table i h.before h.past listed (same_equal i.table table outer.0) inner.0))
 
 pub keys_answered : (ps : Parts) (n : ℕ) (activity : List Interval) (changes : List Change) (namespace table : List ℕ) (batch : List NamedItem) (at : Option ℕ) → ps.master.clock < n → Inv ps activity changes → VersionsThen ps.master.catalog.tables changes
-    → KeysAnswer (look_of namespace table at n ps.master changes) batch (look_keys namespace table batch at n ps.master).reply
+    → KeysAnswer (look_of namespace table at n ps.master activity changes) batch (look_keys namespace table batch at n ps.master).reply
 unfolding look_keys
 keys_answered ps n activity changes namespace table batch at before inv versions =
     let m = ps.master in
-    let q = look_of namespace table at n m changes in
+    let q = look_of namespace table at n m activity changes in
     let h = seen ps activity changes n before inv in
     let first = first_code batch in
     let last : TableRecord → List Check = λ t. Fault (option_map (CrossTablet first) (other_code (holding m t.id first) batch)) ∷ [] in
     let go : TableRecord → Outcome = λ t. placed (option_to_list (holding m t.id first)) t in
     let P : Result TableRecord Refusal → Type 0 = λ j. KeysAnswer q batch (decided (checked j (λ t. Fault (batch_fault t.schema.columns batch) ∷ last t)) go).reply in
-    found_answers P m n changes namespace table at (asked m n changes before inv.master) versions
+    found_answers P m n activity changes namespace table at (asked m n changes before inv.master) versions
     (λ why refused. KeysRefused why refused)
     (λ t found.
     let same_fault : batch_fault found.table.found.view.columns batch ≡ batch_fault t.schema.columns batch = ap (λ v. batch_fault v.columns batch) found.view_is in
@@ -187,18 +185,18 @@ keys_answered ps n activity changes namespace table batch at before inv versions
     step_fault Q (batch_fault t.schema.columns batch) (last t) (λ why some. Faulty why found.table (same_fault ∙ some))
     (λ sound. at_home t found (same_fault ∙ sound) (holding m t.id first) refl go refl))
   where
-    at_home : (t : TableRecord) (found : FoundThen (look_of namespace table at n ps.master changes) t) → batch_fault found.table.found.view.columns batch ≡ None → (home : Option Interval) → holding ps.master t.id (first_code batch) ≡ home
+    at_home : (t : TableRecord) (found : FoundThen (look_of namespace table at n ps.master activity changes) t) → batch_fault found.table.found.view.columns batch ≡ None → (home : Option Interval) → holding ps.master t.id (first_code batch) ≡ home
         → (go : TableRecord → Outcome) → go t ≡ placed (option_to_list home) t
-        → KeysAnswer (look_of namespace table at n ps.master changes) batch (decided (either (refusal_in (Fault (option_map (CrossTablet (first_code batch)) (other_code home batch)) ∷ [])) t) go).reply
+        → KeysAnswer (look_of namespace table at n ps.master activity changes) batch (decided (either (refusal_in (Fault (option_map (CrossTablet (first_code batch)) (other_code home batch)) ∷ [])) t) go).reply
     at_home t found sound None e go is = absurd (
         let current : is_some (table_at changes n t.id) ≡ true = subst (λ k. is_some (table_at changes n k) ≡ true) found.id_is found.table.found.current in
-        home_there ps.master n changes t.id (first_code batch) (first_below batch) (seen ps activity changes n before inv) current e)
+        home_there ps.master n activity changes t.id (first_code batch) (first_below batch) (seen ps activity changes n before inv) current e)
     at_home t found sound (Some i) e go is =
-        let q = look_of namespace table at n ps.master changes in
+        let q = look_of namespace table at n ps.master activity changes in
         let h = seen ps activity changes n before inv in
         let held = find_is (λ i. in_range i.low i.high (first_code batch)) (active_in ps.master t.id) i e in
         let a = active_only ps.master n t.id i h.before h.past held.listed in
-        let home : HomeOf ps.master.activity n found.table.found.id (first_code batch) = record { interval = i; listed = a.0; table_is = a.1.0 ∙ sym found.id_is; active = a.1.1; holds = held.passes } in
+        let home : HomeOf activity n found.table.found.id (first_code batch) = record { interval = i; listed = part_in activity ps.master.activity i h.remembered.part a.0; table_is = a.1.0 ∙ sym found.id_is; active = a.1.1; holds = held.passes } in
         let Q : Option Refusal → Type 0 = λ why. KeysAnswer q batch (decided (either why t) go).reply in
         step_found Q (code_outside i batch) (CrossTablet (first_code batch)) []
         (λ other some. Apart (first_code batch) other found.table sound home refl some)

@@ -1,10 +1,9 @@
 -- Commands under their plans: a stale plan is refused, and each command on namespaces and tables keeps what holds.
 use Rattle.std.proofs.Common.{ℕ, ◌≡◌, List, ◌∷◌, true, refl}
-use Rattle.row_values.specs.Slots.{same_slots}
+use Rattle.model.specs.Cluster.{same_slots, Parts, Interval}
 use Rattle.model.specs.Journal.{Change as Made}
 use Rattle.model.specs.Entries.{CommandAsked, slots_of}
 use Rattle.model.specs.Acts.{Command, CreateNamespace, DropNamespace, CreateTable, AddColumn, DropColumn, RenameTable, DropTable, ListSchedules, ListSnapshots, ListRestorations, ListClones, ListTablets, Change, Schedules, Snapshots, Restorations, Clones, Tablets}
-use Rattle.model.specs.Parts.{Parts}
 use Rattle.model.specs.Looks.{found_namespace, plan_of}
 use Rattle.model.specs.Lines.{schedule_lines, snapshot_lines, restoration_lines, clone_lines, tablet_lines}
 use Rattle.model.specs.Changes.{planned, list_tablets}
@@ -16,8 +15,7 @@ use Rattle.law_changes.proofs.Namespaces.{create_namespace_keeps, drop_namespace
 use Rattle.law_changes.proofs.Schemas.{add_column_keeps, drop_column_keeps, rename_table_keeps}
 use Rattle.law_changes.proofs.Dropping.{drop_table_keeps}
 use Rattle.law_changes.proofs.Creating.{create_table_keeps}
-use Rattle.model.specs.Activity.{Interval}
-use Rattle.law_invariants.proofs.Stale.{change_keeps}
+use Rattle.law_invariants.proofs.Judging.{change_keeps}
 
 list_tablets_keeps : (ps : Parts) (activity : List Interval) (changes : List Made) (n : ℕ) (namespace slots : List ℕ) → Later (0 ∷ slots) ps n → Inv ps activity changes
     → KeepsAll (Change (ListTablets namespace) slots) n ps activity changes (list_tablets namespace ps.master)

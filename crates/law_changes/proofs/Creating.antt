@@ -4,22 +4,13 @@ use Rattle.std.specs.Prelude.{Ok}
 use Rattle.std.specs.Option.{is_some}
 use Rattle.std.proofs.lemmas.Bool.{true≢false}
 use Rattle.std.proofs.lemmas.Bool.Decides.{nat_tests}
-use Rattle.row_values.specs.Ids.{Kind, Table, Tablet as TabletKind, Id, same}
-use Rattle.row_values.specs.Elements.{In}
-use Rattle.row_values.specs.Slots.{has, same_slots}
-use Rattle.row_values.specs.Schema.{NewColumn, first_schema, numbered}
-use Rattle.model.specs.Activity.{Interval}
-use Rattle.model.specs.Catalog.{Catalog, NamespaceRecord, owner_of, namespace_named}
+use Rattle.model.specs.Cluster.{Kind, TableKind as Table, TabletKind, Id, same, In, has, same_slots, NewColumn, first_schema, numbered, Interval, Catalog, NamespaceRecord, owner_of, namespace_named, is_open, Tablet, Make, act_for, effect, CreateTable, Change, Master, Parts, Drawn, MakesTable}
 use Rattle.model.specs.Drawn.{drawn_of}
-use Rattle.model.specs.Times.{is_open}
 use Rattle.std.specs.Str.{bytes_eq}
 use Rattle.law_store.proofs.Keys.{either_way}
 use Rattle.model.specs.Journal.{Change as Made, ChangeAct, TableMade, table_at}
-use Rattle.model.specs.Tablets.{Tablet, Make, act_for, effect}
 use Rattle.model.specs.Stands.{awaited_in}
 use Rattle.model.specs.Entries.{CommandAsked}
-use Rattle.model.specs.Acts.{CreateTable, Change}
-use Rattle.model.specs.Parts.{Master, Parts, Drawn, MakesTable}
 use Rattle.model.specs.Looks.{found_namespace, slots_for, plan_of, free_slots, least_slots}
 use Rattle.model.specs.Changes.{accepts, tell_made, create_table_checks, judge_create_table, create_table}
 use Rattle.model.specs.Changed.{table_made, begins, shares, next_table, next_tablet}

@@ -1,23 +1,15 @@
 -- A table is dropped: its tablets are hidden, and their activity ends.
 use Rattle.model.specs.Schedules.{complete_to}
-use Rattle.model.specs.Records.{ScheduledNamespace, Listed, RestorationRecord}
+use Rattle.model.specs.Cluster.{ScheduledNamespace, Listed, RestorationRecord, Id, same, In, has, same_slots, rising, before_end, ended, ended_by, is_open, Interval, active_at, end_table_tablets, Tablet, Presence, HiddenPart, HideSince, effect, is_empty, is_serving, DropTable, Change, Master, Parts, DropsTable}
 use Rattle.model.specs.Right.{is_fixed}
 use Rattle.std.proofs.Common.{ℕ, ◌≡◌, ◌≤◌, ◌<◌, List, [], ◌∷◌, map, Option, Some, None, Bool, true, false, cond, ◌⊎◌, inl, inr, refl, sym, ap, subst, ◌∙◌, arith, eqb, leb, le_trans, le_refl, le_of_lt, ltb-true, ◌+◌}
 use Rattle.std.specs.Prelude.{Ok}
 use Rattle.std.specs.Option.{is_some}
 use Rattle.std.proofs.lemmas.Bool.{cond_both, true≢false}
 use Rattle.std.proofs.lemmas.Bool.Decides.{nat_tests}
-use Rattle.row_values.specs.Ids.{Id, same}
-use Rattle.row_values.specs.Elements.{In}
-use Rattle.row_values.specs.Slots.{has, same_slots, rising}
-use Rattle.model.specs.Times.{before_end, ended, ended_by, is_open}
-use Rattle.model.specs.Activity.{Interval, active_at, end_table_tablets}
 use Rattle.model.specs.Catalog.{TableRecord, owner_of, end_table}
 use Rattle.model.specs.Journal.{Change as Made, TableDropped, table_at, row_at}
-use Rattle.model.specs.Tablets.{Tablet, Presence, HiddenPart, HideSince, effect, is_empty, is_serving}
 use Rattle.model.specs.Stands.{awaited_in}
-use Rattle.model.specs.Acts.{DropTable, Change}
-use Rattle.model.specs.Parts.{Master, Parts, DropsTable}
 use Rattle.model.specs.Looks.{active_in, found_table, slots_of_table, slots_for, plan_of}
 use Rattle.model.specs.Changes.{accepts, tell, unheld_checks, judge_drop_table, drop_table}
 use Rattle.model.specs.Changed.{table_dropped}
@@ -35,7 +27,7 @@ use Rattle.law_invariants.proofs.Ticking.{by_judgement, refused_keeps, KeepsAll,
 use Rattle.law_invariants.proofs.Judging.{checked_is}
 use Rattle.law_invariants.proofs.Holding.{end_weaker}
 use Rattle.law_invariants.proofs.Journaling.{dropped_before, dropped_others, dropped_rows_before, dropped_rows_others}
-use Rattle.law_invariants.proofs.Covering.{dropped_covers}
+use Rattle.law_invariants.proofs.Covering.{dropped_covers, ended_ends, ended_over, closed, not_open, over_then, stamp_is}
 use Rattle.law_invariants.proofs.Cataloguing.{CatalogStands, catalog_of, catalog_table_dropped, table_is}
 use Rattle.law_invariants.proofs.Hearing.{clocks_rise, rows_on}
 use Rattle.law_invariants.proofs.Undoing.{one_more, journal_on}
@@ -44,7 +36,6 @@ use Rattle.law_invariants.proofs.Quiet.{ended_tables, same_names, marks_stay}
 use Rattle.law_invariants.proofs.Plans.{active_planned, planned_active}
 use Rattle.law_invariants.proofs.Awaiting.{AwaitNone, none_await, calm_here}
 use Rattle.law_invariants.proofs.Parting.{part_mapped}
-use Rattle.law_invariants.proofs.Ending.{ended_ends, ended_over, closed, not_open, over_then, stamp_is}
 
 -- where an interval ends that may be one of the table's
 abbrev pub end_of : Id → ℕ → Interval → Option ℕ

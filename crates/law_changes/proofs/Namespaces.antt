@@ -2,9 +2,7 @@
 use Rattle.std.proofs.Common.{ℕ, ◌≡◌, ◌≤◌, ◌<◌, ◌+◌, List, [], ◌∷◌, Option, Some, None, Bool, true, false, cond, ◌⊎◌, inl, inr, refl, sym, ap, subst, ◌∙◌, le_trans, arith, le_of_lt, le_refl}
 use Rattle.std.specs.Prelude.{is_some, Ok}
 use Rattle.model.specs.Journal.{Change as Made, NamespaceMade, NamespaceDropped}
-use Rattle.model.specs.Catalog.{NamespaceRecord, namespace_named, kept_from}
-use Rattle.model.specs.Acts.{CreateNamespace, DropNamespace, Change}
-use Rattle.model.specs.Parts.{Master, Parts, Drawn, MakesNamespace, DropsNamespace}
+use Rattle.model.specs.Cluster.{NamespaceRecord, namespace_named, kept_from, CreateNamespace, DropNamespace, Change, Master, Parts, Drawn, MakesNamespace, DropsNamespace, is_open, ended, Id, same, Kind, NamespaceKind as Namespace, Interval}
 use Rattle.model.specs.Operations.{time_of_user}
 use Rattle.model.specs.Changes.{named, clone_named, create_namespace_checks, judge_create_namespace, judge_drop_namespace, create_namespace, drop_namespace}
 use Rattle.model.specs.Changed.{next_namespace, namespace_made, namespace_dropped}
@@ -18,7 +16,6 @@ use Rattle.law_invariants.proofs.Working.{before_any}
 use Rattle.law_invariants.proofs.Undoing.{one_more}
 use Rattle.law_invariants.proofs.Told.{master_early}
 use Rattle.law_invariants.proofs.Quiet.{quiet_keeps, quiet_works, same_drawn, KeepsCatalog, same_names, marks_stay}
-use Rattle.model.specs.Times.{is_open, ended}
 use Rattle.model.specs.Schedules.{floor, least_low}
 use Rattle.model.specs.Cleanup.{floor_of}
 use Rattle.law_store.proofs.Keys.{either_way}
@@ -27,9 +24,7 @@ use Rattle.law_invariants.proofs.Remembering.{no_lows}
 use Rattle.law_invariants.proofs.Finding.{same_equal, in_added, in_mapped, not_either}
 use Rattle.law_invariants.proofs.Records.{kept_by, kept_beside}
 use Rattle.law_invariants.proofs.Operating.{WasNamed, NewName}
-use Rattle.row_values.specs.Ids.{Id, same, Kind, Namespace}
 use Rattle.model.specs.Drawn.{drawn_of}
-use Rattle.model.specs.Activity.{Interval}
 use Rattle.law_invariants.proofs.Using.{unreserved_name}
 
 -- what operations read of the catalog stays: a new namespace has a new number and no reserved name, and its mark is the stamp

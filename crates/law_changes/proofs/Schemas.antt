@@ -1,12 +1,9 @@
 -- Tables get columns, lose them, and change their names.
 use Rattle.std.proofs.Common.{ℕ, ◌≡◌, ◌≤◌, ◌<◌, ◌+◌, List, [], ◌∷◌, Option, Some, None, false, inl, inr, refl, sym, ap, subst, ◌∙◌, arith, le_of_lt}
 use Rattle.std.specs.Prelude.{is_some, option_map, Ok}
-use Rattle.row_values.specs.Schema.{Column, ColumnKind, Schema, column_named, with_column, without_column}
+use Rattle.model.specs.Cluster.{Column, ColumnKind, Schema, column_named, with_column, without_column, SetVersion, AddColumn, DropColumn, RenameTable, Change, UnknownColumn, Master, Parts, AddsColumn, DropsColumn, RenamesTable, In, Interval}
 use Rattle.model.specs.Journal.{Change as Made, ColumnAdded, ColumnDropped, TableRenamed}
 use Rattle.model.specs.Catalog.{TableRecord, end_table}
-use Rattle.model.specs.Tablets.{SetVersion}
-use Rattle.model.specs.Acts.{AddColumn, DropColumn, RenameTable, Change, UnknownColumn}
-use Rattle.model.specs.Parts.{Master, Parts, AddsColumn, DropsColumn, RenamesTable}
 use Rattle.model.specs.Operations.{holder}
 use Rattle.model.specs.Looks.{found_table}
 use Rattle.model.specs.Changes.{add_column_checks, judge_add_column, ColumnOf, column_of, found_column, unheld_checks, judge_drop_column, rename_table_checks, judge_rename_table, tell, add_column, drop_column, rename_table}
@@ -22,11 +19,9 @@ use Rattle.law_invariants.proofs.Working.{SameFixed, before_any}
 use Rattle.law_invariants.proofs.Undoing.{one_more}
 use Rattle.law_invariants.proofs.Told.{master_early, told_either}
 use Rattle.law_invariants.proofs.Quiet.{IsMild, Follows, quiet_keeps, quiet_works, same_drawn, KeepsCatalog, same_names, marks_stay, ended_tables}
-use Rattle.row_values.specs.Elements.{In}
 use Rattle.law_invariants.specs.Operations.{OperationsGood}
 use Rattle.law_invariants.proofs.Operating.{NotHeld, not_held}
 use Rattle.law_invariants.proofs.Finding.{in_append}
-use Rattle.model.specs.Activity.{Interval}
 
 -- the table goes on under another name or schema
 follows_changed : (m : Master) (t : TableRecord) (name : List ℕ) (schema : Schema) (n : ℕ) (changes new : List Made) → m.clock < n → IsQuiet changes new → SameFixed changes new → Follows m (table_changed t name schema n m) changes new

@@ -2,12 +2,9 @@
 -- good.
 use Rattle.std.proofs.Common.{ℕ, ◌≡◌, ◌≤◌, ◌<◌, List, [], ◌∷◌, ◌⊎◌, inl, inr, sym, ap, subst, ◌∙◌, not}
 use Rattle.std.proofs.lemmas.Bool.{cond_both, true≢false}
-use Rattle.row_values.specs.Ids.{Id, same}
-use Rattle.row_values.specs.Elements.{In}
+use Rattle.model.specs.Cluster.{Id, same, In, SnapshotRecord, Master}
 use Rattle.model.specs.Journal.{Change}
-use Rattle.model.specs.Records.{SnapshotRecord}
 use Rattle.model.specs.Cleanup.{floor_of}
-use Rattle.model.specs.Parts.{Master}
 use Rattle.law_store.proofs.Keys.{either_way}
 use Rattle.law_invariants.specs.Operations.{SnapshotsRise, OperationsGood}
 use Rattle.law_invariants.proofs.Finding.{same_equal, same_self}

@@ -2,19 +2,16 @@
 use Rattle.std.specs.Prelude.{true, Some}
 use Rattle.std.proofs.Common.{ℕ, ◌≡◌, ◌≢◌, ◌≤◌, ◌<◌, List, None, false, ◌⊎◌, inl, inr, refl, sym, ◌∙◌, arith, le_of_lt}
 use Rattle.std.proofs.lemmas.Bool.{true≢false}
-use Rattle.row_values.specs.Ids.{Id}
-use Rattle.row_values.specs.Elements.{In}
-use Rattle.model.specs.Activity.{Interval, forget}
+use Rattle.model.specs.Cluster.{Id, In, Interval, forget, Listed, RestorationRecord, RestorationState, Fencing, Snapshotting, Switching, Restored, TabletPair, CloneRecord, CloneState, Copying, CloneReleasing, CloneComplete, is_restored, is_cloned, is_visible, Master}
 use Rattle.model.specs.Journal.{Change}
 use Rattle.model.specs.Tablets.{Tablet, Mark, emptied, is_empty, is_serving}
-use Rattle.model.specs.Records.{Listed, RestorationRecord, RestorationState, Fencing, Snapshotting, Switching, Restoring, Releasing, Restored, TabletPair, CloneRecord, CloneState, Copying, CloneReleasing, CloneComplete, is_restored, is_cloned, is_visible}
-use Rattle.model.specs.Parts.{Master}
 use Rattle.law_invariants.specs.Operations.{IsOpenOf, IsKnown, CloneStateGood, OperationsGood, IsReserved}
-use Rattle.law_invariants.specs.Orders.{FencePlace, IsFence, RestorationSlot, CloneSlot, IsHome, IsTarget, directory, IsFenceIn, IsHomeIn, IsTargetIn, RestorationSlotIn}
+use Rattle.law_invariants.specs.Orders.{IsFence, RestorationSlot, CloneSlot, IsHome, IsTarget, directory, IsFenceIn, IsHomeIn, IsTargetIn, RestorationSlotIn}
 use Rattle.law_invariants.specs.Invariant.{IsGood, SlotGood, SlotWorks, IsPast, IsGoodIn, TakesWritesIn}
 use Rattle.law_invariants.proofs.Ticking.{past_later}
 use Rattle.law_cleanup.proofs.Forgetting.{forgetting, kept_in, was_in, open_was}
 use Rattle.law_invariants.proofs.Unneeded.{Unlisted}
+use Rattle.law_invariants.proofs.Going.{place_goes, restoration_slot_goes}
 
 -- what stands of a tablet, in a slot, that is forgotten
 pub record IsGone (m : Master) (n : ℕ) (tablet : Id) (slot : ℕ) : Type 0 where
@@ -52,9 +49,8 @@ emptied_restorations (Switching point serving) m n tablet changes slot r g free 
   fenced = λ i opened is. absurd (none_left m n tablet slot i g opened.kept is);
   past = λ i opened is. absurd (none_left m n tablet slot i g opened.kept is);
 }
-emptied_restorations (Restoring point serving) m n tablet changes slot r g free = λ l isin is. absurd (free refl l isin is)
-emptied_restorations (Releasing point serving) m n tablet changes slot r g free = λ l isin is. absurd (free refl l isin is)
 emptied_restorations (Restored point serving) m n tablet changes slot r g free = tt
+emptied_restorations _ m n tablet changes slot r g free = λ l isin is. absurd (free refl l isin is)
 
 emptied_clones : (state : CloneState) (m : Master) (n : ℕ) (tablet : Id) (changes : List Change) (slot : ℕ) (c : CloneRecord) (j : Interval) → IsGone m n tablet slot → In j m.activity → j.slot ≡ slot
     → (is_visible state ≡ false → (p : TabletPair) → In p c.tablets → IsReserved m p) → (is_cloned state ≡ false → (l : Listed) → In l c.listed → l.tablet ≡ tablet → ⊥) → CloneStateGood state m c
@@ -121,26 +117,10 @@ slot_beside m n tablet changes slot other t g apart h =
 open_beside : (m : Master) (n : ℕ) (tablet ns : Id) (slot other : ℕ) (i : Interval) → IsGone m n tablet slot → other ≢ slot → IsOpenOf m ns i → i.slot ≡ other → IsOpenOf (forgetting m n tablet) ns i
 open_beside m n tablet ns slot other i g apart h at = record { kept = beside m n tablet slot other i g apart h.kept at; opened = h.opened; owned = h.owned }
 
-place_beside : (state : RestorationState) (m : Master) (n : ℕ) (tablet : Id) (r : RestorationRecord) (slot other : ℕ) (done : List Mark) → IsGone m n tablet slot → other ≢ slot → FencePlace state r m other done
-    → FencePlace state r (forgetting m n tablet) other done
-place_beside (Restoring point serving) m n tablet r slot other done g apart h = h
-place_beside (Releasing point serving) m n tablet r slot other done g apart h = h
-place_beside (Restored point serving) m n tablet r slot other done g apart h = h
-place_beside _ m n tablet r slot other done g apart h = (h.0, (open_beside m n tablet r.namespace slot other h.0 g apart h.1.0 h.1.1, h.1.1))
-
 fence_beside : (m : Master) (n : ℕ) (tablet table : Id) (slot other : ℕ) (done : List Mark) (operation : Id) → IsGone m n tablet slot → other ≢ slot → IsFence m other table done operation → IsFence (forgetting m n tablet) other table done operation
 fence_beside m n tablet table slot other done operation g apart (inl h) =
-    inl (record { restoration = h.restoration; kept = h.kept; id_is = h.id_is; owned = h.owned; place = place_beside h.restoration.state m n tablet h.restoration slot other done g apart h.place })
+    inl (record { restoration = h.restoration; kept = h.kept; id_is = h.id_is; owned = h.owned; place = place_goes h.restoration.state h.restoration m.activity (forget tablet m.activity) m.catalog.owners m.catalog.owners other done (λ open_ i opened at. open_beside m n tablet h.restoration.namespace slot other i g apart opened at) h.place })
 fence_beside m n tablet table slot other done operation g apart (inr h) = inr h
-
-restorations_beside : (state : RestorationState) (m : Master) (n : ℕ) (tablet : Id) (changes : List Change) (r : RestorationRecord) (slot : ℕ) (t : Tablet) → RestorationSlot state m changes r slot t
-    → RestorationSlot state (forgetting m n tablet) changes r slot t
-restorations_beside (Snapshotting point own) m n tablet changes r slot t h = record { fenced = λ i opened is. h.fenced i (open_was m n tablet r.namespace i opened) is }
-restorations_beside (Switching point serving) m n tablet changes r slot t h = record {
-  fenced = λ i opened is. h.fenced i (open_was m n tablet r.namespace i opened) is;
-  past = λ i opened is. h.past i (open_was m n tablet r.namespace i opened) is;
-}
-restorations_beside _ m n tablet changes r slot t h = h
 
 home_beside : (m : Master) (n : ℕ) (tablet : Id) (slot other : ℕ) (mine : Id) → IsGone m n tablet slot → other ≢ slot → IsHome m other mine ⊎ IsTarget m other mine → IsHome (forgetting m n tablet) other mine ⊎ IsTarget (forgetting m n tablet) other mine
 home_beside m n tablet slot other mine g apart (inl h) = inl (record { interval = h.interval; kept = beside m n tablet slot other h.interval g apart h.kept h.slot_is; slot_is = h.slot_is; tablet_is = h.tablet_is })
@@ -152,5 +132,5 @@ works_beside m n tablet changes slot other t g apart h =
     let b = h.obeyed in
     let fences : (operation : Id) → t.fence ≡ Some operation → IsFenceIn (directory (forgetting m n tablet)) other t.table t.done operation = λ operation is. fence_beside m n tablet t.table slot other t.done operation g apart (o.fences operation is) in
     let home : is_empty t.presence ≡ false → IsHomeIn ((forget tablet m.activity)) other t.tablet ⊎ IsTargetIn m.clones other t.tablet = λ present. home_beside m n tablet slot other t.tablet g apart (b.home present) in
-    let restorations : (r : RestorationRecord) → In r m.restorations → RestorationSlotIn r.state ((forget tablet m.activity)) m.catalog.owners changes r other t = λ r known. restorations_beside r.state m n tablet changes r other t (b.restorations r known) in
+    let restorations : (r : RestorationRecord) → In r m.restorations → RestorationSlotIn r.state ((forget tablet m.activity)) m.catalog.owners changes r other t = λ r known. restoration_slot_goes r.state r m.activity (forget tablet m.activity) m.catalog.owners m.catalog.owners changes changes other t (λ open_ i opened. open_was m n tablet r.namespace i opened) (λ point serving e. refl) (b.restorations r known) in
     assumption (fences, home, restorations)

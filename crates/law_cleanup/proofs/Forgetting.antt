@@ -1,11 +1,8 @@
 -- The master forgets a tablet that no unfinished record lists: its records go on to be good.
 use Rattle.std.proofs.Common.{ℕ, ◌≡◌, ◌≤◌, List, inl, sym, ap, ◌∙◌, not}
 use Rattle.std.proofs.lemmas.Bool.{true≢false}
-use Rattle.row_values.specs.Ids.{Id, same}
-use Rattle.row_values.specs.Elements.{In}
-use Rattle.model.specs.Activity.{Interval, forget}
+use Rattle.model.specs.Cluster.{Id, same, In, Interval, forget, Master}
 use Rattle.model.specs.Journal.{Change}
-use Rattle.model.specs.Parts.{Master}
 use Rattle.law_invariants.specs.Operations.{IsOpenOf, OperationsGood}
 use Rattle.law_invariants.proofs.Finding.{in_filter, filter_in, same_self, not_same}
 use Rattle.law_invariants.proofs.Ticking.{not_true}

@@ -1,14 +1,12 @@
 -- What a removal leaves: the master keeps fewer intervals and fewer snapshots, and all that its other records need.
-use Rattle.std.proofs.Common.{ℕ, ◌≡◌, ◌≤◌, ◌<◌, List, Some, false, ◌⊎◌, inl, inr, refl, sym, ap, subst, arith, le_trans, lt_of_lt_of_le}
-use Rattle.row_values.specs.Ids.{Id}
-use Rattle.row_values.specs.Elements.{In}
-use Rattle.model.specs.Activity.{Interval}
-use Rattle.model.specs.Catalog.{owner_of}
+use Rattle.std.proofs.Common.{ℕ, ◌≡◌, ◌≤◌, ◌<◌, List, Some, false, ◌⊎◌, inl, inr, refl, subst, le_refl, le_trans, lt_of_lt_of_le}
+use Rattle.model.specs.Cluster.{Id, In, Interval, Listed, SnapshotRecord, RestorationRecord, TabletPair, CloneRecord, ScheduledNamespace, is_restored, is_cloned, named_by_restoration, named_by_clone, Master}
 use Rattle.model.specs.Journal.{Change}
-use Rattle.model.specs.Records.{Listed, SnapshotRecord, RestorationRecord, RestorationState, Fencing, Snapshotting, Switching, Restoring, Releasing, Restored, TabletPair, CloneRecord, CloneState, Accepted, CloneSnapshot, Copying, CloneReleasing, CloneComplete, ScheduledNamespace, is_restored, is_cloned, is_visible, named_by_restoration, named_by_clone}
 use Rattle.model.specs.Cleanup.{floor_of}
-use Rattle.model.specs.Parts.{Master}
-use Rattle.law_invariants.specs.Operations.{SnapshotsRise, IsKnown, IsOpenOf, SnapshotGood, ScheduledGood, IsServing, IsPoint, BeforePoint, IsBack, IsActive, RestorationStateGood, RestorationGood, IsSource, IsReserved, CloneStateGood, CloneGood, OperationsGood}
+use Rattle.model.specs.Drawn.{drawn_of}
+use Rattle.law_invariants.specs.Operations.{grounds, SnapshotsRise, IsKnown, SnapshotGood, ScheduledGood, RestorationGood, CloneGood, OperationsGood}
+use Rattle.law_invariants.proofs.Going.{GroundsGo, NamespaceGoes, restoration_goes, clone_goes}
+use Rattle.law_invariants.proofs.Recording.{same_on}
 use Rattle.law_invariants.proofs.Remembering.{floor_rises}
 
 -- the master with the intervals and the snapshots that are kept
@@ -34,58 +32,8 @@ pub record Leaves (m : Master) (n : ℕ) (a : List Interval) (s : List SnapshotR
   pub source : (c : CloneRecord) (p : TabletPair) (i : Interval) → In c m.clones → is_cloned c.state ≡ false → In p c.tablets → In i m.activity → i.tablet ≡ p.source → In i a
 
 module _ (m : Master) (n : ℕ) (a : List Interval) (s : List SnapshotRecord) (x : Leaves m n a s) where
-  open_left : (ns : Id) (i : Interval) → IsOpenOf (leaving m n a s) ns i → IsOpenOf m ns i
-  open_left ns i h = record { kept = x.was i h.kept; opened = h.opened; owned = h.owned }
-
   known_left : (l : Listed) → ((i : Interval) → In i m.activity → i.tablet ≡ l.tablet → In i a) → IsKnown m l → IsKnown (leaving m n a s) l
   known_left l stays h = record { interval = h.interval; kept = stays h.interval h.kept h.tablet_is; tablet_is = h.tablet_is; slot_is = h.slot_is }
-
-  before_left : (ns : Id) (point : ℕ) → BeforePoint m ns point → BeforePoint (leaving m n a s) ns point
-  before_left ns point h = record {
-    begun = λ i there. h.begun i (x.was i there);
-    ended = λ i end_ there. h.ended i end_ (x.was i there);
-    tables_begun = h.tables_begun;
-    tables_ended = h.tables_ended;
-  }
-
-  back_left : (l : Listed) (to point : ℕ) → ((i : Interval) → In i m.activity → i.tablet ≡ l.tablet → In i a) → IsBack m l to point → IsBack (leaving m n a s) l to point
-  back_left l to point stays h = record {
-    then_ = h.then_;
-    kept_then = stays h.then_ h.kept_then h.tablet_then;
-    tablet_then = h.tablet_then;
-    active = h.active;
-    now = h.now;
-    kept_now = stays h.now h.kept_now h.tablet_now;
-    tablet_now = h.tablet_now;
-    slot_now = h.slot_now;
-    opened = h.opened;
-    from_is = h.from_is;
-  }
-
-  active_left : (l : Listed) (from : ℕ) → ((i : Interval) → In i m.activity → i.tablet ≡ l.tablet → In i a) → IsActive m l from → IsActive (leaving m n a s) l from
-  active_left l from stays h = record {
-    interval = h.interval;
-    kept = stays h.interval h.kept h.tablet_is;
-    tablet_is = h.tablet_is;
-    slot_is = h.slot_is;
-    opened = h.opened;
-    from_is = h.from_is;
-  }
-
-  serving_left : (snapshot ns : Id) (to : ℕ) → ((q : SnapshotRecord) → In q m.snapshots → Some snapshot ≡ Some q.id → In q s) → IsServing m snapshot ns to
-      → IsServing (leaving m n a s) snapshot ns to
-  serving_left snapshot ns to stays h = record {
-    serving = h.serving;
-    kept = stays h.serving h.kept (ap Some (sym h.id_is));
-    id_is = h.id_is;
-    complete = h.complete;
-    namespace_is = h.namespace_is;
-    after = h.after;
-    reaches = h.reaches;
-  }
-
-  point_left : (changes : List Change) (r : RestorationRecord) (point : ℕ) → IsPoint m changes r point → IsPoint (leaving m n a s) changes r point
-  point_left changes r point h = record { later = h.later; fixed = h.fixed; snapshots = λ q isin. h.snapshots q (x.was_taken q isin); complete = h.complete }
 
   -- floors rise with the clock
   pub floor_left : (ns : Id) → floor_of m ns m.clock ≤ floor_of (leaving m n a s) ns n
@@ -125,123 +73,51 @@ module _ (m : Master) (n : ℕ) (a : List Interval) (s : List SnapshotRecord) (x
     scheduled = h.scheduled;
   }
 
-  state_left : (state : RestorationState) (changes : List Change) (r : RestorationRecord)
-      → (is_restored state ≡ false → (l : Listed) (i : Interval) → In l r.listed → In i m.activity → i.tablet ≡ l.tablet → In i a)
-      → (is_restored state ≡ false → (q : SnapshotRecord) → In q m.snapshots → named_by_restoration state ≡ Some q.id → In q s) → RestorationStateGood state m changes r → RestorationStateGood state (leaving m n a s) changes r
-  state_left Fencing changes r stays named h = record {
-    bodies = h.bodies;
-    lists = λ i opened. h.lists i (open_left r.namespace i opened);
-    opens = λ l lists. (let o = h.opens l lists in (o.0, (record { kept = stays refl l o.0 lists o.1.0.kept o.1.1.0; opened = o.1.0.opened; owned = o.1.0.owned }, o.1.1)));
-  }
-  state_left (Snapshotting point own) changes r stays named h = record {
-    is_point = point_left changes r point h.is_point;
-    empty = h.empty;
-    soon = le_trans h.soon (let l = x.clock in omega arith);
-    before = before_left r.namespace point h.before;
-    snapshot = h.snapshot;
-    kept = named refl h.snapshot h.kept (ap Some (sym h.id_is));
-    id_is = h.id_is;
-    at_is = h.at_is;
-    namespace_is = h.namespace_is;
-    alone = λ q isin. h.alone q (x.was_taken q isin);
-  }
-  state_left (Switching point serving) changes r stays named h = record {
-    is_point = point_left changes r point h.is_point;
-    empty = h.empty;
-    begun = le_trans h.begun x.clock;
-    before = before_left r.namespace point h.before;
-    serves = serving_left serving r.namespace r.to (named refl) h.serves;
-    calm = λ q isin. h.calm q (x.was_taken q isin);
-  }
-  state_left (Restoring point serving) changes r stays named h = record {
-    is_point = point_left changes r point h.is_point;
-    begun = le_trans h.begun x.clock;
-    serves = serving_left serving r.namespace r.to (named refl) h.serves;
-    calm = λ q isin. h.calm q (x.was_taken q isin);
-    switched = h.switched;
-    bodies = h.bodies;
-    back = λ l lists is. back_left l r.to point (λ i. stays refl l i lists) (h.back l lists is);
-    gone = λ l i lists is there. h.gone l i lists is (x.was i there);
-    opens = λ i opened. h.opens i (open_left r.namespace i opened);
-  }
-  state_left (Releasing point serving) changes r stays named h = record {
-    is_point = point_left changes r point h.is_point;
-    begun = le_trans h.begun x.clock;
-    switched = h.switched;
-    bodies = h.bodies;
-    active = λ l lists. active_left l point (λ i. stays refl l i lists) (h.active l lists);
-    opens = λ i opened. h.opens i (open_left r.namespace i opened);
-  }
-  state_left (Restored point serving) changes r stays named h = record { empty = h.empty; begun = le_trans h.begun x.clock; later = h.later; switched = h.switched }
+  grounds_left : (changes : List Change) → GroundsGo (grounds m) (grounds (leaving m n a s)) changes changes
+  grounds_left changes = record { clock = x.clock; slots = le_refl m.slots; drawn = λ kind. le_refl (drawn_of kind m.drawn); owned = λ table ns is. is; switched = λ ns point is. is }
+
+  space_left : (changes : List Change) (ns : Id) → NamespaceGoes (grounds m) (grounds (leaving m n a s)) changes changes ns
+  space_left changes ns = record { came = λ i there owner. (x.was i there, owner); tables = λ t there of. there; fixed = λ to is. is }
 
   restoration_left : (changes : List Change) (r : RestorationRecord) → In r m.restorations → RestorationGood m changes r → RestorationGood (leaving m n a s) changes r
-  restoration_left changes r isin h = record {
-    kind_is = h.kind_is;
-    drawn = h.drawn;
-    drawn_namespace = h.drawn_namespace;
-    past = lt_of_lt_of_le h.past x.clock;
-    scheduled = h.scheduled;
-    known = λ unfinished l lists. known_left l (λ i there is. x.restoration r l i isin unfinished lists there is) (h.known unfinished l lists);
-    in_state = state_left r.state changes r (λ unfinished l i lists there is. x.restoration r l i isin unfinished lists there is) (λ unfinished q there named. x.named r q isin unfinished there named) h.in_state;
-  }
-
-  clone_state_left : (state : CloneState) (c : CloneRecord) → (is_cloned state ≡ false → (l : Listed) (i : Interval) → In l c.listed → In i m.activity → i.tablet ≡ l.tablet → In i a)
-      → (is_cloned state ≡ false → (q : SnapshotRecord) → In q m.snapshots → named_by_clone state ≡ Some q.id → In q s) → CloneStateGood state m c → CloneStateGood state (leaving m n a s) c
-  clone_state_left Accepted c stays named h = h
-  clone_state_left (CloneSnapshot own) c stays named h = record {
-    empty = h.empty;
-    snapshot = h.snapshot;
-    kept = named refl h.snapshot h.kept (ap Some (sym h.id_is));
-    id_is = h.id_is;
-    namespace_is = h.namespace_is;
-    reaches = h.reaches;
-  }
-  clone_state_left (Copying serving at) c stays named h = record {
-    begun = le_trans h.begun x.clock;
-    later = h.later;
-    serves = serving_left serving c.source c.to (named refl) h.serves;
-    bodies = h.bodies;
-    all = h.all;
-  }
-  clone_state_left (CloneReleasing serving at) c stays named h = record {
-    since = h.since;
-    begun = le_trans h.begun x.clock;
-    later = h.later;
-    copied = h.copied;
-    bodies = h.bodies;
-    active = λ l lists. active_left l h.since (λ i. stays refl l i lists) (h.active l lists);
-    listed_of = λ l i lists there. h.listed_of l i lists (x.was i there);
-    opens = λ i opened. h.opens i (open_left c.target_id i opened);
-  }
-  clone_state_left (CloneComplete serving at) c stays named h = h
+  restoration_left changes r isin = restoration_goes (grounds m) (grounds (leaving m n a s)) changes changes (grounds_left changes) r (λ unfinished. record {
+    space = space_left changes r.namespace;
+    lines = record { stays = λ l i lists there is. x.restoration r l i isin unfinished lists there is; was = λ l i lists known there is. x.was i there };
+    named = λ q there named. (q, (x.named r q isin unfinished there named, same_on q));
+    taken = λ point q at there is. (q, (x.was_taken q there, same_on q));
+    points = λ point at h. h;
+    schedule = λ k there id_is is. (k, (there, (id_is, is)));
+  })
 
   clone_left : (changes : List Change) (c : CloneRecord) → In c m.clones → CloneGood m changes c → CloneGood (leaving m n a s) changes c
-  clone_left changes c isin h =
-      let past : c.to < n = lt_of_lt_of_le h.past x.clock in
-      let sources : is_cloned c.state ≡ false → (p : TabletPair) → In p c.tablets → IsSource (leaving m n a s) c p = λ unfinished p paired. (let k = h.sources unfinished p paired in record {
-        interval = k.interval;
-        kept = x.source c p k.interval isin unfinished paired k.kept k.tablet_is;
-        tablet_is = k.tablet_is;
-        slot_is = k.slot_is;
-        low_is = k.low_is;
-        high_is = k.high_is;
-        active = k.active;
-        owned = k.owned;
-        pair = k.pair;
-        paired = k.paired;
-        source_is = k.source_is;
-        target_is = k.target_is;
-      }) in
-      let reserved : is_visible c.state ≡ false → (p : TabletPair) → In p c.tablets → IsReserved (leaving m n a s) p = λ unseen p paired. (let k = h.reserved unseen p paired in record {
-        free = λ i there. k.free i (x.was i there);
-        unknown = λ i there. k.unknown i (x.was i there);
-        no_snapshot = λ q l known. k.no_snapshot q l (x.was_taken q known);
-        no_restoration = k.no_restoration;
-      }) in
-      let no_tablet : is_visible c.state ≡ false → (i : Interval) → In i a → owner_of m.catalog.owners i.table ≡ Some c.target_id → ⊥ = λ unseen i there. h.no_tablet unseen i (x.was i there) in
-      let in_state : CloneStateGood c.state (leaving m n a s) c =
-      clone_state_left c.state c (λ unfinished l i lists there is. x.clone c l i isin unfinished lists there is) (λ unfinished q there named. x.named_by c q isin unfinished there named) h.in_state in
-      assumption (past, sources, reserved, no_tablet, in_state)
+  clone_left changes c isin = clone_goes (grounds m) (grounds (leaving m n a s)) changes changes (grounds_left changes) m.restorations m.restorations c (λ unfinished. record {
+    space = space_left changes c.target_id;
+    lines = λ owner. record { stays = λ l i lists there is. x.clone c l i isin unfinished lists there is; was = λ l i lists known there is. x.was i there };
+    named = λ q there named. (q, (x.named_by c q isin unfinished there named, same_on q));
+    schedule = λ k there is. (k, (there, is));
+    source = λ p paired k. record {
+      interval = k.interval;
+      kept = x.source c p k.interval isin unfinished paired k.kept k.tablet_is;
+      tablet_is = k.tablet_is;
+      slot_is = k.slot_is;
+      low_is = k.low_is;
+      high_is = k.high_is;
+      active = k.active;
+      owned = k.owned;
+      pair = k.pair;
+      paired = k.paired;
+      source_is = k.source_is;
+      target_is = k.target_is;
+    };
+    reserved = λ unseen p paired k. record {
+      free = λ i there. k.free i (x.was i there);
+      unknown = λ i there. k.unknown i (x.was i there);
+      no_snapshot = λ q l known. k.no_snapshot q l (x.was_taken q known);
+      no_restoration = k.no_restoration;
+    };
+    names = λ unseen r there free. free r there;
+    schedules = λ unseen k there is. (k, (there, is));
+  })
 
   pub operations_left : (changes : List Change) → OperationsGood m changes → OperationsGood (leaving m n a s) changes
   operations_left changes h = record {

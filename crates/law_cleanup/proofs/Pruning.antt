@@ -5,17 +5,11 @@ use Rattle.std.specs.Option.{option_map, is_some}
 use Rattle.std.specs.List.{filter, find}
 use Rattle.std.specs.Str.{bytes_eq}
 use Rattle.std.proofs.lemmas.Bool.{cond_both, true≢false}
-use Rattle.row_values.specs.Ids.{Id, same}
-use Rattle.row_values.specs.Elements.{In}
-use Rattle.model.specs.Times.{is_open, holds_at, ended_by}
-use Rattle.model.specs.Catalog.{Catalog, NamespaceRecord, TableRecord, KeptFrom, namespace_named, name_of, owner_of, kept_from}
-use Rattle.model.specs.Activity.{Interval}
+use Rattle.model.specs.Cluster.{Id, same, In, is_open, holds_at, ended_by, Catalog, NamespaceRecord, TableRecord, KeptFrom, namespace_named, name_of, owner_of, kept_from, Interval, Master, Parts, Prune}
 use Rattle.model.specs.Restored.{record_at}
 use Rattle.model.specs.Schedules.{history_retention}
 use Rattle.model.specs.Journal.{Change as Made, table_at, row_at}
 use Rattle.model.specs.Cleanup.{floor_of, prune_to, is_old_namespace, is_old_table, raised_mark, prune, pruned}
-use Rattle.model.specs.Parts.{Master, Parts}
-use Rattle.model.specs.Acts.{Prune}
 use Rattle.model.specs.Entries.{slots_of}
 use Rattle.model.specs.History.{outcome}
 use Rattle.law_store.proofs.Keys.{either_way}

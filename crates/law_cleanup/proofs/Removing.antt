@@ -3,16 +3,10 @@ use Rattle.std.proofs.Common.{ℕ, ◌≡◌, ◌≢◌, ◌≤◌, ◌<◌, Lis
 use Rattle.std.specs.Option.{is_some}
 use Rattle.std.proofs.lemmas.Bool.{true≢false}
 use Rattle.std.proofs.lemmas.Bool.Decides.{nat_tests}
-use Rattle.row_values.specs.Ids.{Id, Tablet as TabletKind, same}
-use Rattle.row_values.specs.Elements.{In}
-use Rattle.row_values.specs.Slots.{has, same_slots}
-use Rattle.model.specs.Times.{ended_by}
-use Rattle.model.specs.Activity.{Interval, last_of, forget}
+use Rattle.model.specs.Cluster.{Id, TabletKind, same, In, has, same_slots, ended_by, Interval, last_of, forget, Remove, Refusal, Moved, StalePlan, InWindow, Removed, Master, Parts, Outcome, Check, If, Fault, Removes, refused}
 use Rattle.model.specs.Journal.{Change as Made}
 use Rattle.model.specs.Stands.{awaited_in}
 use Rattle.model.specs.Tablets.{Tablet, Empty, Clear, act_for, effect, emptied, standing, is_hidden}
-use Rattle.model.specs.Acts.{Remove, Refusal, Moved, StalePlan, InWindow, Removed}
-use Rattle.model.specs.Parts.{Master, Parts, Outcome, Check, If, Fault, Removes, refused}
 use Rattle.model.specs.Cleanup.{floor_of_table, hidden_at, is_hidden_as, lister_of_tablet, removable_tablet, removing_unknown, removing_tablet, removed_of}
 use Rattle.model.specs.History.{told}
 use Rattle.law_store.proofs.Keys.{either_way}

@@ -4,16 +4,9 @@ use Rattle.std.specs.Option.{is_some}
 use Rattle.std.proofs.Common.{ℕ, ◌≡◌, ◌≤◌, ◌<◌, List, [], ◌∷◌, Option, Some, None, false, inl, inr, refl, sym, ap, subst, ◌∙◌, arith, not, eqb, leb, le_refl, le_of_lt}
 use Rattle.std.proofs.lemmas.Bool.{true≢false}
 use Rattle.std.proofs.lemmas.Bool.Decides.{nat_tests}
-use Rattle.row_values.specs.Ids.{Id, Kind, Tablet as TabletKind, Snapshot}
-use Rattle.row_values.specs.Elements.{In}
-use Rattle.row_values.specs.Slots.{has, same_slots}
-use Rattle.model.specs.Activity.{Interval, last_of}
+use Rattle.model.specs.Cluster.{Id, Kind, TabletKind, Snapshot, In, has, same_slots, Interval, last_of, Tablet, FrozenSet, DropFrozen, effect, SnapshotRecord, snapshot_with, Remove, UnknownSnapshot, StalePlan, InWindow, Removed, Master, Parts, Outcome, Check, If, Fault, Removes}
 use Rattle.model.specs.Journal.{Change as Made, table_at, row_at}
-use Rattle.model.specs.Tablets.{Tablet, FrozenSet, DropFrozen, effect}
-use Rattle.model.specs.Records.{SnapshotRecord, snapshot_with}
 use Rattle.model.specs.Entries.{IsRemovable, slots_of}
-use Rattle.model.specs.Acts.{Remove, UnknownSnapshot, StalePlan, InWindow, Removed}
-use Rattle.model.specs.Parts.{Master, Parts, Outcome, Check, If, Fault, Removes}
 use Rattle.model.specs.Cleanup.{floor_of, lister_of_snapshot, snapshot_plan, removing_snapshot, removing, remove, removed_of, removable_snapshot}
 use Rattle.model.specs.Changes.{tell}
 use Rattle.model.specs.History.{told, outcome}

@@ -1,24 +1,18 @@
 -- The slots after a snapshot is discarded: no tablet holds its frozen set, and all else is as it was.
-use Rattle.model.specs.Catalog.{owner_of}
+use Rattle.model.specs.Cluster.{owner_of, Kind, Snapshot, Id, same, In, has, rising, Tablet, BodyKind, FrozenSet, set_of, is_empty, RestoreFromKind, is_done, CopyKind, is_serving, FreezeKind, SnapshotRecord, RestorationRecord, RestorationState, Fencing, Snapshotting, Switching, Restoring, Releasing, Restored, CloneRecord, CloneState, Copying, CloneReleasing, CloneComplete, is_visible, unacked_at, TabletPair, Master}
 use Rattle.model.specs.Stands.{is_restore}
 use Rattle.std.proofs.Common.{ℕ, ◌≡◌, ◌≤◌, ◌+◌, List, [], ◌∷◌, Option, Some, None, true, false, cond, ◌&&◌, inl, inr, refl, sym, ap, subst, ◌∙◌, arith, not, map, le_trans, lt_of_lt_of_le}
 use Rattle.std.specs.Option.{is_some, option_and_then}
 use Rattle.std.specs.List.{filter}
 use Rattle.std.proofs.lemmas.Bool.{cond_both, true≢false}
-use Rattle.row_values.specs.Ids.{Kind, Snapshot, Id, same}
-use Rattle.row_values.specs.Elements.{In}
-use Rattle.row_values.specs.Slots.{has, rising}
 use Rattle.model.specs.Activity.{Interval, last_from}
 use Rattle.model.specs.Journal.{Change}
-use Rattle.model.specs.Tablets.{Tablet, BodyKind, FrozenSet, set_of, is_empty, RestoreFromKind, is_done, CopyKind, is_serving, FreezeKind}
-use Rattle.model.specs.Records.{SnapshotRecord, RestorationRecord, RestorationState, Fencing, Snapshotting, Switching, Restoring, Releasing, Restored, CloneRecord, CloneState, Accepted, CloneSnapshot, Copying, CloneReleasing, CloneComplete, is_visible, unacked_at, TabletPair}
 use Rattle.model.specs.Coordination.{unfinished_snapshot, pending_of}
 use Rattle.model.specs.Cleanup.{is_present, snapshot_plan}
-use Rattle.model.specs.Parts.{Master}
 use Rattle.law_store.proofs.Keys.{either_way}
 use Rattle.law_invariants.specs.Operations.{OperationsGood}
 use Rattle.law_invariants.specs.Orders.{IsAfter, RestorationSlot, CloneSlot, IsRestored, IsCopy, operations, IsAfterIn}
-use Rattle.law_invariants.specs.Invariant.{SlotGood, SlotWorks}
+use Rattle.law_invariants.specs.Invariant.{SetStands, SlotGood, SlotWorks}
 use Rattle.law_invariants.proofs.Finding.{in_filter, filter_in, map_in, second_fails, not_passing, same_equal, same_self, not_same}
 use Rattle.law_invariants.proofs.Ticking.{not_true, over_later, below_later}
 use Rattle.law_invariants.proofs.Plans.{has_in, has_rising}
@@ -73,26 +67,10 @@ slot_thinned m changes slot target t clock fs le others h = record {
   };
   home = h.home;
   numbered = h.numbered;
-  each = λ i isin is. (let g = h.each i isin is in record {
-    past = g.past;
-    over = over_later i.to i.from t.clock clock le g.over;
-    drawn = g.drawn;
-    drawn_table = g.drawn_table;
-    slot_from = g.slot_from;
-    slot_to = g.slot_to;
-    present = g.present;
-    tablet_is = g.tablet_is;
-    table_is = g.table_is;
-    low_is = g.low_is;
-    high_is = g.high_is;
-    viewed = g.viewed;
-    waits = g.waits;
-    comes = g.comes;
-    serves = g.serves;
-    hidden = g.hidden;
-    stands = g.stands;
-    sets = λ f held. g.sets f (others.each f held).0;
-  });
+  each = λ i isin is. (
+      let g = h.each i isin is in
+      let sets : (f : FrozenSet) → In f fs → SetStands f changes i = λ f held. g.sets f (others.each f held).0 in
+      assumption (over_later i.to i.from t.clock clock le g.over, sets, g));
   opens = λ serving unfenced. (let o = h.opens serving unfenced in record {
     interval = o.interval;
     listed = o.listed;
@@ -142,14 +120,13 @@ restorations_thin (Restored point serving) m n target changes r slot t clock fs 
 
 clones_thin : (state : CloneState) (m : Master) (n : ℕ) (target : Id) (changes : List Change) (c : CloneRecord) (slot : ℕ) (t : Tablet) (clock : ℕ) (fs : List FrozenSet) → t.clock ≤ clock → CloneSlot state m changes c slot t
     → CloneSlot state (discarding m n target) changes c slot (thinned t clock fs)
-clones_thin Accepted m n target changes c slot t clock fs le h = record { empty = h.empty }
-clones_thin (CloneSnapshot own) m n target changes c slot t clock fs le h = record { empty = h.empty }
 clones_thin (Copying serving at) m n target changes c slot t clock fs le h =
     let copied : (p : TabletPair) → In p c.tablets → p.slot ≡ slot → is_done t.done c.id CopyKind ≡ true → IsCopy changes c at p (thinned t clock fs) = λ p paired is done. (let k = h.copied p paired is done in assumption k) in
     let later : is_serving t.presence ≡ true → t.fence ≡ None → owner_of m.catalog.owners t.table ≡ Some c.source → c.to ≤ clock = λ serves free of. le_trans (h.later serves free of) le in
     assumption (copied, later)
 clones_thin (CloneReleasing serving at) m n target changes c slot t clock fs le h = λ l isin is. (let k = h l isin is in record { acked = k.acked; serves = k.serves; released = k.released; fenced = k.fenced })
 clones_thin (CloneComplete serving at) m n target changes c slot t clock fs le h = tt
+clones_thin _ m n target changes c slot t clock fs le h = record { empty = h.empty }
 
 pub works_thinned : (m : Master) (n : ℕ) (target : Id) (changes : List Change) (r : SnapshotRecord) (slot : ℕ) (t : Tablet) (clock : ℕ) (fs : List FrozenSet) → IsDiscarded m n target r → t.clock ≤ clock → AreOthers target t.frozen fs → SlotWorks m changes slot t
     → SlotWorks (discarding m n target) changes slot (thinned t clock fs)

@@ -2,16 +2,9 @@
 use Rattle.std.proofs.Common.{ℕ, ◌≡◌, ◌≤◌, ◌<◌, ◌+◌, List, [], ◌∷◌, ◌++◌, map, length, not, Option, Some, None, true, false, cond, ◌&&◌, ◌||◌, inl, inr, refl, sym, ap, subst, ◌∙◌, arith, leb, le_trans, le_refl}
 use Rattle.std.specs.Option.{is_some, option_or, option_map, option_map_or}
 use Rattle.std.proofs.lemmas.Bool.{true≢false}
-use Rattle.row_values.specs.Ids.{Kind, Namespace, Table, Tablet as TabletKind, Schedule as ScheduleKind, Snapshot, Restoration, Clone, Id, same}
-use Rattle.row_values.specs.Elements.{In}
-use Rattle.model.specs.Times.{holds_at, before_end, ended_by}
-use Rattle.row_values.specs.Ranges.{in_range}
-use Rattle.model.specs.Catalog.{TableRecord, Owner, tables_at, owner_of, owns, is_owned_by, namespace_named, kept_from}
-use Rattle.model.specs.Activity.{Interval, active_at}
+use Rattle.model.specs.Cluster.{Kind, ScheduleKind, Snapshot, RestorationKind as Restoration, Id, same, In, holds_at, before_end, ended_by, in_range, TableRecord, Owner, tables_at, owner_of, owns, is_owned_by, namespace_named, kept_from, Interval, active_at, is_empty, RestorationRecord, IdPair, TabletPair, CloneRecord, is_cloned, Master, Drawn, Parts}
 use Rattle.model.specs.Restored.{record_at}
 use Rattle.model.specs.Journal.{Change, table_at}
-use Rattle.model.specs.Tablets.{is_empty}
-use Rattle.model.specs.Records.{RestorationRecord, IdPair, TabletPair, CloneRecord, is_cloned}
 use Rattle.model.specs.Schedules.{floor, least_low}
 use Rattle.model.specs.Stands.{holders}
 use Rattle.model.specs.Lists.{tablets_active_at, intervals_in}
@@ -21,7 +14,6 @@ use Rattle.model.specs.Cleanup.{floor_of}
 use Rattle.model.specs.Drawn.{drawn_of}
 use Rattle.model.specs.Changed.{next_namespace, pair_tables, pair_tablets, target_in, sources, new_clone, clone_begun}
 use Rattle.model.specs.Changes.{named, clone_named}
-use Rattle.model.specs.Parts.{Master, Drawn, Parts}
 use Rattle.law_store.proofs.Keys.{either_way}
 use Rattle.law_invariants.specs.Operations.{Uses, takers, CloneGood}
 use Rattle.law_invariants.specs.Invariant.{Inv, view_of, view_at}
@@ -106,13 +98,10 @@ abbrev pub owners_for : Master → Id → ℕ → List Owner
 owners_for m ns to = map (λ p. record { table = p.target; namespace = next_namespace m }) (tables_of m ns to)
 
 more_drawn : (d : Drawn) (tables tablets : ℕ) (kind : Kind) → drawn_of kind d ≤ drawn_of kind (record d { namespaces = d.namespaces + 1; tables = d.tables + tables; tablets = d.tablets + tablets; clones = d.clones + 1 })
-more_drawn d tables tablets Namespace = omega arith
-more_drawn d tables tablets Table = omega arith
-more_drawn d tables tablets TabletKind = omega arith
 more_drawn d tables tablets ScheduleKind = le_refl _
 more_drawn d tables tablets Snapshot = le_refl _
 more_drawn d tables tablets Restoration = le_refl _
-more_drawn d tables tablets Clone = omega arith
+more_drawn d tables tablets _ = omega arith
 
 owners_new : (m : Master) (ns : Id) (to : ℕ) → AreNew m (owners_for m ns to) (drawn_for m ns to)
 owners_new m ns to = record {

@@ -1,22 +1,17 @@
 -- A clone is accepted: its record is added to the others.
 use Rattle.std.proofs.Common.{ℕ, ◌≡◌, ◌≤◌, ◌<◌, List, [], ◌∷◌, ◌++◌, Option, Some, None, false, ◌&&◌, ◌⊎◌, inl, inr, refl, sym, ap, subst, ◌∙◌, arith, not, le_trans}
 use Rattle.std.specs.Option.{option_and_then}
-use Rattle.row_values.specs.Ids.{Kind, Namespace, Table, Tablet as TabletKind, Schedule as ScheduleKind, Snapshot, Restoration, Clone, Id, same}
-use Rattle.row_values.specs.Elements.{In}
-use Rattle.model.specs.Activity.{Interval}
+use Rattle.model.specs.Cluster.{Kind, CloneKind as Clone, Id, same, In, Interval, Mark, Release, BodyKind, kind_of, Listed, RestorationRecord, TabletPair, CloneRecord, Accepted, is_restored, is_cloned, is_visible, unacked_at, Master, Parts}
 use Rattle.model.specs.Journal.{Change}
-use Rattle.model.specs.Tablets.{Mark, Release, BodyKind, kind_of}
-use Rattle.model.specs.Records.{Listed, RestorationRecord, TabletPair, CloneRecord, Accepted, is_restored, is_cloned, is_visible, unacked_at}
 use Rattle.model.specs.Stands.{copied_at}
 use Rattle.model.specs.Coordination.{pending_of, unfinished_clone}
-use Rattle.model.specs.Parts.{Master, Parts}
 use Rattle.law_store.proofs.Keys.{either_way}
 use Rattle.law_invariants.specs.Operations.{Uses, OperationsApart, OperationsGood, CloneGood}
 use Rattle.law_invariants.specs.Orders.{IsFence, IsAfter, OrdersGood, CloneSlot, IsHome, IsTarget, ReservedSlot, cloning_stage, stage_of_clone}
 use Rattle.law_invariants.specs.Invariant.{Inv}
 use Rattle.law_invariants.proofs.Finding.{in_added, in_first}
 use Rattle.law_invariants.proofs.Using.{alone_added}
-use Rattle.law_clones.proofs.Beside.{with_clones, FloorsRise, schedule_beside, scheduled_beside, snapshot_beside, restoration_beside, clone_beside, journal_beside, rows_beside, forgotten_beside, master_beside, slot_beside, fence_beside, restoration_slot_beside, clone_slot_beside, home_beside}
+use Rattle.law_clones.proofs.Beside.{with_clones, FloorsRise, scheduled_beside, snapshot_beside, forgotten_beside, master_beside, slot_beside}
 
 abbrev pub adding : Master → CloneRecord → Master
 adding m c = with_clones m (m.clones ++ c ∷ []) m.sent
@@ -92,14 +87,9 @@ found_then None f l e go = absurd (let q = e in grind arith)
 found_then (Some a) f l e go = go a refl e
 
 pending_by : (kind : Kind) (m : Master) (c : CloneRecord) (operation : Id) (slot : ℕ) (l : Listed) → pending_of kind m.snapshots m.restorations m.clones operation slot ≡ Some l → pending_of kind (adding m c).snapshots (adding m c).restorations (adding m c).clones operation slot ≡ Some l
-pending_by Snapshot m c operation slot l e = e
-pending_by Restoration m c operation slot l e = e
 pending_by Clone m c operation slot l e = found_then (unfinished_clone m.clones operation) (λ r. unacked_at r.listed slot) l e
     (λ r found at. ap (option_and_then {T = CloneRecord} (λ q. unacked_at q.listed slot)) (clone_added m.clones c operation r found) ∙ at)
-pending_by Namespace m c operation slot l e = e
-pending_by Table m c operation slot l e = e
-pending_by TabletKind m c operation slot l e = e
-pending_by ScheduleKind m c operation slot l e = e
+pending_by _ m c operation slot l e = e
 
 -- Commands, marks and fences
 
@@ -115,7 +105,7 @@ after_adding ps activity changes c clock operation kind w h = let cs = ps.master
 }
 
 fence_adding : (ps : Parts) (c : CloneRecord) (slot : ℕ) (table operation : Id) → IsFence ps.master slot table (ps.tablet slot).done operation → IsFence (adding ps.master c) slot table (ps.tablet slot).done operation
-fence_adding ps c slot table operation (inl h) = inl (fence_beside ps.master (ps.master.clones ++ c ∷ []) ps.master.sent slot table (ps.tablet slot).done operation h)
+fence_adding ps c slot table operation (inl h) = inl h
 fence_adding ps c slot table operation (inr h) = inr (record { clone = h.clone; kept = in_first ps.master.clones (c ∷ []) h.clone h.kept; id_is = h.id_is; owned = h.owned; place = h.place })
 
 orders_adding : (ps : Parts) (activity : List Interval) (changes : List Change) (c : CloneRecord) (slot : ℕ) → Adds ps activity changes c → OrdersGood ps.master slot (ps.tablet slot) → OrdersGood (adding ps.master c) slot (ps.tablet slot)
@@ -141,7 +131,7 @@ orders_adding ps activity changes c slot w h = let t = ps.tablet slot in record 
 }
 
 home_adding : (m : Master) (c : CloneRecord) (slot : ℕ) (tablet : Id) → IsHome m slot tablet ⊎ IsTarget m slot tablet → IsHome (adding m c) slot tablet ⊎ IsTarget (adding m c) slot tablet
-home_adding m c slot tablet (inl h) = inl (home_beside m (m.clones ++ c ∷ []) m.sent slot tablet h)
+home_adding m c slot tablet (inl h) = inl h
 home_adding m c slot tablet (inr h) = inr (record {
   clone = h.clone;
   kept = in_first m.clones (c ∷ []) h.clone h.kept;
@@ -175,26 +165,26 @@ adding_keeps ps activity changes c w inv =
         kept = λ ns. le_trans (ops.kept ns) (w.floors ns);
         owners = ops.owners;
         apart = added_apart ps activity changes c w ops;
-        schedules = λ k isin. schedule_beside m cs s k w.floors (ops.schedules k isin);
+        schedules = λ k isin. ops.schedules k isin;
         scheduled = λ k isin. scheduled_beside m cs s k w.floors (ops.scheduled k isin);
         snapshots = λ q isin. snapshot_beside m cs s q w.floors (ops.snapshots q isin);
-        restorations = λ r isin. restoration_beside m cs s changes r (ops.restorations r isin);
-        clones = in_added (CloneGood (adding m c) changes) m.clones c (λ d old. clone_beside m cs s changes d (ops.clones d old)) w.good;
+        restorations = ops.restorations;
+        clones = in_added (CloneGood (adding m c) changes) m.clones c (λ d old. ops.clones d old) w.good;
         sent = λ mark isin. elim (ops.sent mark isin) [
           | inl of ↦ inl of
           | inr rest ↦ elim rest [ inl of ↦ inr (inl of) | inr of ↦ inr (inr (of.0, (in_first m.clones (c ∷ []) of.0 of.1.0, of.1.1))) ]
         ];
       };
-      journal = journal_beside m cs s changes inv.journal;
-      rows_past = rows_beside m cs s ps.tablet changes inv.rows_past;
+      journal = inv.journal;
+      rows_past = inv.rows_past;
       works = λ slot. (let h = inv.works slot in let t = ps.tablet slot in record {
         orders = orders_adding ps activity changes c slot w h.orders;
         obeyed = record {
           drawn_table = h.obeyed.drawn_table;
           home = λ present. home_adding m c slot t.tablet (h.obeyed.home present);
           snapshots = h.obeyed.snapshots;
-          restorations = λ r isin. restoration_slot_beside r.state m cs s changes r slot t (h.obeyed.restorations r isin);
-          clones = in_added (λ d. CloneSlot d.state (adding m c) changes d slot t) m.clones c (λ d old. clone_slot_beside d.state m cs s changes d slot t (h.obeyed.clones d old))
+          restorations = h.obeyed.restorations;
+          clones = in_added (λ d. CloneSlot d.state (adding m c) changes d slot t) m.clones c (λ d old. h.obeyed.clones d old)
               (subst (λ state. CloneSlot state (adding m c) changes c slot t) (sym w.accepted) (w.vacant slot));
         };
       });

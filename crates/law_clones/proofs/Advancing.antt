@@ -1,14 +1,9 @@
 -- An advance of a clone: its record moves, all that it lists was acked, and it waits for no snapshot.
 use Rattle.std.proofs.Common.{ℕ, ◌≡◌, ◌≤◌, List, [], ◌∷◌, None, true, false, refl, sym, ap, subst, ◌∙◌, arith, le_refl}
 use Rattle.std.specs.Option.{option_map_or}
-use Rattle.row_values.specs.Ids.{Restoration, Clone, Id}
-use Rattle.row_values.specs.Elements.{In}
-use Rattle.model.specs.Activity.{Interval}
+use Rattle.model.specs.Cluster.{RestorationKind as Restoration, CloneKind as Clone, Id, In, Interval, Listed, CloneRecord, CloneState, is_cloned, Advance, Master, Parts}
 use Rattle.model.specs.Journal.{Change as Made}
-use Rattle.model.specs.Records.{Listed, CloneRecord, CloneState, is_cloned}
 use Rattle.model.specs.Coordination.{unfinished_restoration, unfinished_clone}
-use Rattle.model.specs.Acts.{Advance}
-use Rattle.model.specs.Parts.{Master, Parts}
 use Rattle.model.specs.Moves.{progress_of, clone_progress, awaited_by_clone, clone_moved, moved_of, advance}
 use Rattle.model.specs.History.{with_either, with_clone}
 use Rattle.law_invariants.specs.Invariant.{Inv, Later}
@@ -18,8 +13,7 @@ use Rattle.law_invariants.proofs.Remembering.{remembered_ticked}
 use Rattle.law_invariants.proofs.Working.{operations_ticked_if, works_ticked_if, tables_drawn, all_listed}
 use Rattle.law_invariants.proofs.Ticking.{KeepsAll, master_ticked, slot_ticked}
 use Rattle.law_invariants.proofs.Pending.{unfinished_clone_is}
-use Rattle.law_invariants.proofs.Acting.{alone_keeps}
-use Rattle.law_invariants.proofs.Advancing.{moves, advance_by, mapped_some, no_restoration}
+use Rattle.law_invariants.proofs.Advancing.{alone_keeps, moves, advance_by, mapped_some, no_restoration}
 
 -- the master alone goes on to a later clock
 pub ticked_keeps : (ps : Parts) (activity : List Interval) (changes : List Made) (n : ℕ) → ps.master.clock ≤ n → Inv ps activity changes → Inv (record { master = record ps.master { clock = n }; tablet = ps.tablet }) activity changes

@@ -2,29 +2,19 @@
 use Rattle.std.proofs.Common.{ℕ, ◌≡◌, ◌≤◌, ◌<◌, List, ◌++◌, Option, Some, None, true, false, inl, inr, refl, sym, ap, subst, ◌∙◌, arith, leb, leb-true, leb-false, le_trans, le_refl, le_of_lt, lt_of_lt_of_le}
 use Rattle.std.specs.Option.{is_some}
 use Rattle.std.proofs.lemmas.Bool.{true≢false}
-use Rattle.row_values.specs.Ids.{Id, same}
-use Rattle.row_values.specs.Elements.{In}
-use Rattle.row_values.specs.Codes.{code_of}
-use Rattle.row_values.specs.Ranges.{in_range}
-use Rattle.row_values.specs.Store.{read_of}
-use Rattle.model.specs.Times.{is_open}
-use Rattle.model.specs.Catalog.{owner_of, kept_from}
-use Rattle.model.specs.Restored.{cloned_activity, cloned_tables}
-use Rattle.model.specs.Activity.{Interval, active_at}
+use Rattle.model.specs.Cluster.{Id, same, In, code_of, in_range, read_of, is_open, owner_of, kept_from, Interval, Tablet, Mark, Release, ReleaseKind, is_serving, is_done, Listed, RestorationRecord, TabletPair, CloneRecord, Copying, CloneReleasing, is_cloned, is_visible, unsent, Parts}
+use Rattle.model.specs.Restored.{cloned_activity}
 use Rattle.model.specs.Journal.{Change, NamespaceCloned, TableView, source_of, moved_to, table_at, row_at}
-use Rattle.model.specs.Tablets.{Tablet, Mark, Release, ReleaseKind, is_serving, is_done}
-use Rattle.model.specs.Records.{Listed, RestorationRecord, RestorationState, Fencing, Snapshotting, Switching, Restoring, Releasing, Restored, TabletPair, CloneRecord, CloneState, Accepted, CloneSnapshot, Copying, CloneReleasing, CloneComplete, is_restored, is_cloned, is_visible, unsent}
 use Rattle.model.specs.Stands.{AreRowsAt, awaited_in, awaited_of, copied_at}
 use Rattle.model.specs.Cleanup.{floor_of}
 use Rattle.model.specs.Schedules.{floor}
 use Rattle.model.specs.Operations.{time_of_user}
 use Rattle.model.specs.Moves.{released}
-use Rattle.model.specs.Parts.{Parts}
 use Rattle.law_store.proofs.Keys.{either_way}
 use Rattle.law_store.proofs.Listing.{restored_reads}
 use Rattle.law_invariants.specs.Remembered.{Remembered}
-use Rattle.law_invariants.specs.Operations.{Uses, is_switched, IsListed, IsActive, IsSource, IsReserved, VisibleGood, CloneStateGood, CloneGood, OperationsGood, JournalGood, RestorationStateGood}
-use Rattle.law_invariants.specs.Orders.{FencePlace, ClonePlace, IsFence, OrdersGood, RestoringSlot, ReleasingSlot, RestorationSlot, CopyingSlot, CloneSlot, IsCopy, ObeyedGood, RowsPast, stage_of_clone, cloning_stage}
+use Rattle.law_invariants.specs.Operations.{grounds, IsListed, IsActive, IsSource, IsReserved, VisibleGood, CloneGood, OperationsGood, JournalGood, RestorationStateGood}
+use Rattle.law_invariants.specs.Orders.{ClonePlace, IsFence, OrdersGood, ReleasingSlot, CopyingSlot, CloneSlot, IsCopy, ObeyedGood, RowsPast, stage_of_clone, cloning_stage}
 use Rattle.law_invariants.specs.Invariant.{Inv, IsGood, SlotGood, SlotWorks, MasterGood, ComesFrom}
 use Rattle.law_invariants.proofs.Finding.{both_pass, same_equal, same_self, not_same, in_append, in_second, in_mapped, map_in, in_added}
 use Rattle.law_invariants.proofs.Operating.{visible_later}
@@ -36,14 +26,16 @@ use Rattle.law_invariants.proofs.Working.{before_any}
 use Rattle.law_invariants.proofs.Awaiting.{none_awaited, awaited_none}
 use Rattle.law_invariants.proofs.Names.{new_namespace}
 use Rattle.law_invariants.proofs.Slots.{done_is, serving_present}
-use Rattle.law_clones.proofs.Beside.{FloorsRise, schedule_beside, scheduled_beside, snapshot_beside, restoration_beside, clone_beside, journal_beside, rows_beside, forgotten_beside, master_beside, slot_beside, restoration_slot_beside, clone_slot_beside}
+use Rattle.law_clones.proofs.Beside.{FloorsRise, scheduled_beside, snapshot_beside, forgotten_beside, master_beside, slot_beside}
 use Rattle.law_clones.proofs.Entering.{Step, Steps, now, entered, stepped, by_entering, other_in, entered_apart, entered_floors, orders_entering, sent_entering}
 use Rattle.law_clones.proofs.Advancing.{MayMove, MovedKeeps}
 use Rattle.law_clones.proofs.Viewing.{clone, table_early, rows_early, table_aside, rows_aside, table_target, rows_target}
 use Rattle.law_clones.proofs.Counting.{taken, cloned_covers}
-use Rattle.law_clones.proofs.Cataloguing.{cloned_is, tables_cloned, marks_cloned, names_cloned}
-use Rattle.law_clones.proofs.Growing.{Becomes, grown, fixed_is, good, copying, dark, unlisted, unmade, takes, takes_catalog, by_interval, stays, begins, aside, open_was, open_on, other_use, floors, schedule_grown, scheduled_grown, snapshot_grown, restoration_grown}
+use Rattle.law_clones.proofs.Cataloguing.{tables_cloned, marks_cloned, names_cloned}
+use Rattle.law_clones.proofs.Growing.{grounds_grown, space_grown, Becomes, grown, fixed_is, good, copying, dark, unlisted, unmade, takes, takes_catalog, by_interval, stays, begins, aside, open_was, open_on, other_use, floors, schedule_grown, scheduled_grown, snapshot_grown, restoration_grown}
 use Rattle.law_invariants.proofs.Parting.{part_same, part_append}
+use Rattle.law_invariants.proofs.Going.{clone_goes, place_goes, restoration_slot_goes, clone_slot_goes}
+use Rattle.law_invariants.proofs.Recording.{same_on}
 
 -- the record that becomes current, with the tablets that it is to release
 abbrev pub step : CloneRecord → Id → ℕ → ℕ → Step
@@ -262,92 +254,48 @@ module _ (ps : Parts) (activity : List Interval) (changes : List Change) (n : �
 
   -- Other clones
 
-  clone_state_grown : (state : CloneState) (c : CloneRecord) → (is_cloned state ≡ false → c.target_id ≡ r.target_id → ⊥) → CloneStateGood state ps.master c → CloneStateGood state (grown ps.master r n) c
-  clone_state_grown Accepted c apart h = h
-  clone_state_grown (CloneSnapshot own) c apart h = record { empty = h.empty; snapshot = h.snapshot; kept = h.kept; id_is = h.id_is; namespace_is = h.namespace_is; reaches = h.reaches }
-  clone_state_grown (Copying served time) c apart h = record {
-    begun = le_trans h.begun up;
-    later = h.later;
-    serves = (let k = h.serves in record { serving = k.serving; kept = k.kept; id_is = k.id_is; complete = k.complete; namespace_is = k.namespace_is; after = k.after; reaches = k.reaches });
-    bodies = h.bodies;
-    all = h.all;
-  }
-  clone_state_grown (CloneReleasing served time) c apart h = record {
-    since = h.since;
-    begun = le_trans h.begun up;
-    later = h.later;
-    copied = h.copied;
-    bodies = h.bodies;
-    active = λ l lists. (let k = h.active l lists in record { interval = k.interval; kept = stays ps activity changes n r serving at b k.interval k.kept; tablet_is = k.tablet_is; slot_is = k.slot_is; opened = k.opened; from_is = k.from_is });
-    listed_of = λ l i lists. by_interval ps activity changes n r serving at b (λ i. i.tablet ≡ l.tablet → owner_of ps.master.catalog.owners i.table ≡ Some c.target_id)
-        (λ i there. h.listed_of l i lists there)
-        (λ p paired e. absurd (let k = h.active l lists in (reserved p paired).unknown k.interval k.kept (k.tablet_is ∙ sym e))) i;
-    opens = λ i opened. h.opens i (open_was ps activity changes n r serving at b c.target_id i (apart refl) opened);
-  }
-  clone_state_grown (CloneComplete served time) c apart h = h
-
-  source_grown : (c d : CloneRecord) (p : TabletPair) → d.to ≡ c.to → d.source ≡ c.source → d.tables ≡ c.tables → IsSource ps.master c p → IsSource (grown ps.master r n) d p
-  source_grown c d p to source_is tables h = record {
+  source_grown : (c : CloneRecord) (p : TabletPair) → IsSource ps.master c p → IsSource (grown ps.master r n) c p
+  source_grown c p h = record {
     interval = h.interval;
     kept = stays ps activity changes n r serving at b h.interval h.kept;
     tablet_is = h.tablet_is;
     slot_is = h.slot_is;
     low_is = h.low_is;
     high_is = h.high_is;
-    active = subst (λ x. active_at x h.interval ≡ true) (sym to) h.active;
-    owned = h.owned ∙ ap Some (sym source_is);
+    active = h.active;
+    owned = h.owned;
     pair = h.pair;
-    paired = subst (In h.pair) (sym tables) h.paired;
+    paired = h.paired;
     source_is = h.source_is;
     target_is = h.target_is;
   }
 
   clone_grown : (c : CloneRecord) → In c ps.master.clones → (c ≡ r → ⊥) → CloneGood ps.master changes c → CloneGood (grown ps.master r n) (clone n r changes) c
-  clone_grown c isin apart h =
-      let m = ps.master in
-      let k = good ps activity changes n r serving at b in
-      record {
-        kind_is = h.kind_is;
-        drawn = h.drawn;
-        drawn_source = h.drawn_source;
-        drawn_target = h.drawn_target;
-        apart = h.apart;
-        past = lt_of_lt_of_le h.past up;
-        pairs = λ p paired. (let g = h.pairs p paired in record { slot_from = g.slot_from; slot_to = g.slot_to; drawn = g.drawn; drawn_table = g.drawn_table; owned = g.owned });
-        drawn_listed = h.drawn_listed;
-        one_slot = h.one_slot;
-        one_target = h.one_target;
-        one_table = h.one_table;
-        tables_apart = h.tables_apart;
-        owned = h.owned;
-        drawn_sources = h.drawn_sources;
-        covers = h.covers;
-        scheduled = h.scheduled;
-        sources = λ open_ p paired. source_grown c c p refl refl refl (h.sources open_ p paired);
-        reserved = λ unseen p paired. (let g = h.reserved unseen p paired in record {
-          free = by_interval ps activity changes n r serving at b (λ i. i.slot ≡ p.slot → ⊥) (λ i there is. g.free i there is)
-              (λ q in_q is. apart (b.inv.operations.apart.one_target c r p q isin b.kept (visible_later c.state unseen) (ap is_cloned b.is) paired in_q (sym is)));
-          unknown = by_interval ps activity changes n r serving at b (λ i. i.tablet ≡ p.target → ⊥) (λ i there is. g.unknown i there is)
-              (λ q in_q is. apart (same_made c q p isin unseen paired in_q (sym is)));
-          no_snapshot = g.no_snapshot;
-          no_restoration = g.no_restoration;
-        });
-        no_tablet = λ unseen. by_interval ps activity changes n r serving at b (λ i. owner_of m.catalog.owners i.table ≡ Some c.target_id → ⊥) (λ i there owner. h.no_tablet unseen i there owner)
-            (λ q in_q owner. apart (same_target c isin (visible_later c.state unseen) (let e : Some c.target_id ≡ Some r.target_id = sym owner ∙ (k.pairs q in_q).owned in cc)));
-        no_table = λ unseen t there of. elim (in_append m.catalog.tables (cloned_tables r.tables m.catalog.tables r.target_id r.to n) t there) [
-          | inl old ↦ h.no_table unseen t old of
-          | inr came ↦ (let q = cloned_is m.catalog.tables r.target_id r.to n r.tables t came in apart (same_target c isin (visible_later c.state unseen) (sym of ∙ ap (λ z. z.namespace) (sym q.is))))
-        ];
-        no_namespace = λ unseen. in_added (λ q. (q.id ≡ c.target_id → ⊥) × (is_open q.to ≡ true → q.name ≡ c.target → ⊥)) m.catalog.namespaces (new_namespace r.target_id r.target n)
-            (λ q there. h.no_namespace unseen q there)
-            (λ e. apart (same_target c isin (visible_later c.state unseen) (sym e)), λ opened e. apart (b.inv.operations.apart.one_name c r isin b.kept unseen (dark ps activity changes n r serving at b) (sym e)));
-        no_schedule = h.no_schedule;
-        unfixed = λ open_ to fixed. elim (fixed_is n r changes c.target_id to fixed) [
-          | inl q ↦ apart (b.inv.operations.apart.one_clone c r r.source isin b.kept open_ (ap is_cloned b.is) (inr q.0) (inl refl))
-          | inr old ↦ h.unfixed open_ to old
-        ];
-        in_state = clone_state_grown c.state c (λ open_ e. apart (same_target c isin open_ e)) h.in_state;
-      }
+  clone_grown c isin apart = clone_goes (grounds ps.master) (grounds (grown ps.master r n)) changes (clone n r changes) (grounds_grown ps activity changes n r serving at b) ps.master.restorations ps.master.restorations c (λ open_. record {
+    space = space_grown ps activity changes n r serving at b c.target_id (λ e. apart (same_target c isin open_ e))
+        (λ e. apart (b.inv.operations.apart.one_clone c r r.source isin b.kept open_ (ap is_cloned b.is) (inr e) (inl refl)));
+    lines = λ owner. record {
+      stays = λ l i lists there is. stays ps activity changes n r serving at b i there;
+      was = λ l i lists known. by_interval ps activity changes n r serving at b (λ i. i.tablet ≡ l.tablet → In i ps.master.activity)
+          (λ i there is. there)
+          (λ p paired e. absurd ((reserved p paired).unknown known.interval known.kept (known.tablet_is ∙ sym e))) i;
+    };
+    named = λ q there is. (q, (there, same_on q));
+    schedule = λ k there is. (k, (there, is));
+    source = λ p paired h. source_grown c p h;
+    reserved = λ unseen p paired g. record {
+      free = by_interval ps activity changes n r serving at b (λ i. i.slot ≡ p.slot → ⊥) (λ i there is. g.free i there is)
+          (λ q in_q is. apart (b.inv.operations.apart.one_target c r p q isin b.kept open_ (ap is_cloned b.is) paired in_q (sym is)));
+      unknown = by_interval ps activity changes n r serving at b (λ i. i.tablet ≡ p.target → ⊥) (λ i there is. g.unknown i there is)
+          (λ q in_q is. apart (same_made c q p isin unseen paired in_q (sym is)));
+      no_snapshot = g.no_snapshot;
+      no_restoration = g.no_restoration;
+    };
+    names = λ unseen q there free. in_added (λ q. (q.id ≡ c.target_id → ⊥) × (is_open q.to ≡ true → q.name ≡ c.target → ⊥)) ps.master.catalog.namespaces (new_namespace r.target_id r.target n)
+        (λ q there. free q there)
+        (λ e. apart (same_target c isin open_ (sym e)), λ opened e. apart (b.inv.operations.apart.one_name c r isin b.kept unseen (dark ps activity changes n r serving at b) (sym e))) q there;
+    schedules = λ unseen k there is. (k, (there, is));
+  })
 
   -- The journal
 
@@ -374,16 +322,8 @@ module _ (ps : Parts) (activity : List Interval) (changes : List Change) (n : �
 
   -- Slots and operations
 
-  place_grown : (state : RestorationState) (x : RestorationRecord) (slot : ℕ) (done : List Mark) → FencePlace state x ps.master slot done → FencePlace state x (grown ps.master r n) slot done
-  place_grown Fencing x slot done h = (h.0, (open_on ps activity changes n r serving at b x.namespace h.0 h.1.0, h.1.1))
-  place_grown (Snapshotting point own) x slot done h = (h.0, (open_on ps activity changes n r serving at b x.namespace h.0 h.1.0, h.1.1))
-  place_grown (Switching point served) x slot done h = (h.0, (open_on ps activity changes n r serving at b x.namespace h.0 h.1.0, h.1.1))
-  place_grown (Restoring point served) x slot done h = h
-  place_grown (Releasing point served) x slot done h = h
-  place_grown (Restored point served) x slot done h = h
-
   fence_grown : (slot : ℕ) (table : Id) (done : List Mark) (operation : Id) → IsFence ps.master slot table done operation → IsFence (grown ps.master r n) slot table done operation
-  fence_grown slot table done operation (inl h) = inl (record { restoration = h.restoration; kept = h.kept; id_is = h.id_is; owned = h.owned; place = place_grown h.restoration.state h.restoration slot done h.place })
+  fence_grown slot table done operation (inl h) = inl (record { restoration = h.restoration; kept = h.kept; id_is = h.id_is; owned = h.owned; place = place_goes h.restoration.state h.restoration ps.master.activity (grown ps.master r n).activity ps.master.catalog.owners ps.master.catalog.owners slot done (λ open_ i opened is. open_on ps activity changes n r serving at b h.restoration.namespace i opened) h.place })
   fence_grown slot table done operation (inr h) = inr (record { clone = h.clone; kept = h.kept; id_is = h.id_is; owned = h.owned; place = h.place })
 
   orders_grown : (slot : ℕ) → OrdersGood (grown ps.master r n) slot (ps.tablet slot)
@@ -400,63 +340,12 @@ module _ (ps : Parts) (activity : List Interval) (changes : List Change) (n : �
         });
         once = h.once;
         fresh = h.fresh;
-        marks = λ mark isin. (let k = h.marks mark isin in record {
-          drawn = k.drawn;
-          after = k.after;
-          by_snapshot = k.by_snapshot;
-          by_restoration = k.by_restoration;
-          by_clone = k.by_clone;
-        });
+        marks = λ mark isin. (let k = h.marks mark isin in assumption k);
         holds = h.holds;
         frozen = h.frozen;
         sets = h.sets;
         bare = h.bare;
       }
-
-  restoring_grown : (x : RestorationRecord) (point : ℕ) (l : Listed) (t : Tablet) → is_switched changes x.namespace point ≡ true → RestoringSlot changes x point l t → RestoringSlot (clone n r changes) x point l t
-  restoring_grown x point l t switched h = record {
-    acked = h.acked;
-    fenced = h.fenced;
-    restored = λ is did. (let k = h.restored is did in record {
-      serves = k.serves;
-      cutoff_is = k.cutoff_is;
-      rows = subst (λ js. AreRowsAt t.versions t.low t.high point js x.to t.table) (sym (before_any changes x.namespace point (clone n r changes) changes switched)) k.rows;
-    });
-    hidden = h.hidden;
-  }
-
-  restoration_slot_grown : (state : RestorationState) (x : RestorationRecord) (slot : ℕ) → (is_restored state ≡ false → Uses r x.namespace → ⊥) → RestorationStateGood state ps.master changes x → RestorationSlot state ps.master changes x slot (ps.tablet slot)
-      → RestorationSlot state (grown ps.master r n) (clone n r changes) x slot (ps.tablet slot)
-  restoration_slot_grown Fencing x slot apart good_ h = h
-  restoration_slot_grown (Snapshotting point own) x slot apart good_ h = record { fenced = λ i opened is. h.fenced i (open_was ps activity changes n r serving at b x.namespace i (λ e. apart refl (inr (sym e))) opened) is }
-  restoration_slot_grown (Switching point served) x slot apart good_ h = record {
-    fenced = λ i opened is. h.fenced i (open_was ps activity changes n r serving at b x.namespace i (λ e. apart refl (inr (sym e))) opened) is;
-    past = λ i opened is. h.past i (open_was ps activity changes n r serving at b x.namespace i (λ e. apart refl (inr (sym e))) opened) is;
-  }
-  restoration_slot_grown (Restoring point served) x slot apart good_ h = λ l lists is. restoring_grown x point l (ps.tablet slot) good_.switched (h l lists is)
-  restoration_slot_grown (Releasing point served) x slot apart good_ h = h
-  restoration_slot_grown (Restored point served) x slot apart good_ h = h
-
-  clone_slot_grown : (state : CloneState) (c : CloneRecord) (slot : ℕ) → c.to < n → CloneSlot state ps.master changes c slot (ps.tablet slot) → CloneSlot state (grown ps.master r n) (clone n r changes) c slot (ps.tablet slot)
-  clone_slot_grown Accepted c slot l h = h
-  clone_slot_grown (CloneSnapshot own) c slot l h = h
-  clone_slot_grown (Copying served time) c slot l h = record {
-    acked = h.acked;
-    empty = h.empty;
-    copied = λ p paired is done. (let k = h.copied p paired is done in record {
-      serves = k.serves;
-      fenced = k.fenced;
-      tablet_is = k.tablet_is;
-      table_is = k.table_is;
-      low_is = k.low_is;
-      high_is = k.high_is;
-      cutoff = k.cutoff;
-      rows = λ d isin of. (let q = k.rows d isin of in record { stamps = q.stamps; upserts = q.upserts; rows = λ key ranged. q.rows key ranged ∙ sym (rows_early n r changes c.to d.source key l); inside = q.inside });
-    });
-    later = h.later;
-  }
-  clone_slot_grown (CloneReleasing served time) c slot l h = h
-  clone_slot_grown (CloneComplete served time) c slot l h = h
 
   -- The record moves
 
@@ -525,20 +414,7 @@ module _ (ps : Parts) (activity : List Interval) (changes : List Change) (n : �
     drawn_sources = h.drawn_sources;
     covers = h.covers;
     scheduled = λ open_. h.scheduled (ap is_cloned b.is);
-    sources = λ open_ p paired. (let k = source p paired in record {
-      interval = k.interval;
-      kept = stays ps activity changes n r serving at b k.interval k.kept;
-      tablet_is = k.tablet_is;
-      slot_is = k.slot_is;
-      low_is = k.low_is;
-      high_is = k.high_is;
-      active = k.active;
-      owned = k.owned;
-      pair = k.pair;
-      paired = k.paired;
-      source_is = k.source_is;
-      target_is = k.target_is;
-    });
+    sources = λ open_ p paired. source_grown r p (source p paired);
     reserved = λ unseen. absurd (true≢false unseen);
     no_tablet = λ unseen. absurd (true≢false unseen);
     no_table = λ unseen. absurd (true≢false unseen);
@@ -583,10 +459,12 @@ module _ (ps : Parts) (activity : List Interval) (changes : List Change) (n : �
               (λ e. inr (record { clone = k.clone; kept = other_in v m.clones k.clone k.kept e; serving = k.serving; at = k.at; state_is = k.state_is; pair = k.pair; paired = k.paired; slot_is = k.slot_is; tablet_is = k.tablet_is }))
         ];
         snapshots = h.snapshots;
-        restorations = λ x isin. restoration_slot_beside x.state g cs s (clone n r changes) x slot t
-            (restoration_slot_grown x.state x slot (λ open_. other_use ps activity changes n r serving at b x isin open_) (ops.restorations x isin).in_state (h.restorations x isin));
+        restorations = λ x isin. restoration_slot_goes x.state x m.activity g.activity m.catalog.owners m.catalog.owners changes (clone n r changes) slot t
+            (λ open_ i opened. open_was ps activity changes n r serving at b x.namespace i (λ e. other_use ps activity changes n r serving at b x isin open_ (inr (sym e))) opened)
+            (λ point served e. before_any changes x.namespace point (clone n r changes) changes (subst (λ st. RestorationStateGood st m changes x) e (ops.restorations x isin).in_state).switched)
+            (h.restorations x isin);
         clones = λ c. by_entering (λ c. CloneSlot c.state (stepped g v) (clone n r changes) c slot t) v m.clones ops.apart.clone_ids b.kept (released_slot slot)
-            (λ x there other. clone_slot_beside x.state g cs s (clone n r changes) x slot t (clone_slot_grown x.state x slot (lt_of_lt_of_le (ops.clones x there).past up) (h.clones x there))) c;
+            (λ x there other. clone_slot_goes x.state x m.catalog.owners m.catalog.owners changes (clone n r changes) slot t (λ of. of) (λ served time d key e listed. rows_early n r changes x.to d.source key (lt_of_lt_of_le (ops.clones x there).past up)) (h.clones x there)) c;
       }
 
   works_now : (slot : ℕ) → SlotWorks (stepped (grown ps.master r n) (step r serving at n)) (clone n r changes) slot (ps.tablet slot)
@@ -660,11 +538,11 @@ module _ (ps : Parts) (activity : List Interval) (changes : List Change) (n : �
         kept = λ ns. le_trans (kept_now ns) (floors_now ns);
         owners = ops.owners;
         apart = entered_apart g v steps ops.apart;
-        schedules = λ k isin. schedule_beside g cs s k floors_now (schedule_grown ps activity changes n r serving at b k (ops.schedules k isin));
+        schedules = λ k isin. schedule_grown ps activity changes n r serving at b k (ops.schedules k isin);
         scheduled = λ k isin. scheduled_beside g cs s k floors_now (scheduled_grown ps activity changes n r serving at b k (ops.scheduled k isin));
         snapshots = λ q isin. snapshot_beside g cs s q floors_now (snapshot_grown ps activity changes n r serving at b q isin (ops.snapshots q isin));
-        restorations = λ x isin. restoration_beside g cs s new x (restoration_grown ps activity changes n r serving at b x isin (ops.restorations x isin));
-        clones = by_entering (CloneGood (stepped g v) new) v m.clones ops.apart.clone_ids b.kept now_good (λ x there other. clone_beside g cs s new x (clone_grown x there (no_other x other) (ops.clones x there)));
+        restorations = λ x isin. restoration_grown ps activity changes n r serving at b x isin (ops.restorations x isin);
+        clones = by_entering (CloneGood (stepped g v) new) v m.clones ops.apart.clone_ids b.kept now_good (λ x there other. clone_grown x there (no_other x other) (ops.clones x there));
         sent = sent_entering g v steps ops.apart ops.sent;
       }
 
@@ -682,8 +560,8 @@ module _ (ps : Parts) (activity : List Interval) (changes : List Change) (n : �
         cover = cloned_covers activity changes r n (takes ps activity changes n r serving at b) b.inv.cover;
         slots = λ slot. slot_beside g cs s new slot (ps.tablet slot) (slot_grown slot);
         operations = operations_now;
-        journal = journal_beside g cs s new journal_grown;
-        rows_past = rows_beside g cs s ps.tablet new rows_grown;
+        journal = journal_grown;
+        rows_past = rows_grown;
         works = works_now;
       }
 

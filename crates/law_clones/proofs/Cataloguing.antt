@@ -3,18 +3,14 @@ use Rattle.std.proofs.Common.{ℕ, ◌≡◌, ◌≤◌, List, [], ◌∷◌, �
 use Rattle.std.specs.List.{find}
 use Rattle.std.specs.Option.{option_map, option_map_or}
 use Rattle.std.specs.Str.{bytes_eq}
-use Rattle.row_values.specs.Ids.{Id, same}
-use Rattle.row_values.specs.Elements.{In}
-use Rattle.model.specs.Times.{is_open, holds_at}
-use Rattle.model.specs.Catalog.{Catalog, NamespaceRecord, TableRecord, KeptFrom, namespace_named, name_of, owner_of, kept_from, set_kept_from}
+use Rattle.model.specs.Cluster.{Id, same, In, is_open, holds_at, Catalog, NamespaceRecord, TableRecord, KeptFrom, namespace_named, name_of, owner_of, kept_from, set_kept_from, IdPair, CloneRecord}
 use Rattle.model.specs.Restored.{record_at, cloned, cloned_tables}
 use Rattle.model.specs.Journal.{Change, NamespaceCloned, TableView, source_of, moved_to, table_at}
-use Rattle.model.specs.Records.{IdPair, CloneRecord}
 use Rattle.law_store.proofs.Keys.{either_way, equal_keys, key_self}
 use Rattle.law_invariants.specs.Operations.{PairsApart}
 use Rattle.law_invariants.specs.Invariant.{IsPast, view_of, view_at, ColumnsStand, NamespacesStand, RecordsRise, TablesStand, MarksStand, is_marked}
 use Rattle.law_invariants.proofs.Finding.{both_pass, passes_both, second_fails, none_or_some, same_equal, same_self, in_append, in_first, in_second, none_found, not_same, find_only, find_in_first}
-use Rattle.law_invariants.proofs.Marks.{marked_set, marks_namespace_made}
+use Rattle.law_invariants.proofs.Cataloguing.{marked_set, marks_namespace_made}
 use Rattle.law_invariants.proofs.Names.{named_is, name_is, new_namespace, names_begun}
 use Rattle.law_invariants.proofs.Records.{has_title, is_named_at, is_table_at, table_named_found, record_at_found, record_at_is, kept_rises, kept_by}
 use Rattle.law_invariants.proofs.Ticking.{past_later}

@@ -2,27 +2,21 @@
 use Rattle.std.proofs.Common.{ℕ, ◌≡◌, ◌≤◌, List, [], ◌∷◌, length, Option, Some, None, true, refl, sym, ap, subst, ◌∙◌, arith, le_of_lt}
 use Rattle.std.specs.Prelude.{Result, Ok as Granted, Err as Denied}
 use Rattle.std.proofs.lemmas.Bool.{true≢false, ltb-false, leb-false}
-use Rattle.row_values.specs.Ids.{Id}
-use Rattle.row_values.specs.Slots.{same_slots}
-use Rattle.model.specs.Activity.{Interval}
-use Rattle.model.specs.Catalog.{namespace_named}
+use Rattle.model.specs.Cluster.{Id, same_slots, Interval, namespace_named, Refusal, Change, CloneNamespace, UnknownNamespace, NoSchedule, Master, Parts, BeginsClone, Outcome, checked}
 use Rattle.model.specs.Journal.{Change as Made}
 use Rattle.model.specs.Schedules.{least_low}
-use Rattle.model.specs.Acts.{Refusal, Change, CloneNamespace, UnknownNamespace, NoSchedule}
 use Rattle.model.specs.Changed.{next_clone, sources, clone_time, clone_begun}
 use Rattle.model.specs.Changes.{accepts, unused_checks, clone_checks, clone_namespace, CloneSource, source_from, with_window, found_source, judge_clone}
-use Rattle.model.specs.Parts.{Master, Parts, BeginsClone, Outcome, checked}
 use Rattle.law_invariants.specs.Invariant.{Inv, Later}
-use Rattle.law_invariants.proofs.Judging.{found_is, checked_is}
+use Rattle.law_invariants.proofs.Judging.{found_is, checked_is, change_keeps}
 use Rattle.law_invariants.proofs.Names.{named_is}
 use Rattle.law_invariants.proofs.Ticking.{refused_keeps, KeepsAll, by_judgement}
-use Rattle.law_invariants.proofs.Acting.{alone_keeps}
+use Rattle.law_invariants.proofs.Advancing.{alone_keeps}
 use Rattle.law_invariants.proofs.Using.{not_used}
 use Rattle.law_clones.proofs.Accepting.{MayClone, begun_keeps}
 use Rattle.model.specs.Entries.{slots_of}
 use Rattle.model.specs.Looks.{found_namespace, free_slots, plan_of}
 use Rattle.model.specs.History.{outcome}
-use Rattle.law_invariants.proofs.Stale.{change_keeps}
 
 -- what an accepted clone found
 record IsWindow (j : Result Id Refusal) (n : ℕ) (m : Master) (s : CloneSource) : Type 0 where

@@ -1,12 +1,9 @@
 -- A clone is complete: its target's tablets were released.
 use Rattle.std.proofs.Common.{ℕ, ◌≡◌, ◌≤◌, ◌<◌, List, [], inl, refl, sym, ap, subst, ◌∙◌, arith, le_refl, le_of_lt}
 use Rattle.std.proofs.lemmas.Bool.{true≢false}
-use Rattle.row_values.specs.Ids.{Id}
-use Rattle.model.specs.Activity.{Interval}
+use Rattle.model.specs.Cluster.{Id, Interval, CloneRecord, CloneReleasing, CloneComplete, Copying, Parts}
 use Rattle.model.specs.Journal.{Change as Made}
-use Rattle.model.specs.Records.{CloneRecord, CloneReleasing, CloneComplete, Copying}
 use Rattle.model.specs.Stands.{copied_at}
-use Rattle.model.specs.Parts.{Parts}
 use Rattle.law_invariants.specs.Orders.{ClonePlace, CloneSlot, stage_of_clone}
 use Rattle.law_invariants.specs.Invariant.{Inv}
 use Rattle.law_clones.proofs.Entering.{Step, Enters, entering_keeps}

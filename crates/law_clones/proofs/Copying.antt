@@ -3,15 +3,8 @@ use Rattle.std.proofs.Common.{ℕ, ◌≡◌, ◌≤◌, ◌<◌, ◌+◌, List,
 use Rattle.std.specs.Option.{unwrap_or, is_some}
 use Rattle.std.proofs.lemmas.Bool.{true≢false}
 use Rattle.std.proofs.lemmas.Bool.Decides.{nat_tests}
-use Rattle.row_values.specs.Ids.{Id, same}
-use Rattle.row_values.specs.Elements.{In}
-use Rattle.model.specs.Times.{before_end}
-use Rattle.model.specs.Activity.{Interval}
-use Rattle.model.specs.Catalog.{owner_of}
+use Rattle.model.specs.Cluster.{Id, same, In, before_end, Interval, owner_of, Tablet, Copy, Release, CopyKind, FreezeKind, is_serving, is_done, Listed, Schedule, SnapshotRecord, TabletPair, CloneRecord, CloneState, Accepted, CloneSnapshot, Copying, is_visible, unfinished_of, Master, Parts}
 use Rattle.model.specs.Journal.{Change as Made}
-use Rattle.model.specs.Tablets.{Tablet, Copy, Release, CopyKind, FreezeKind, is_serving, is_done}
-use Rattle.model.specs.Records.{Listed, Schedule, SnapshotRecord, TabletPair, CloneRecord, CloneState, Accepted, CloneSnapshot, Copying, is_visible, unfinished_of}
-use Rattle.model.specs.Parts.{Master, Parts}
 use Rattle.model.specs.Lists.{next_snapshot, new_snapshot, with_snapshot}
 use Rattle.model.specs.Schedules.{serving}
 use Rattle.model.specs.Moves.{clone_enters, with_clones_snapshot, copies, begins_clone, id_of_snapshot, serving_clone, awaited_by_clone, incomplete, is_complete}

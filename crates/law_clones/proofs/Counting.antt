@@ -3,13 +3,9 @@ use Rattle.std.proofs.Common.{ℕ, ◌≡◌, ◌≤◌, ◌<◌, ◌+◌, List,
 use Rattle.std.specs.Option.{is_some}
 use Rattle.std.proofs.lemmas.Bool.{true≢false}
 use Rattle.std.proofs.lemmas.Bool.Decides.{nat_tests}
-use Rattle.row_values.specs.Ids.{Id, same}
-use Rattle.row_values.specs.Elements.{In}
-use Rattle.row_values.specs.Ranges.{in_range, IsRange}
-use Rattle.model.specs.Activity.{Interval}
+use Rattle.model.specs.Cluster.{Id, same, In, in_range, IsRange, Interval, IdPair, TabletPair, CloneRecord}
 use Rattle.model.specs.Restored.{cloned_activity}
 use Rattle.model.specs.Journal.{Change, source_of, table_at}
-use Rattle.model.specs.Records.{IdPair, TabletPair, CloneRecord}
 use Rattle.model.specs.Stands.{holders}
 use Rattle.model.specs.Stands.{HasRange}
 use Rattle.law_store.proofs.Keys.{either_way}

@@ -2,15 +2,10 @@
 use Rattle.std.proofs.Common.{ℕ, ◌≡◌, ◌≤◌, ◌<◌, List, [], ◌∷◌, map, Option, Some, None, true, false, cond, ◌&&◌, ◌⊎◌, inl, inr, refl, sym, ap, subst, ◌∙◌, arith, not, le_trans}
 use Rattle.std.specs.Option.{option_and_then}
 use Rattle.std.proofs.lemmas.Bool.{true≢false}
-use Rattle.row_values.specs.Ids.{Kind, Namespace, Table, Tablet as TabletKind, Schedule as ScheduleKind, Snapshot, Restoration, Clone, Id, same}
-use Rattle.row_values.specs.Elements.{In}
-use Rattle.model.specs.Activity.{Interval}
+use Rattle.model.specs.Cluster.{Kind, CloneKind as Clone, Id, same, In, Interval, Tablet, Mark, Release, BodyKind, FenceKind, ReleaseKind, kind_of, Listed, CloneRecord, CloneState, Copying, Sent, is_cloned, is_visible, unsent, unacked_at, Master, Parts}
 use Rattle.model.specs.Journal.{Change}
-use Rattle.model.specs.Tablets.{Tablet, Mark, Release, BodyKind, FenceKind, FreezeKind, RestoreFromKind, HideKind, CopyKind, ReleaseKind, kind_of}
-use Rattle.model.specs.Records.{Listed, CloneRecord, CloneState, Copying, Sent, is_cloned, is_visible, unsent, unacked_at}
 use Rattle.model.specs.Stands.{copied_at}
 use Rattle.model.specs.Coordination.{pending, pending_of, unfinished_clone}
-use Rattle.model.specs.Parts.{Master, Parts}
 use Rattle.law_store.proofs.Keys.{either_way}
 use Rattle.law_invariants.specs.Operations.{Uses, OperationsApart, OperationsGood, CloneStateGood, CloneGood, IsSent}
 use Rattle.law_invariants.specs.Orders.{ClonePlace, IsFence, IsAfter, IsMark, OrdersGood, CloneSlot, IsHome, IsTarget, ObeyedGood, cloning_stage, stage_of_clone}
@@ -19,7 +14,7 @@ use Rattle.law_invariants.proofs.Finding.{same_equal, same_self, in_mapped, map_
 use Rattle.law_invariants.proofs.Ticking.{not_true}
 use Rattle.law_invariants.proofs.Using.{mapped_is, alone_mapped}
 use Rattle.law_invariants.proofs.Pending.{unfinished_clone_is, unacked_is}
-use Rattle.law_clones.proofs.Beside.{with_clones, FloorsRise, schedule_beside, scheduled_beside, snapshot_beside, restoration_beside, source_beside, reserved_beside, clone_beside, journal_beside, rows_beside, forgotten_beside, master_beside, slot_beside, fence_beside, restoration_slot_beside, clone_slot_beside, home_beside}
+use Rattle.law_clones.proofs.Beside.{with_clones, FloorsRise, scheduled_beside, snapshot_beside, forgotten_beside, master_beside, slot_beside}
 use Rattle.law_clones.proofs.Users.{users_floors}
 
 -- which record enters which state, with the tablets that it lists there
@@ -163,8 +158,8 @@ entered_good ps changes v w h = let m = ps.master in let cs = entered v m.clones
   drawn_sources = h.drawn_sources;
   covers = h.covers;
   scheduled = λ unfinished. h.scheduled w.steps.unfinished;
-  sources = λ unfinished p paired. source_beside m cs s v.clone (now v) p refl refl refl (h.sources w.steps.unfinished p paired);
-  reserved = λ unseen p paired. reserved_beside m cs s p (h.reserved (w.steps.seen unseen) p paired);
+  sources = λ unfinished p paired. h.sources w.steps.unfinished p paired;
+  reserved = λ unseen p paired. h.reserved (w.steps.seen unseen) p paired;
   no_tablet = λ unseen. h.no_tablet (w.steps.seen unseen);
   no_table = λ unseen. h.no_table (w.steps.seen unseen);
   no_namespace = λ unseen. h.no_namespace (w.steps.seen unseen);
@@ -195,11 +190,7 @@ found_beside (x ∷ cs) v id q e other = either_way (same x.id id)
 
 pub from_one : (kind : BodyKind) (n : ℕ) → cloning_stage kind ≤ n → n ≡ 0 → ⊥
 from_one FenceKind n le e = omega arith
-from_one FreezeKind n le e = omega arith
-from_one RestoreFromKind n le e = omega arith
-from_one HideKind n le e = omega arith
-from_one CopyKind n le e = omega arith
-from_one ReleaseKind n le e = omega arith
+from_one _ n le e = omega arith
 
 module _ (m : Master) (v : Step) (w : Steps m.clones v) (a : OperationsApart m.schedules m.scheduled m.snapshots m.restorations m.clones) where
   -- it is of no clone that listed only what was acked
@@ -212,29 +203,19 @@ module _ (m : Master) (v : Step) (w : Steps m.clones v) (a : OperationsApart m.s
       (λ b. b)
 
   pending_by : (kind : Kind) (operation : Id) (slot : ℕ) (l : Listed) → pending_of kind m.snapshots m.restorations m.clones operation slot ≡ Some l → pending_of kind (stepped m v).snapshots (stepped m v).restorations (stepped m v).clones operation slot ≡ Some l
-  pending_by Snapshot operation slot l e = e
-  pending_by Restoration operation slot l e = e
   pending_by Clone operation slot l e = found_then (unfinished_clone m.clones operation) (λ r. unacked_at r.listed slot) l e
       (λ r found at.
       let k = unfinished_clone_is m.clones operation r found in
       let other = ap (λ i. same i v.clone.id) (sym k.1.0) ∙ pending_other slot l r k.0 at in
       ap (option_and_then {T = CloneRecord} (λ q. unacked_at q.listed slot)) (found_beside m.clones v operation r found other) ∙ at)
-  pending_by Namespace operation slot l e = e
-  pending_by Table operation slot l e = e
-  pending_by TabletKind operation slot l e = e
-  pending_by ScheduleKind operation slot l e = e
+  pending_by _ operation slot l e = e
 
   unmoved_by : (kind : Kind) (operation : Id) (slot : ℕ) (l : Listed) → kind ≡ Clone → pending_of kind m.snapshots m.restorations m.clones operation slot ≡ Some l → v.clone.id ≡ operation → ⊥
   unmoved_by Clone operation slot l kind e is = found_then (unfinished_clone m.clones operation) (λ r. unacked_at r.listed slot) l e
       (λ r found at.
       let k = unfinished_clone_is m.clones operation r found in
       true≢false (sym (ap (λ i. same i v.clone.id) (k.1.0 ∙ sym is) ∙ same_self v.clone.id) ∙ pending_other slot l r k.0 at))
-  unmoved_by Snapshot operation slot l kind e is = let q = kind in grind arith
-  unmoved_by Restoration operation slot l kind e is = let q = kind in grind arith
-  unmoved_by Namespace operation slot l kind e is = let q = kind in grind arith
-  unmoved_by Table operation slot l kind e is = let q = kind in grind arith
-  unmoved_by TabletKind operation slot l kind e is = let q = kind in grind arith
-  unmoved_by ScheduleKind operation slot l kind e is = let q = kind in grind arith
+  unmoved_by _ operation slot l kind e is = let q = kind in grind arith
 
   pending_unmoved : (operation : Id) (slot : ℕ) (l : Listed) → pending m operation slot ≡ Some l → v.clone.id ≡ operation → ⊥
   pending_unmoved operation slot l e is = unmoved_by operation.kind operation slot l (ap (λ i. i.kind) (sym is) ∙ w.kind_is) e is
@@ -270,7 +251,7 @@ module _ (m : Master) (v : Step) (w : Steps m.clones v) (a : OperationsApart m.s
   Places slot done = ClonePlace v.clone.state v.clone slot done → ClonePlace v.state (now v) slot done
 
   fence_entering : (slot : ℕ) (done : List Mark) (table operation : Id) → Places slot done → IsFence m slot table done operation → IsFence (stepped m v) slot table done operation
-  fence_entering slot done table operation goes (inl h) = inl (fence_beside m (entered v m.clones) (unsent v.clone.id m.sent) slot table done operation h)
+  fence_entering slot done table operation goes (inl h) = inl h
   fence_entering slot done table operation goes (inr h) = either_way (same h.clone.id v.clone.id)
       (λ b.
       let one : h.clone ≡ v.clone = a.clone_ids h.clone v.clone h.kept w.kept (same_equal h.clone.id v.clone.id b) in
@@ -315,7 +296,7 @@ module _ (m : Master) (v : Step) (w : Steps m.clones v) (a : OperationsApart m.s
 
 home_entering : (ps : Parts) (changes : List Change) (v : Step) (slot : ℕ) (tablet : Id) → Enters ps changes v → OperationsGood ps.master changes → IsHome ps.master slot tablet ⊎ IsTarget ps.master slot tablet
     → IsHome (stepped ps.master v) slot tablet ⊎ IsTarget (stepped ps.master v) slot tablet
-home_entering ps changes v slot tablet w ops (inl h) = inl (home_beside ps.master (entered v ps.master.clones) (unsent v.clone.id ps.master.sent) slot tablet h)
+home_entering ps changes v slot tablet w ops (inl h) = inl h
 home_entering ps changes v slot tablet w ops (inr h) = either_way (same h.clone.id v.clone.id)
     (λ b.
     let one : h.clone ≡ v.clone = ops.apart.clone_ids h.clone v.clone h.kept w.steps.kept (same_equal h.clone.id v.clone.id b) in
@@ -337,9 +318,9 @@ obeyed_entering ps changes v slot w ops h = let m = ps.master in let cs = entere
   drawn_table = h.drawn_table;
   home = λ present. home_entering ps changes v slot t.tablet w ops (h.home present);
   snapshots = h.snapshots;
-  restorations = λ r isin. restoration_slot_beside r.state m cs s changes r slot t (h.restorations r isin);
+  restorations = h.restorations;
   clones = λ c isin. by_entering (λ c. CloneSlot c.state (stepped m v) changes c slot t) v m.clones ops.apart.clone_ids w.steps.kept (w.slots slot)
-      (λ x there other. clone_slot_beside x.state m cs s changes x slot t (h.clones x there)) c isin;
+      (λ x there other. h.clones x there) c isin;
 }
 
 -- The whole
@@ -367,15 +348,15 @@ entering_keeps ps activity changes v w inv =
         kept = λ ns. le_trans (ops.kept ns) (floors ns);
         owners = ops.owners;
         apart = entered_apart m v w.steps ops.apart;
-        schedules = λ k isin. schedule_beside m cs s k floors (ops.schedules k isin);
+        schedules = ops.schedules;
         scheduled = λ k isin. scheduled_beside m cs s k floors (ops.scheduled k isin);
         snapshots = λ q isin. snapshot_beside m cs s q floors (ops.snapshots q isin);
-        restorations = λ r isin. restoration_beside m cs s changes r (ops.restorations r isin);
+        restorations = ops.restorations;
         clones = λ c isin. by_entering (λ c. CloneGood (stepped m v) changes c) v m.clones ops.apart.clone_ids w.steps.kept (entered_good ps changes v w (ops.clones v.clone w.steps.kept))
-            (λ x there other. clone_beside m cs s changes x (ops.clones x there)) c isin;
+            (λ x there other. ops.clones x there) c isin;
         sent = sent_entering m v w.steps ops.apart ops.sent;
       };
-      journal = journal_beside m cs s changes inv.journal;
-      rows_past = rows_beside m cs s ps.tablet changes inv.rows_past;
+      journal = inv.journal;
+      rows_past = inv.rows_past;
       works = λ slot. (let h = inv.works slot in record { orders = orders_entering m v w.steps ops.apart slot (ps.tablet slot) (w.place slot) h.orders; obeyed = obeyed_entering ps changes v slot w ops h.obeyed });
     }

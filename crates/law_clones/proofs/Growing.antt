@@ -1,25 +1,21 @@
 -- A clone's target becomes current: what it finds, and what holds of the records of others, with the target's catalog and its tablets'
 -- activity.
-use Rattle.std.proofs.Common.{ℕ, ◌≡◌, ◌≤◌, ◌<◌, ◌+◌, List, [], ◌∷◌, ◌++◌, Some, None, true, false, ◌&&◌, ◌⊎◌, inl, inr, refl, sym, ap, subst, ◌∙◌, arith, leb, leb-true, eqb, eqb-true, le_trans, le_of_lt, lt_of_lt_of_le}
+use Rattle.std.proofs.Common.{ℕ, ◌≡◌, ◌≤◌, ◌<◌, ◌+◌, List, [], ◌∷◌, ◌++◌, Some, None, true, false, ◌&&◌, ◌⊎◌, inl, inr, refl, sym, ap, subst, ◌∙◌, arith, leb, leb-true, eqb, eqb-true, le_refl, le_trans, le_of_lt, lt_of_lt_of_le}
 use Rattle.std.specs.Option.{is_some}
-use Rattle.row_values.specs.Ids.{Id, same}
-use Rattle.row_values.specs.Elements.{In}
-use Rattle.row_values.specs.Ranges.{IsRange}
-use Rattle.model.specs.Times.{ended_by}
-use Rattle.model.specs.Catalog.{TableRecord, owner_of}
-use Rattle.model.specs.Restored.{with_clone, cloned_activity}
-use Rattle.model.specs.Activity.{Interval, active_within}
+use Rattle.model.specs.Cluster.{Id, same, In, IsRange, TableRecord, owner_of, Interval, active_within, is_cloned, Listed, Schedule, SnapshotRecord, RestorationRecord, IdPair, TabletPair, CloneRecord, Copying, ScheduledNamespace, is_restored, is_visible, Master, Parts}
+use Rattle.model.specs.Restored.{target_added, cloned_activity}
 use Rattle.model.specs.Journal.{Change, source_of, table_at}
-use Rattle.model.specs.Records.{is_cloned, Listed, Schedule, SnapshotRecord, RestorationRecord, RestorationState, Fencing, Snapshotting, Switching, Restoring, Releasing, Restored, IdPair, TabletPair, CloneRecord, Copying, ScheduledNamespace, is_restored, is_visible}
 use Rattle.model.specs.Cleanup.{floor_of}
+use Rattle.model.specs.Drawn.{drawn_of}
 use Rattle.model.specs.Right.{is_fixed}
-use Rattle.model.specs.Parts.{Master, Parts}
 use Rattle.law_store.proofs.Keys.{either_way}
-use Rattle.law_invariants.specs.Operations.{Uses, takers, IsKnown, IsListed, IsOpenOf, ScheduleGood, ScheduledGood, SnapshotGood, IsServing, IsPoint, BeforePoint, IsBack, IsActive, RestorationStateGood, RestorationGood, CopyingGood, CloneStateGood, CloneGood}
+use Rattle.law_invariants.specs.Operations.{grounds, Uses, takers, IsKnown, IsListed, IsOpenOf, ScheduleGood, ScheduledGood, SnapshotGood, RestorationGood, CopyingGood, CloneStateGood, CloneGood}
 use Rattle.law_invariants.specs.Invariant.{Inv}
 use Rattle.law_invariants.proofs.Finding.{none_or_some, both_pass, same_equal, in_append, in_first, in_second, in_mapped, map_in}
 use Rattle.law_invariants.proofs.Overlap.{holder_there}
 use Rattle.law_invariants.proofs.Remembering.{floor_rises, kept_all}
+use Rattle.law_invariants.proofs.Going.{GroundsGo, NamespaceGoes, restoration_goes}
+use Rattle.law_invariants.proofs.Recording.{same_on}
 use Rattle.law_clones.proofs.Serving.{clone_floor}
 use Rattle.law_clones.proofs.Viewing.{clone, by_source}
 use Rattle.law_clones.proofs.Counting.{taken, TakesOver}
@@ -34,7 +30,7 @@ pub record Becomes (ps : Parts) (activity : List Interval) (changes : List Chang
 
 -- the master with the target's catalog and its tablets' activity
 abbrev pub grown : Master → CloneRecord → ℕ → Master
-grown m r n = record m { clock = n; catalog = with_clone r n m.catalog; activity = m.activity ++ cloned_activity n r.tablets }
+grown m r n = record m { clock = n; catalog = target_added r n m.catalog; activity = m.activity ++ cloned_activity n r.tablets }
 
 -- the journal has one more clone
 pub fixed_is : (n : ℕ) (r : CloneRecord) (changes : List Change) (ns : Id) (t : ℕ) → is_fixed (clone n r changes) ns t ≡ true → ((ns ≡ r.source) × (t ≡ r.to)) ⊎ (is_fixed changes ns t ≡ true)
@@ -189,102 +185,29 @@ module _ (ps : Parts) (activity : List Interval) (changes : List Change) (n : �
 
   -- Restorations
 
-  serving_on : (snapshot ns : Id) (to : ℕ) → IsServing ps.master snapshot ns to → IsServing (grown ps.master r n) snapshot ns to
-  serving_on snapshot ns to h = record { serving = h.serving; kept = h.kept; id_is = h.id_is; complete = h.complete; namespace_is = h.namespace_is; after = h.after; reaches = h.reaches }
+  pub grounds_grown : GroundsGo (grounds ps.master) (grounds (grown ps.master r n)) changes (clone n r changes)
+  grounds_grown = record { clock = up; slots = le_refl ps.master.slots; drawn = λ kind. le_refl (drawn_of kind ps.master.drawn); owned = λ table ns is. is; switched = λ ns point is. is }
 
-  point_on : (x : RestorationRecord) (point : ℕ) → (x.namespace ≡ r.source → ⊥) → IsPoint ps.master changes x point → IsPoint (grown ps.master r n) (clone n r changes) x point
-  point_on x point apart h = record {
-    later = h.later;
-    fixed = λ to fixed. elim (fixed_is n r changes x.namespace to fixed) [ inl k ↦ absurd (apart k.0) | inr old ↦ h.fixed to old ];
-    snapshots = h.snapshots;
-    complete = h.complete;
-  }
-
-  before_on : (ns : Id) (point : ℕ) → (ns ≡ r.target_id → ⊥) → BeforePoint ps.master ns point → BeforePoint (grown ps.master r n) ns point
-  before_on ns point apart h = record {
-    begun = λ i there owner. h.begun i (was_there ns i apart there owner) owner;
-    ended = λ i end_ there owner is. h.ended i end_ (was_there ns i apart there owner) owner is;
-    tables_begun = λ t there of. h.tables_begun t (table_was ns t apart there of) of;
-    tables_ended = λ t end_ there of is. h.tables_ended t end_ (table_was ns t apart there of) of is;
-  }
-
-  active_on : (l : Listed) (from : ℕ) → IsActive ps.master l from → IsActive (grown ps.master r n) l from
-  active_on l from h = record { interval = h.interval; kept = stays h.interval h.kept; tablet_is = h.tablet_is; slot_is = h.slot_is; opened = h.opened; from_is = h.from_is }
-
-  back_on : (l : Listed) (to point : ℕ) → IsBack ps.master l to point → IsBack (grown ps.master r n) l to point
-  back_on l to point h = record {
-    then_ = h.then_;
-    kept_then = stays h.then_ h.kept_then;
-    tablet_then = h.tablet_then;
-    active = h.active;
-    now = h.now;
-    kept_now = stays h.now h.kept_now;
-    tablet_now = h.tablet_now;
-    slot_now = h.slot_now;
-    opened = h.opened;
-    from_is = h.from_is;
+  pub space_grown : (ns : Id) → (ns ≡ r.target_id → ⊥) → (ns ≡ r.source → ⊥) → NamespaceGoes (grounds ps.master) (grounds (grown ps.master r n)) changes (clone n r changes) ns
+  space_grown ns apart other = record {
+    came = λ i there owner. (was_there ns i apart there owner, owner);
+    tables = λ t there of. table_was ns t apart there of;
+    fixed = λ to fixed. elim (fixed_is n r changes ns to fixed) [ inl k ↦ absurd (other k.0) | inr old ↦ old ];
   }
 
   -- no unfinished restoration is of the clone's namespaces
   pub other_use : (x : RestorationRecord) → In x ps.master.restorations → is_restored x.state ≡ false → Uses r x.namespace → ⊥
   other_use x isin open_ uses = b.inv.operations.apart.one_operation x r isin b.kept open_ (ap is_cloned b.is) uses
 
-  state_grown : (state : RestorationState) (x : RestorationRecord) → In x ps.master.restorations → (is_restored state ≡ false → Uses r x.namespace → ⊥) → RestorationStateGood state ps.master changes x → RestorationStateGood state (grown ps.master r n) (clone n r changes) x
-  state_grown Fencing x isin apart h = record {
-    bodies = h.bodies;
-    lists = λ i opened. h.lists i (open_was x.namespace i (λ e. apart refl (inr (sym e))) opened);
-    opens = λ l lists. (let k = h.opens l lists in (k.0, (open_on x.namespace k.0 k.1.0, k.1.1)));
-  }
-  state_grown (Snapshotting point own) x isin apart h = record {
-    is_point = point_on x point (λ e. apart refl (inl (sym e))) h.is_point;
-    empty = h.empty;
-    soon = (let l = h.soon in let z = up in omega arith);
-    before = before_on x.namespace point (λ e. apart refl (inr (sym e))) h.before;
-    snapshot = h.snapshot;
-    kept = h.kept;
-    id_is = h.id_is;
-    at_is = h.at_is;
-    namespace_is = h.namespace_is;
-    alone = h.alone;
-  }
-  state_grown (Switching point served) x isin apart h = record {
-    is_point = point_on x point (λ e. apart refl (inl (sym e))) h.is_point;
-    empty = h.empty;
-    begun = le_trans h.begun up;
-    before = before_on x.namespace point (λ e. apart refl (inr (sym e))) h.before;
-    serves = serving_on served x.namespace x.to h.serves;
-    calm = h.calm;
-  }
-  state_grown (Restoring point served) x isin apart h = record {
-    is_point = point_on x point (λ e. apart refl (inl (sym e))) h.is_point;
-    begun = le_trans h.begun up;
-    serves = serving_on served x.namespace x.to h.serves;
-    calm = h.calm;
-    switched = h.switched;
-    bodies = h.bodies;
-    back = λ l lists is. back_on l x.to point (h.back l lists is);
-    gone = λ l i lists is. by_interval (λ i. i.tablet ≡ l.tablet → ended_by point i.to ≡ true)
-        (λ i there. h.gone l i lists is there)
-        (λ p paired e. absurd ((good.reserved dark p paired).no_restoration x l isin lists (sym e))) i;
-    opens = λ i opened. h.opens i (open_was x.namespace i (λ e. apart refl (inr (sym e))) opened);
-  }
-  state_grown (Releasing point served) x isin apart h = record {
-    is_point = point_on x point (λ e. apart refl (inl (sym e))) h.is_point;
-    begun = le_trans h.begun up;
-    switched = h.switched;
-    bodies = h.bodies;
-    active = λ l lists. active_on l point (h.active l lists);
-    opens = λ i opened. h.opens i (open_was x.namespace i (λ e. apart refl (inr (sym e))) opened);
-  }
-  state_grown (Restored point served) x isin apart h = record { empty = h.empty; begun = le_trans h.begun up; later = h.later; switched = h.switched }
-
   pub restoration_grown : (x : RestorationRecord) → In x ps.master.restorations → RestorationGood ps.master changes x → RestorationGood (grown ps.master r n) (clone n r changes) x
-  restoration_grown x isin h = record {
-    kind_is = h.kind_is;
-    drawn = h.drawn;
-    drawn_namespace = h.drawn_namespace;
-    past = lt_of_lt_of_le h.past up;
-    scheduled = h.scheduled;
-    known = λ unfinished l lists. known_on l (h.known unfinished l lists);
-    in_state = state_grown x.state x isin (λ open_. other_use x isin open_) h.in_state;
-  }
+  restoration_grown x isin = restoration_goes (grounds ps.master) (grounds (grown ps.master r n)) changes (clone n r changes) grounds_grown x (λ open_. record {
+    space = space_grown x.namespace (λ e. other_use x isin open_ (inr (sym e))) (λ e. other_use x isin open_ (inl (sym e)));
+    lines = record {
+      stays = λ l i lists there is. stays i there;
+      was = λ l i lists known. by_interval (λ i. i.tablet ≡ l.tablet → In i ps.master.activity) (λ i there is. there) (λ p paired e. absurd ((good.reserved dark p paired).no_restoration x l isin lists (sym e))) i;
+    };
+    named = λ q there is. (q, (there, same_on q));
+    taken = λ point q at there is. (q, (there, same_on q));
+    points = λ point at h. h;
+    schedule = λ k there id_is is. (k, (there, (id_is, is)));
+  })

@@ -1,12 +1,8 @@
 -- An advance of a clone keeps what holds.
 use Rattle.std.proofs.Common.{ℕ, ◌≡◌, ◌<◌, List, [], ◌∷◌, refl, sym, ap, ◌∙◌}
 use Rattle.std.proofs.lemmas.Bool.{true≢false}
-use Rattle.row_values.specs.Ids.{Clone, Id}
-use Rattle.model.specs.Activity.{Interval}
+use Rattle.model.specs.Cluster.{CloneKind as Clone, Id, Interval, CloneRecord, CloneState, Accepted, CloneSnapshot, Copying, CloneReleasing, CloneComplete, is_cloned, Advance, Parts}
 use Rattle.model.specs.Journal.{Change as Made}
-use Rattle.model.specs.Records.{CloneRecord, CloneState, Accepted, CloneSnapshot, Copying, CloneReleasing, CloneComplete, is_cloned}
-use Rattle.model.specs.Acts.{Advance}
-use Rattle.model.specs.Parts.{Parts}
 use Rattle.model.specs.Moves.{advance}
 use Rattle.law_invariants.specs.Invariant.{Inv, Later}
 use Rattle.law_invariants.proofs.Ticking.{KeepsAll}

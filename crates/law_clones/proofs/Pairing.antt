@@ -2,21 +2,16 @@
 use Rattle.std.proofs.Common.{ℕ, ◌≡◌, ◌≤◌, ◌<◌, ◌+◌, List, [], ◌∷◌, length, take, Option, Some, None, true, ◌&&◌, ◌⊎◌, inl, inr, refl, sym, ap, subst, ◌∙◌, arith, leb, leb-true, ltb, ltb-true}
 use Rattle.std.specs.List.{filter}
 use Rattle.std.proofs.lemmas.Bool.{true≢false}
-use Rattle.row_values.specs.Ids.{Id, same}
-use Rattle.row_values.specs.Elements.{In}
-use Rattle.model.specs.Times.{holds_at, before_end, ended_by}
+use Rattle.model.specs.Cluster.{Id, same, In, holds_at, before_end, ended_by, Interval, active_at, IdPair, TabletPair, Master}
 use Rattle.model.specs.Catalog.{TableRecord, tables_at, by_id, put_table, owner_of}
-use Rattle.model.specs.Activity.{Interval, active_at}
-use Rattle.model.specs.Records.{IdPair, TabletPair}
 use Rattle.model.specs.Lists.{tablets_active_at, intervals_in}
 use Rattle.model.specs.Looks.{free_slots}
 use Rattle.model.specs.Changed.{pair_tables, pair_tablets, target_in, sources}
-use Rattle.model.specs.Parts.{Master}
 use Rattle.law_store.proofs.Keys.{either_way}
 use Rattle.law_invariants.specs.Operations.{PairsApart}
 use Rattle.law_invariants.specs.Invariant.{RecordsRise}
 use Rattle.law_invariants.proofs.Finding.{both_pass, same_equal, same_self, filter_in}
-use Rattle.law_invariants.proofs.Placing.{ordered_only}
+use Rattle.law_invariants.proofs.Parting.{ordered_only}
 use Rattle.law_invariants.proofs.Free.{RiseFrom, rise_in, AreFree, least_free}
 use Rattle.law_invariants.proofs.Listing.{namespace_only}
 

@@ -1,12 +1,8 @@
 -- Numbers are drawn, and owners of tables that are yet to be made are noted.
 use Rattle.std.proofs.Common.{ℕ, ◌≡◌, ◌≤◌, ◌<◌, List, [], ◌∷◌, ◌++◌, Some, ◌⊎◌, inl, inr, refl, sym, ap, subst, ◌∙◌, arith, le_refl, le_trans}
-use Rattle.row_values.specs.Ids.{Kind, Namespace, Table, Tablet as TabletKind, Id, same}
-use Rattle.row_values.specs.Elements.{In}
-use Rattle.model.specs.Catalog.{Owner, owner_of}
-use Rattle.model.specs.Activity.{Interval}
+use Rattle.model.specs.Cluster.{Kind, NamespaceKind as Namespace, TableKind as Table, TabletKind, Id, same, In, Owner, owner_of, Interval, Master, Drawn, Parts}
 use Rattle.model.specs.Journal.{Change}
 use Rattle.model.specs.Drawn.{drawn_of}
-use Rattle.model.specs.Parts.{Master, Drawn, Parts}
 use Rattle.law_store.proofs.Keys.{either_way}
 use Rattle.law_invariants.specs.Invariant.{Inv}
 use Rattle.law_invariants.proofs.Finding.{none_or_some, not_same}

@@ -2,15 +2,12 @@
 use Rattle.std.proofs.Common.{ℕ, ◌≡◌, ◌≤◌, List, [], ◌∷◌, Some, None, false, ◌&&◌, inl, inr, refl, sym, ap, subst, ◌∙◌, arith, not, Option}
 use Rattle.std.specs.Option.{option_or, option_map}
 use Rattle.std.proofs.lemmas.Bool.{true≢false}
-use Rattle.row_values.specs.Ids.{Id, same}
-use Rattle.row_values.specs.Elements.{In}
+use Rattle.model.specs.Cluster.{Id, same, In, Schedule, SnapshotRecord, RestorationRecord, CloneRecord, is_restored, is_cloned, schedule_of, Master}
 use Rattle.model.specs.Journal.{Change}
-use Rattle.model.specs.Records.{Schedule, SnapshotRecord, RestorationRecord, CloneRecord, is_restored, is_cloned, schedule_of}
 use Rattle.model.specs.Schedules.{floor, least_low}
 use Rattle.model.specs.Operations.{restoration_of, clone_with, time_of_user}
 use Rattle.model.specs.Cleanup.{floor_of}
 use Rattle.model.specs.Moves.{serving_clone}
-use Rattle.model.specs.Parts.{Master}
 use Rattle.law_store.proofs.Keys.{either_way}
 use Rattle.law_invariants.specs.Operations.{IsServing, OperationsGood}
 use Rattle.law_invariants.proofs.Finding.{none_or_some, both_pass, same_equal, same_self}

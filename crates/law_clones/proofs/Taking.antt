@@ -2,11 +2,8 @@
 use Rattle.std.proofs.Common.{ℕ, ◌≡◌, ◌≤◌, ◌+◌, List, [], ◌∷◌, length, Bool, true, false, cond, ◌&&◌, inl, inr, refl, sym, ap, ◌∙◌, arith}
 use Rattle.std.specs.List.{filter}
 use Rattle.std.proofs.lemmas.Bool.{true≢false}
-use Rattle.row_values.specs.Ids.{Id, same}
+use Rattle.model.specs.Cluster.{Id, same, in_range, Interval, active_at, IdPair}
 use Rattle.row_values.specs.Elements.{In, put_in, in_order}
-use Rattle.row_values.specs.Ranges.{in_range}
-use Rattle.model.specs.Activity.{Interval, active_at}
-use Rattle.model.specs.Records.{IdPair}
 use Rattle.model.specs.Stands.{holders}
 use Rattle.model.specs.Changed.{pair_tablets, target_in}
 use Rattle.law_store.proofs.Keys.{either_way}

@@ -2,12 +2,9 @@
 use Rattle.std.proofs.Common.{ℕ, ◌≡◌, ◌≤◌, List, [], ◌∷◌, Option, Some, None, Bool, true, false, ◌&&◌, ◌||◌, inl, inr, refl, sym, ap, subst, ◌∙◌, arith, not, le_refl}
 use Rattle.std.specs.Option.{option_or, option_map}
 use Rattle.std.proofs.lemmas.Bool.{true≢false}
-use Rattle.row_values.specs.Ids.{Id, same}
-use Rattle.row_values.specs.Elements.{In}
-use Rattle.model.specs.Records.{CloneRecord, Sent, is_cloned}
+use Rattle.model.specs.Cluster.{Id, same, In, CloneRecord, Sent, is_cloned, Master}
 use Rattle.model.specs.Schedules.{floor, least_low}
 use Rattle.model.specs.Operations.{restoration_of, clone_with}
-use Rattle.model.specs.Parts.{Master}
 use Rattle.law_store.proofs.Keys.{either_way}
 use Rattle.law_invariants.specs.Operations.{Uses}
 use Rattle.law_invariants.proofs.Finding.{none_or_some, both_pass, passes_both, same_equal, same_self}

@@ -1,10 +1,8 @@
 -- The view after a clone: from its stamp on a target's table is its source's of the time, with its rows, and all else is as it was.
 use Rattle.std.proofs.Common.{ℕ, ◌≡◌, ◌≤◌, ◌<◌, List, [], ◌∷◌, Option, Some, None, true, false, inl, inr, refl, ap, ◌∙◌, arith, leb, le-leb}
 use Rattle.std.proofs.lemmas.Bool.Decides.{nat_tests}
-use Rattle.row_values.specs.Ids.{Id, same}
-use Rattle.row_values.specs.Elements.{In}
+use Rattle.model.specs.Cluster.{Id, same, In, IdPair, CloneRecord}
 use Rattle.model.specs.Journal.{Change, NamespaceCloned, source_of, moved_to, cloned_table, cloned_row, table_at, row_at}
-use Rattle.model.specs.Records.{IdPair, CloneRecord}
 use Rattle.model.specs.History.{with}
 use Rattle.law_store.proofs.Keys.{either_way}
 use Rattle.law_invariants.specs.Operations.{PairsApart}

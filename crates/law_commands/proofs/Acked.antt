@@ -1,23 +1,20 @@
 -- An ack changes a record's list alone, and there one mark: what holds of the records goes on.
 use Rattle.std.specs.Prelude.{Some}
-use Rattle.std.proofs.Common.{ℕ, ◌≡◌, ◌≤◌, ◌<◌, List, [], ◌∷◌, Bool, true, false, cond, ◌&&◌, ◌||◌, ◌⊎◌, inl, inr, map, refl, sym, ap, subst, ◌∙◌, not, eqb, eqb-true}
+use Rattle.std.proofs.Common.{ℕ, ◌≡◌, ◌≤◌, ◌<◌, List, [], ◌∷◌, Bool, true, false, cond, ◌&&◌, ◌||◌, ◌⊎◌, inl, inr, map, refl, sym, ap, subst, ◌∙◌, not, eqb, eqb-true, le_refl}
 use Rattle.std.specs.Option.{option_or, option_map}
-use Rattle.row_values.specs.Ids.{Id, same}
-use Rattle.row_values.specs.Elements.{In}
-use Rattle.model.specs.Catalog.{kept_from, owner_of}
-use Rattle.model.specs.Activity.{Interval, active_within}
+use Rattle.model.specs.Cluster.{Id, same, In, kept_from, owner_of, Interval, active_within, Freeze, Listed, Sent, SnapshotRecord, RestorationRecord, RestorationState, Fencing, Snapshotting, Restoring, Releasing, CloneRecord, CloneState, CloneSnapshot, Copying, CloneReleasing, acked_at, is_restored, is_cloned, is_visible, ScheduledNamespace, Master}
 use Rattle.model.specs.Journal.{Change}
-use Rattle.model.specs.Tablets.{Body, RestoreFrom, Hide, Freeze}
-use Rattle.model.specs.Records.{Listed, Sent, Schedule, SnapshotRecord, RestorationRecord, RestorationState, Fencing, Snapshotting, Switching, Restoring, Releasing, Restored, CloneRecord, CloneState, Accepted, CloneSnapshot, Copying, CloneReleasing, CloneComplete, acked_at, is_restored, is_cloned, is_visible, ScheduledNamespace, TabletPair}
 use Rattle.model.specs.Coordination.{acked_snapshot, acked_restoration, acked_clone}
 use Rattle.model.specs.Stands.{is_restore}
 use Rattle.model.specs.Operations.{restoration_of, clone_with}
 use Rattle.model.specs.Schedules.{floor, least_low}
 use Rattle.model.specs.Cleanup.{floor_of}
-use Rattle.model.specs.Parts.{Master}
 use Rattle.law_store.proofs.Keys.{either_way}
-use Rattle.law_invariants.specs.Operations.{SnapshotsRise, OperationsApart, Uses, IsKnown, IsListed, IsReached, ScheduleGood, SnapshotGood, IsServing, IsPoint, IsAfterSwitch, IsActive, RestorationStateGood, RestorationGood, CloneStateGood, CloneGood, IsSent, OperationsGood, ScheduledGood, PairIn, IsSource, IsReserved}
+use Rattle.law_invariants.specs.Operations.{Grounds, grounds, IsKnownIn, IsActiveIn, RestorationStateIn, RestorationIn, CloneStateIn, CloneIn, SnapshotsRise, OperationsApart, Uses, IsKnown, IsListed, IsReached, SnapshotGood, IsAfterSwitch, RestorationGood, CloneGood, IsSent, OperationsGood, ScheduledGood}
 use Rattle.law_invariants.proofs.Finding.{in_mapped, map_in, either_is}
+use Rattle.law_invariants.proofs.Going.{GroundsGo, restoration_goes, clone_goes}
+use Rattle.law_invariants.proofs.Recording.{SnapshotOn}
+use Rattle.model.specs.Drawn.{drawn_of}
 
 -- Lists
 
@@ -153,24 +150,20 @@ floor_acked m id slot ns n =
 
 -- Intervals and lists
 
-known_acked : (m : Master) (id : Id) (slot : ℕ) (l k : Listed) → l.tablet ≡ k.tablet → l.slot ≡ k.slot → IsKnown m k → IsKnown (acked_all id slot m) l
-known_acked m id slot l k tablet at h = record { interval = h.interval; kept = h.kept; tablet_is = h.tablet_is ∙ sym tablet; slot_is = h.slot_is ∙ sym at }
+known_acked : (activity : List Interval) (l k : Listed) → l.tablet ≡ k.tablet → l.slot ≡ k.slot → IsKnownIn activity k → IsKnownIn activity l
+known_acked activity l k tablet at h = record { interval = h.interval; kept = h.kept; tablet_is = h.tablet_is ∙ sym tablet; slot_is = h.slot_is ∙ sym at }
 
 listed_acked : (b : Bool) (ls : List Listed) (slot : ℕ) (i : Interval) → IsListed ls i → IsListed (ack_if b slot ls) i
 listed_acked b ls slot i h = let k = now b ls slot h.line h.listed in record { line = k.line; listed = k.listed; tablet_is = k.tablet_is ∙ h.tablet_is; slot_is = k.slot_is ∙ h.slot_is }
 
-active_acked : (m : Master) (id : Id) (slot : ℕ) (l k : Listed) (from : ℕ) → l.tablet ≡ k.tablet → l.slot ≡ k.slot → IsActive m k from → IsActive (acked_all id slot m) l from
-active_acked m id slot l k from tablet at h = record { interval = h.interval; kept = h.kept; tablet_is = h.tablet_is ∙ sym tablet; slot_is = h.slot_is ∙ sym at; opened = h.opened; from_is = h.from_is }
+active_acked : (activity : List Interval) (l k : Listed) (from : ℕ) → l.tablet ≡ k.tablet → l.slot ≡ k.slot → IsActiveIn activity k from → IsActiveIn activity l from
+active_acked activity l k from tablet at h = record { interval = h.interval; kept = h.kept; tablet_is = h.tablet_is ∙ sym tablet; slot_is = h.slot_is ∙ sym at; opened = h.opened; from_is = h.from_is }
 
 -- Schedules and snapshots
 
 reached_acked : (m : Master) (id : Id) (slot : ℕ) (ns : Id) (after : ℕ) → IsReached m ns after → IsReached (acked_all id slot m) ns after
 reached_acked m id slot ns after (inl h) = inl (subst (λ y. after < y) (sym (floor_acked m id slot ns m.clock)) h)
 reached_acked m id slot ns after (inr h) = inr (ack_snapshot id slot h.0, (snapshot_stays m id slot h.0 h.1.0, h.1.1))
-
-schedule_acked : (m : Master) (id : Id) (slot : ℕ) (s : Schedule) → ScheduleGood m s → ScheduleGood (acked_all id slot m) s
-schedule_acked m id slot s h =
-    record { drawn = h.drawn; drawn_namespace = h.drawn_namespace; begun = h.begun; scheduled = h.scheduled }
 
 scheduled_acked : (m : Master) (id : Id) (slot : ℕ) (k : ScheduledNamespace) → ScheduledGood m k → ScheduledGood (acked_all id slot m) k
 scheduled_acked m id slot k h = record { drawn_namespace = h.drawn_namespace; from_one = h.from_one; last = h.last; reached = reached_acked m id slot k.namespace _ h.reached; has = h.has }
@@ -181,7 +174,7 @@ snapshot_acked m id slot r h =
     let bodies : (l : Listed) → In l (if_same r.id id slot r.listed) → l.body ≡ Freeze r.id r.at = λ l isin. (let w = was b r.listed slot l isin in w.body_is ∙ h.bodies w.line w.listed) in
     let drawn_listed : (l : Listed) → In l (if_same r.id id slot r.listed) → l.tablet.number ≤ m.drawn.tablets = λ l isin. (let w = was b r.listed slot l isin in subst (λ t. t.number ≤ m.drawn.tablets) (sym w.tablet_is) (h.drawn_listed w.line w.listed)) in
     let listed_of : (l : Listed) (i : Interval) → In l (if_same r.id id slot r.listed) → In i m.activity → i.tablet ≡ l.tablet → (owner_of m.catalog.owners i.table ≡ Some r.namespace) × (i.slot ≡ l.slot) = λ l i isin there is. (let w = was b r.listed slot l isin in let k = h.listed_of w.line i w.listed there (is ∙ w.tablet_is) in (k.0, k.1 ∙ sym w.slot_is)) in
-    let known : r.complete ≡ false → (l : Listed) → In l (if_same r.id id slot r.listed) → IsKnown (acked_all id slot m) l = λ unfinished l isin. (let w = was b r.listed slot l isin in known_acked m id slot l w.line w.tablet_is w.slot_is (h.known unfinished w.line w.listed)) in
+    let known : r.complete ≡ false → (l : Listed) → In l (if_same r.id id slot r.listed) → IsKnown (acked_all id slot m) l = λ unfinished l isin. (let w = was b r.listed slot l isin in known_acked m.activity l w.line w.tablet_is w.slot_is (h.known unfinished w.line w.listed)) in
     let lists : (i : Interval) → In i m.activity → owner_of m.catalog.owners i.table ≡ Some r.namespace → active_within r.after r.at i ≡ true → IsListed (if_same r.id id slot r.listed) i = λ i there owned active. listed_acked b r.listed slot i (h.lists i there owned active) in
     let reached : (r.after < floor_of (acked_all id slot m) r.namespace m.clock) ⊎ ((q : SnapshotRecord) × (In q (acked_snapshot id slot m.snapshots) × ((q.namespace ≡ r.namespace) × ((q.at ≡ r.after) × (q.complete ≡ true))))) = elim h.reached [
       | inl low ↦ inl (subst (λ y. r.after < y) (sym (floor_acked m id slot r.namespace m.clock)) low)
@@ -189,62 +182,31 @@ snapshot_acked m id slot r h =
     ] in
     assumption (bodies, drawn_listed, listed_of, known, lists, reached)
 
-serving_acked : (m : Master) (id : Id) (slot : ℕ) (snapshot ns : Id) (to : ℕ) → IsServing m snapshot ns to → IsServing (acked_all id slot m) snapshot ns to
-serving_acked m id slot snapshot ns to h = record {
-  serving = ack_snapshot id slot h.serving;
-  kept = snapshot_stays m id slot h.serving h.kept;
-  id_is = h.id_is;
-  complete = h.complete;
-  namespace_is = h.namespace_is;
-  after = h.after;
-  reaches = h.reaches;
-}
+-- the ground goes on with acked snapshots
+acked_on : (id : Id) (slot : ℕ) (q : SnapshotRecord) → SnapshotOn q (ack_snapshot id slot q)
+acked_on id slot q = record { id_is = refl; namespace_is = refl; after_is = refl; at_is = refl; complete = λ e. e; lines = λ l isin. (let k = now (same q.id id) q.listed slot l isin in (k.line, (k.listed, k.tablet_is))) }
 
--- Restorations
+grounds_acked : (m : Master) (id : Id) (slot : ℕ) (changes : List Change) → GroundsGo (grounds m) (grounds (acked_all id slot m)) changes changes
+grounds_acked m id slot changes = record { clock = le_refl m.clock; slots = le_refl m.slots; drawn = λ kind. le_refl (drawn_of kind m.drawn); owned = λ table ns is. is; switched = λ ns point is. is }
 
-point_acked : (m : Master) (id : Id) (slot : ℕ) (changes : List Change) (r : RestorationRecord) (point : ℕ) → IsPoint m changes r point → IsPoint (acked_all id slot m) changes (ack_restoration id slot r) point
-point_acked m id slot changes r point h =
-    let snapshots : (q : SnapshotRecord) → In q (acked_snapshot id slot m.snapshots) → q.namespace ≡ r.namespace → q.at < point = each_snapshot m id slot (λ q. q.namespace ≡ r.namespace → q.at < point) (λ q inq. h.snapshots q inq) in
-    assumption snapshots
+-- Restorations: their lines are acked
 
-after_same : (r q : RestorationRecord) (point : ℕ) (serving : Id) (b : Body) → q.to ≡ r.to → IsAfterSwitch r point serving b → IsAfterSwitch q point serving b
-after_same r q point serving (RestoreFrom snapshot to at version) e h = (h.0, (h.1.0 ∙ sym e, h.1.1))
-after_same r q point serving (Hide ended) e h = h
-after_same r q point serving _ e h = absurd h
-
-state_acked : (state : RestorationState) (m : Master) (id : Id) (slot : ℕ) (changes : List Change) (r : RestorationRecord) → RestorationStateGood state m changes r → RestorationStateGood state (acked_all id slot m) changes (ack_restoration id slot r)
-state_acked Fencing m id slot changes r h = let b = same r.id id in record {
+state_acked : (state : RestorationState) (g : Grounds) (id : Id) (slot : ℕ) (changes : List Change) (r : RestorationRecord) → RestorationStateIn state g changes r → RestorationStateIn state g changes (ack_restoration id slot r)
+state_acked Fencing g id slot changes r h = let b = same r.id id in record {
   bodies = λ l isin. (let w = was b r.listed slot l isin in w.body_is ∙ h.bodies w.line w.listed);
   lists = λ i opened. listed_acked b r.listed slot i (h.lists i opened);
   opens = λ l isin. (let w = was b r.listed slot l isin in let k = h.opens w.line w.listed in (k.0, (k.1.0, (k.1.1.0 ∙ sym w.tablet_is, k.1.1.1 ∙ sym w.slot_is))));
 }
-state_acked (Snapshotting point own) m id slot changes r h = record {
-  is_point = point_acked m id slot changes r point h.is_point;
-  empty = ack_empty (same r.id id) slot r.listed h.empty;
-  soon = h.soon;
-  before = h.before;
-  snapshot = ack_snapshot id slot h.snapshot;
-  kept = snapshot_stays m id slot h.snapshot h.kept;
-  id_is = h.id_is;
-  at_is = h.at_is;
-  namespace_is = h.namespace_is;
-  alone = each_snapshot m id slot (λ q. q.complete ≡ false → q.namespace ≡ r.namespace → q.id ≡ own) (λ q inq. h.alone q inq);
-}
-state_acked (Switching point serving) m id slot changes r h = record {
-  is_point = point_acked m id slot changes r point h.is_point;
-  empty = ack_empty (same r.id id) slot r.listed h.empty;
+state_acked (Snapshotting point own) g id slot changes r h =
+    let empty = ack_empty (same r.id id) slot r.listed h.empty in
+    record { is_point = h.is_point; empty = empty; soon = h.soon; before = h.before; snapshot = h.snapshot; kept = h.kept; id_is = h.id_is; at_is = h.at_is; namespace_is = h.namespace_is; alone = h.alone }
+state_acked (Restoring point serving) g id slot changes r h = let b = same r.id id in record {
+  is_point = h.is_point;
   begun = h.begun;
-  before = h.before;
-  serves = serving_acked m id slot serving r.namespace r.to h.serves;
-  calm = each_snapshot m id slot (λ q. q.complete ≡ false → q.namespace ≡ r.namespace → ⊥) (λ q inq. h.calm q inq);
-}
-state_acked (Restoring point serving) m id slot changes r h = let b = same r.id id in record {
-  is_point = point_acked m id slot changes r point h.is_point;
-  begun = h.begun;
-  serves = serving_acked m id slot serving r.namespace r.to h.serves;
-  calm = each_snapshot m id slot (λ q. q.complete ≡ false → q.namespace ≡ r.namespace → ⊥) (λ q inq. h.calm q inq);
+  serves = h.serves;
+  calm = h.calm;
   switched = h.switched;
-  bodies = λ l isin. (let w = was b r.listed slot l isin in subst (IsAfterSwitch (ack_restoration id slot r) point serving) (sym w.body_is) (after_same r (ack_restoration id slot r) point serving w.line.body refl (h.bodies w.line w.listed)));
+  bodies = λ l isin. (let w = was b r.listed slot l isin in subst (IsAfterSwitch r.to point serving) (sym w.body_is) (h.bodies w.line w.listed));
   back = λ l isin restores. (
       let w = was b r.listed slot l isin in
       let k = h.back w.line w.listed (ap is_restore (sym w.body_is) ∙ restores) in record {
@@ -268,81 +230,77 @@ state_acked (Restoring point serving) m id slot changes r h = let b = same r.id 
         restores = ap is_restore w.body_is ∙ k.restores;
       });
 }
-state_acked (Releasing point serving) m id slot changes r h = let b = same r.id id in record {
-  is_point = point_acked m id slot changes r point h.is_point;
+state_acked (Releasing point serving) g id slot changes r h = let b = same r.id id in record {
+  is_point = h.is_point;
   begun = h.begun;
   switched = h.switched;
   bodies = λ l isin. (let w = was b r.listed slot l isin in w.body_is ∙ h.bodies w.line w.listed);
-  active = λ l isin. (let w = was b r.listed slot l isin in active_acked m id slot l w.line point w.tablet_is w.slot_is (h.active w.line w.listed));
+  active = λ l isin. (let w = was b r.listed slot l isin in active_acked g.activity l w.line point w.tablet_is w.slot_is (h.active w.line w.listed));
   opens = λ i opened. listed_acked b r.listed slot i (h.opens i opened);
 }
-state_acked (Restored point serving) m id slot changes r h = record { empty = ack_empty (same r.id id) slot r.listed h.empty; begun = h.begun; later = h.later; switched = h.switched }
+state_acked _ g id slot changes r h = assumption (ack_empty (same r.id id) slot r.listed h.empty, h)
 
 restoration_acked : (m : Master) (id : Id) (slot : ℕ) (changes : List Change) (r : RestorationRecord) → RestorationGood m changes r → RestorationGood (acked_all id slot m) changes (ack_restoration id slot r)
-restoration_acked m id slot changes r h =
-    let known : is_restored r.state ≡ false → (l : Listed) → In l (if_same r.id id slot r.listed) → IsKnown (acked_all id slot m) l = λ unfinished l isin. (let w = was (same r.id id) r.listed slot l isin in known_acked m id slot l w.line w.tablet_is w.slot_is (h.known unfinished w.line w.listed)) in
-    let in_state : RestorationStateGood r.state (acked_all id slot m) changes (ack_restoration id slot r) = state_acked r.state m id slot changes r h.in_state in
-    assumption (known, in_state)
+restoration_acked m id slot changes r old =
+    let g = grounds (acked_all id slot m) in
+    let h : RestorationIn g changes r = restoration_goes (grounds m) g changes changes (grounds_acked m id slot changes) r (λ unfinished. record {
+      space = record { came = λ i there owner. (there, owner); tables = λ t there of. there; fixed = λ to is. is };
+      lines = record { stays = λ l i lists there is. there; was = λ l i lists known there is. there };
+      named = λ q there is. (ack_snapshot id slot q, (snapshot_stays m id slot q there, acked_on id slot q));
+      taken = λ point q at there. each_snapshot m id slot (λ q. q.namespace ≡ r.namespace → (p : SnapshotRecord) × (In p m.snapshots × SnapshotOn p q)) (λ q inq is. (q, (inq, acked_on id slot q))) q there;
+      points = λ point at h. h;
+      schedule = λ k there id_is is. (k, (there, (id_is, is)));
+    }) old in
+    let known : is_restored r.state ≡ false → (l : Listed) → In l (if_same r.id id slot r.listed) → IsKnown m l = λ unfinished l isin. (let w = was (same r.id id) r.listed slot l isin in known_acked m.activity l w.line w.tablet_is w.slot_is (h.known unfinished w.line w.listed)) in
+    let in_state : RestorationStateIn r.state g changes (ack_restoration id slot r) = state_acked r.state g id slot changes r h.in_state in
+    assumption (known, in_state, h)
 
 -- Clones
 
-clone_state_acked : (state : CloneState) (m : Master) (id : Id) (slot : ℕ) (c : CloneRecord) → CloneStateGood state m c → CloneStateGood state (acked_all id slot m) (ack_clone id slot c)
-clone_state_acked Accepted m id slot c h = ack_empty (same c.id id) slot c.listed h
-clone_state_acked (CloneSnapshot own) m id slot c h = record {
-  empty = ack_empty (same c.id id) slot c.listed h.empty;
-  snapshot = ack_snapshot id slot h.snapshot;
-  kept = snapshot_stays m id slot h.snapshot h.kept;
-  id_is = h.id_is;
-  namespace_is = h.namespace_is;
-  reaches = h.reaches;
-}
-clone_state_acked (Copying serving at) m id slot c h = let b = same c.id id in record {
+clone_state_acked : (state : CloneState) (g : Grounds) (id : Id) (slot : ℕ) (c : CloneRecord) → CloneStateIn state g c → CloneStateIn state g (ack_clone id slot c)
+clone_state_acked (CloneSnapshot own) g id slot c h = record { empty = ack_empty (same c.id id) slot c.listed h.empty; snapshot = h.snapshot; kept = h.kept; id_is = h.id_is; namespace_is = h.namespace_is; reaches = h.reaches }
+clone_state_acked (Copying serving at) g id slot c h = let b = same c.id id in record {
   begun = h.begun;
   later = h.later;
-  serves = serving_acked m id slot serving c.source c.to h.serves;
+  serves = h.serves;
   bodies = λ l isin. (
       let w = was b c.listed slot l isin in
       let k = h.bodies w.line w.listed in record { pair = k.pair; paired = k.paired; tablet_is = w.tablet_is ∙ k.tablet_is; slot_is = w.slot_is ∙ k.slot_is; body_is = w.body_is ∙ k.body_is });
   all = λ p paired. (let k = h.all p paired in let w = now b c.listed slot k.0 k.1.0 in (w.line, (w.listed, (w.tablet_is ∙ k.1.1.0, w.slot_is ∙ k.1.1.1))));
 }
-clone_state_acked (CloneReleasing serving at) m id slot c h = let b = same c.id id in record {
+clone_state_acked (CloneReleasing serving at) g id slot c h = let b = same c.id id in record {
   since = h.since;
   begun = h.begun;
   later = h.later;
   copied = h.copied;
   bodies = λ l isin. (let w = was b c.listed slot l isin in w.body_is ∙ h.bodies w.line w.listed);
-  active = λ l isin. (let w = was b c.listed slot l isin in active_acked m id slot l w.line h.since w.tablet_is w.slot_is (h.active w.line w.listed));
+  active = λ l isin. (let w = was b c.listed slot l isin in active_acked g.activity l w.line h.since w.tablet_is w.slot_is (h.active w.line w.listed));
   listed_of = λ l i isin there is. (let w = was b c.listed slot l isin in h.listed_of w.line i w.listed there (is ∙ w.tablet_is));
   opens = λ i opened. listed_acked b c.listed slot i (h.opens i opened);
 }
-clone_state_acked (CloneComplete serving at) m id slot c h = ack_empty (same c.id id) slot c.listed h
+clone_state_acked _ g id slot c h = ack_empty (same c.id id) slot c.listed h
 
 clone_acked : (m : Master) (id : Id) (slot : ℕ) (changes : List Change) (c : CloneRecord) → CloneGood m changes c → CloneGood (acked_all id slot m) changes (ack_clone id slot c)
-clone_acked m id slot changes c h =
-    let pairs_now : (p : TabletPair) → In p c.tablets → PairIn m.slots m.drawn m.catalog.owners (ack_clone id slot c) p = λ p paired. (let g = h.pairs p paired in record { slot_from = g.slot_from; slot_to = g.slot_to; drawn = g.drawn; drawn_table = g.drawn_table; owned = g.owned }) in
+clone_acked m id slot changes c old =
+    let g = grounds (acked_all id slot m) in
+    let h : CloneIn g (acked_all id slot m).restorations changes c = clone_goes (grounds m) g changes changes (grounds_acked m id slot changes) m.restorations (acked_all id slot m).restorations c (λ unfinished. record {
+      space = record { came = λ i there owner. (there, owner); tables = λ t there of. there; fixed = λ to is. is };
+      lines = λ owner. record { stays = λ l i lists there is. there; was = λ l i lists known there is. there };
+      named = λ q there is. (ack_snapshot id slot q, (snapshot_stays m id slot q there, acked_on id slot q));
+      schedule = λ k there is. (k, (there, is));
+      source = λ p paired k. k;
+      reserved = λ unseen p paired k. record {
+        free = k.free;
+        unknown = k.unknown;
+        no_snapshot = λ r l isin. each_snapshot m id slot (λ q. In l q.listed → l.tablet ≡ p.target → ⊥) (λ q inq lists is. let w = was (same q.id id) q.listed slot l lists in k.no_snapshot q w.line inq w.listed (sym w.tablet_is ∙ is)) r isin;
+        no_restoration = λ r l isin. all_restorations m id slot (λ q. In l q.listed → l.tablet ≡ p.target → ⊥) (λ q inq lists is. let w = was (same q.id id) q.listed slot l lists in k.no_restoration q w.line inq w.listed (sym w.tablet_is ∙ is)) r isin;
+      };
+      names = λ unseen r there free. free r there;
+      schedules = λ unseen k there is. (k, (there, is));
+    }) old in
     let drawn_listed : (l : Listed) → In l (if_same c.id id slot c.listed) → l.tablet.number ≤ m.drawn.tablets = λ l isin. (let w = was (same c.id id) c.listed slot l isin in subst (λ t. t.number ≤ m.drawn.tablets) (sym w.tablet_is) (h.drawn_listed w.line w.listed)) in
-    let sources : is_cloned c.state ≡ false → (p : TabletPair) → In p c.tablets → IsSource (acked_all id slot m) (ack_clone id slot c) p = λ unfinished p paired. (let k = h.sources unfinished p paired in record {
-      interval = k.interval;
-      kept = k.kept;
-      tablet_is = k.tablet_is;
-      slot_is = k.slot_is;
-      low_is = k.low_is;
-      high_is = k.high_is;
-      active = k.active;
-      owned = k.owned;
-      pair = k.pair;
-      paired = k.paired;
-      source_is = k.source_is;
-      target_is = k.target_is;
-    }) in
-    let reserved : is_visible c.state ≡ false → (p : TabletPair) → In p c.tablets → IsReserved (acked_all id slot m) p = λ unseen p paired. (let k = h.reserved unseen p paired in record {
-      free = k.free;
-      unknown = k.unknown;
-      no_snapshot = λ r l isin. each_snapshot m id slot (λ q. In l q.listed → l.tablet ≡ p.target → ⊥) (λ q inq lists is. let w = was (same q.id id) q.listed slot l lists in k.no_snapshot q w.line inq w.listed (sym w.tablet_is ∙ is)) r isin;
-      no_restoration = λ r l isin. all_restorations m id slot (λ q. In l q.listed → l.tablet ≡ p.target → ⊥) (λ q inq lists is. let w = was (same q.id id) q.listed slot l lists in k.no_restoration q w.line inq w.listed (sym w.tablet_is ∙ is)) r isin;
-    }) in
-    let in_state : CloneStateGood c.state (acked_all id slot m) (ack_clone id slot c) = clone_state_acked c.state m id slot c h.in_state in
-    assumption (pairs_now, drawn_listed, sources, reserved, in_state)
+    let in_state : CloneStateIn c.state g (ack_clone id slot c) = clone_state_acked c.state g id slot c h.in_state in
+    assumption (drawn_listed, in_state, h)
 
 -- All
 
@@ -359,7 +317,7 @@ operations_acked m id slot changes h = record {
   kept = λ ns. subst (λ y. kept_from m.catalog.kept_from ns ≤ y) (sym (floor_acked m id slot ns m.clock)) (h.kept ns);
   owners = h.owners;
   apart = apart_acked m id slot h.apart;
-  schedules = λ s isin. schedule_acked m id slot s (h.schedules s isin);
+  schedules = h.schedules;
   scheduled = λ k isin. scheduled_acked m id slot k (h.scheduled k isin);
   snapshots = each_snapshot m id slot (SnapshotGood (acked_all id slot m)) (λ r isin. snapshot_acked m id slot r (h.snapshots r isin));
   restorations = all_restorations m id slot (RestorationGood (acked_all id slot m) changes) (λ r isin. restoration_acked m id slot changes r (h.restorations r isin));

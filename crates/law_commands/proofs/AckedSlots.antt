@@ -4,19 +4,13 @@ use Rattle.std.specs.List.{list_any}
 use Rattle.std.specs.Option.{option_and_then, option_map_or, option_or}
 use Rattle.std.proofs.lemmas.Bool.{true≢false}
 use Rattle.std.proofs.lemmas.Bool.Decides.{nat_tests}
-use Rattle.row_values.specs.Ids.{Kind, Snapshot, Restoration, Clone, Id, same}
-use Rattle.row_values.specs.Elements.{In}
-use Rattle.model.specs.Times.{ended_by}
-use Rattle.model.specs.Catalog.{owner_of}
-use Rattle.model.specs.Activity.{Interval}
+use Rattle.model.specs.Cluster.{Kind, Snapshot, RestorationKind as Restoration, CloneKind as Clone, Id, same, In, ended_by, owner_of, Interval, Listed, SnapshotRecord, RestorationRecord, RestorationState, Fencing, Snapshotting, Switching, Restoring, Releasing, Restored, CloneRecord, CloneState, Copying, CloneReleasing, CloneComplete, acked_at, unacked_at, is_restored, is_cloned, is_visible, point_of, TabletPair, Master}
 use Rattle.model.specs.Journal.{Change}
 use Rattle.model.specs.Tablets.{Tablet, Command, Mark, Body, BodyKind, FenceKind, FreezeKind, RestoreFromKind, HideKind, CopyKind, ReleaseKind, kind_of, is_done, FrozenSet, is_serving, HiddenPart}
 use Rattle.model.specs.Tablets as tell
-use Rattle.model.specs.Records.{Listed, SnapshotRecord, RestorationRecord, RestorationState, Fencing, Snapshotting, Switching, Restoring, Releasing, Restored, CloneRecord, CloneState, Accepted, CloneSnapshot, Copying, CloneReleasing, CloneComplete, acked_at, unacked_at, is_restored, is_cloned, is_visible, point_of, TabletPair}
 use Rattle.model.specs.Coordination.{pending_of, unfinished_snapshot, unfinished_restoration, unfinished_clone, acked_restoration, acked_clone}
 use Rattle.model.specs.Stands.{is_restore, is_after_switch, copied_at, awaited_in, awaited_of, HoldsFrozen}
 use Rattle.model.specs.Cleanup.{floor_of}
-use Rattle.model.specs.Parts.{Master}
 use Rattle.law_store.proofs.Keys.{either_way}
 use Rattle.law_invariants.specs.Remembered.{Remembered, IsForgotten}
 use Rattle.law_invariants.specs.Invariant.{MasterGood, ComesFrom, is_awaited, SlotGood, TurnsAt, StandsIn, IsGoodIn, TakesWritesIn}
@@ -292,8 +286,6 @@ restoration_slot_acked (Restored point serving) m id acked slot changes r t did 
 
 clone_slot_acked : (state : CloneState) (m : Master) (id : Id) (acked slot : ℕ) (changes : List Change) (c : CloneRecord) (t : Tablet) → ((l : Listed) → same c.id id ≡ true → In l c.listed → l.slot ≡ acked → l.slot ≡ slot → is_done t.done c.id (kind_of l.body) ≡ true)
     → CloneStateGood state m c → CloneSlot state m changes c slot t → CloneSlot state (acked_all id acked m) changes (ack_clone id acked c) slot t
-clone_slot_acked Accepted m id acked slot changes c t did good h = record { empty = h.empty }
-clone_slot_acked (CloneSnapshot own) m id acked slot changes c t did good h = record { empty = h.empty }
 clone_slot_acked (Copying serving at) m id acked slot changes c t did good h =
     let acked_now : (l : Listed) → In l (if_same c.id id acked c.listed) → l.slot ≡ slot → l.acked ≡ true → is_done t.done c.id CopyKind ≡ true = λ l isin there a. (let w = was (same c.id id) c.listed acked l isin in elim (w.acked a) [
       | inl old ↦ h.acked w.line w.listed (sym w.slot_is ∙ there) old
@@ -306,6 +298,7 @@ clone_slot_acked (CloneReleasing serving at) m id acked slot changes c t did goo
     releasing_acked c.id c.listed (same c.id id) acked slot l t w there (λ b here at_. ap (λ z. is_done t.done c.id (kind_of z)) (sym (good.bodies w.line w.listed)) ∙ did w.line b w.listed here at_)
     (h w.line w.listed (sym w.slot_is ∙ there)))
 clone_slot_acked (CloneComplete serving at) m id acked slot changes c t did good h = tt
+clone_slot_acked _ m id acked slot changes c t did good h = record { empty = h.empty }
 
 pub obeyed_acked : (m : Master) (id : Id) (acked slot : ℕ) (changes : List Change) (t : Tablet) → OperationsGood m changes → AckDone m id acked slot t → ObeyedGood m changes slot t → ObeyedGood (acked_all id acked m) changes slot t
 obeyed_acked m id acked slot changes t ops did h = record {

@@ -2,16 +2,11 @@
 use Rattle.std.proofs.Common.{ℕ, ◌≡◌, ◌≤◌, List, [], ◌∷◌, Option, Some, None, Bool, true, false, cond, ◌&&◌, inl, inr, map, refl, sym, ap, subst, ◌∙◌, arith, not, eqb, eqb-true, le_refl, le_trans}
 use Rattle.std.proofs.lemmas.Bool.{true≢false}
 use Rattle.std.proofs.lemmas.Bool.Decides.{nat_tests}
-use Rattle.row_values.specs.Ids.{Kind, Snapshot, Restoration, Clone, Id, same}
-use Rattle.row_values.specs.Elements.{In}
-use Rattle.model.specs.Activity.{Interval}
+use Rattle.model.specs.Cluster.{Kind, Snapshot, RestorationKind as Restoration, CloneKind as Clone, Id, same, In, Interval, Listed, Sent, SnapshotRecord, RestorationRecord, RestorationState, Fencing, Restoring, Releasing, CloneRecord, CloneState, CloneSnapshot, Copying, CloneReleasing, acked_at, unsent_at, Ack, Acked, NotPending, NotDone, Refused, Master, Parts, Acks, Unsends, answered}
 use Rattle.model.specs.Journal.{Change}
 use Rattle.model.specs.Tablets.{Tablet, Command, Body, Fence, Freeze, RestoreFrom, Hide, Copy, Release, ticked, kind_of, is_done}
-use Rattle.model.specs.Records.{Listed, Sent, SnapshotRecord, RestorationRecord, RestorationState, Fencing, Restoring, Releasing, CloneRecord, CloneState, CloneSnapshot, Copying, CloneReleasing, acked_at, unsent_at}
 use Rattle.model.specs.Coordination.{pending, acked_snapshot, acked_restoration, acked_clone, acked_by, acked as acked_master, acknowledging, ack}
 use Rattle.model.specs.Stands.{is_restore}
-use Rattle.model.specs.Acts.{Ack, Acked, NotPending, NotDone, Refused}
-use Rattle.model.specs.Parts.{Master, Parts, Acks, Unsends, answered}
 use Rattle.model.specs.Entries.{slots_of}
 use Rattle.model.specs.History.{told}
 use Rattle.law_invariants.specs.Invariant.{SlotGood, Inv, Later}
@@ -24,10 +19,9 @@ use Rattle.law_invariants.proofs.Ordering.{orders_on, obeyed_on}
 use Rattle.law_invariants.proofs.Undoing.{same_rows, journal_on}
 use Rattle.law_invariants.proofs.Working.{tables_drawn, all_listed, same_fixed, onward_ticked}
 use Rattle.law_invariants.proofs.Hearing.{rows_on}
-use Rattle.law_invariants.proofs.Frame.{touched}
+use Rattle.law_invariants.proofs.Frame.{touched, master_marked}
 use Rattle.law_invariants.proofs.Commanded.{IsPending, BySnapshot, ByRestoration, ByClone, pending_is, snapshot_no_restoration, snapshot_no_clone, restoration_no_clone, none_in}
 use Rattle.law_commands.proofs.Hiding.{no_end}
-use Rattle.law_invariants.proofs.Marked.{master_marked}
 use Rattle.law_commands.proofs.Acked.{ack_snapshot, ack_restoration, ack_clone, acked_all, operations_acked}
 use Rattle.law_commands.proofs.AckedSlots.{master_acked, remembered_acked, journal_acked, rows_acked, slot_acked, orders_acked, obeyed_acked}
 
@@ -81,7 +75,7 @@ activity_acked _ operation slot n m = refl
 
 -- What was done in the slot
 
-switch_kinds : (a b : Body) (r : RestorationRecord) (point : ℕ) (serving : Id) → IsAfterSwitch r point serving a → IsAfterSwitch r point serving b → is_restore a ≡ is_restore b → kind_of a ≡ kind_of b
+switch_kinds : (a b : Body) (r : RestorationRecord) (point : ℕ) (serving : Id) → IsAfterSwitch r.to point serving a → IsAfterSwitch r.to point serving b → is_restore a ≡ is_restore b → kind_of a ≡ kind_of b
 switch_kinds (RestoreFrom s to at version) (RestoreFrom s' to' at' version') r point serving ha hb e = refl
 switch_kinds (RestoreFrom s to at version) (Hide ended) r point serving ha hb e = absurd (true≢false e)
 switch_kinds (Hide ended) (RestoreFrom s to at version) r point serving ha hb e = absurd (true≢false (sym e))

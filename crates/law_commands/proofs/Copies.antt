@@ -2,17 +2,11 @@
 use Rattle.std.proofs.Common.{ℕ, ◌≡◌, ◌≢◌, ◌≤◌, ◌<◌, ◌+◌, List, [], ◌∷◌, ◌++◌, Some, None, true, false, inl, inr, refl, sym, ap, subst, ◌∙◌, arith, le_refl, le_of_lt}
 use Rattle.std.proofs.lemmas.Bool.{true≢false}
 use Rattle.std.specs.Option.{option_map}
-use Rattle.row_values.specs.Codes.{code_of}
-use Rattle.row_values.specs.Ids.{Id, same}
-use Rattle.row_values.specs.Elements.{In}
+use Rattle.model.specs.Cluster.{code_of, Id, same, In, in_range, Interval, Listed, TabletPair, CloneRecord, CloneState, Copying, CloneReleasing, CloneComplete, is_cloned, is_visible, Master}
 use Rattle.row_values.specs.Store.{Version, read_of, rows_at, of_rows}
-use Rattle.row_values.specs.Ranges.{in_range}
-use Rattle.model.specs.Activity.{Interval}
 use Rattle.model.specs.Journal.{Change, row_at}
 use Rattle.model.specs.Tablets.{Tablet, ServingPart, Command, Mark, Body, Freeze, Copy, FenceKind, FreezeKind, CopyKind, FrozenSet, set_of, rows_of_set, processed, is_done}
-use Rattle.model.specs.Records.{Listed, TabletPair, CloneRecord, CloneState, Copying, CloneReleasing, CloneComplete, is_cloned, is_visible}
 use Rattle.model.specs.Stands.{AreRowsAt, copied_at}
-use Rattle.model.specs.Parts.{Master}
 use Rattle.model.specs.Retained.{ReachesBack, from_set}
 use Rattle.law_store.proofs.Keys.{either_way}
 use Rattle.law_store.proofs.Listing.{sorted_restored, below_of_rows}

@@ -1,23 +1,15 @@
 -- What goes on to hold where a tablet does its first command: of its other commands and its marks, of operations that don't hold its
 -- namespace, and of its store.
-use Rattle.model.specs.Times.{ended_by}
+use Rattle.model.specs.Cluster.{ended_by, code_of, Id, same, In, in_range, owner_of, Interval, Listed, SnapshotRecord, RestorationRecord, RestorationState, Fencing, Snapshotting, Switching, Restoring, Releasing, Restored, TabletPair, CloneRecord, CloneState, Accepted, CloneSnapshot, Copying, CloneReleasing, CloneComplete, is_restored, is_cloned, is_visible, Master}
 use Rattle.std.proofs.Common.{ℕ, ◌≡◌, ◌≢◌, ◌≤◌, ◌<◌, ◌+◌, List, [], ◌∷◌, ◌++◌, Option, Some, None, true, false, cond, ◌&&◌, inl, inr, refl, sym, ap, subst, ◌∙◌, arith, le_trans, lt_of_lt_of_le, not}
 use Rattle.std.specs.List.{list_any}
 use Rattle.std.specs.Option.{is_some, option_or}
 use Rattle.std.proofs.lemmas.Bool.{true≢false}
-use Rattle.row_values.specs.Codes.{code_of}
-use Rattle.row_values.specs.Ids.{Id, same}
-use Rattle.row_values.specs.Elements.{In}
-use Rattle.row_values.specs.Ranges.{in_range}
-use Rattle.model.specs.Catalog.{owner_of}
 use Rattle.model.specs.Drawn.{drawn_of}
-use Rattle.model.specs.Activity.{Interval}
 use Rattle.model.specs.Journal.{Change, table_at}
 use Rattle.model.specs.Right.{is_fixed}
 use Rattle.model.specs.Tablets.{Tablet, Command, Mark, Body, RestoreFrom, Hide, FenceKind, FreezeKind, RestoreFromKind, FrozenSet, kind_of, is_done, holds_command, is_empty, is_serving, HiddenPart}
-use Rattle.model.specs.Records.{Listed, SnapshotRecord, RestorationRecord, RestorationState, Fencing, Snapshotting, Switching, Restoring, Releasing, Restored, TabletPair, CloneRecord, CloneState, Accepted, CloneSnapshot, Copying, CloneReleasing, CloneComplete, is_restored, is_cloned, is_visible}
 use Rattle.model.specs.Stands.{NoneTwice, HoldsFrozen, awaited_in, awaited_of, is_restore}
-use Rattle.model.specs.Parts.{Master}
 use Rattle.law_store.specs.Sorted.{Sorted, EachKey}
 use Rattle.law_invariants.specs.Invariant.{MasterGood, IsOpen, SlotGood, SetStands, is_awaited, OverBy, TurnsAt, ComesFrom, StandsIn}
 use Rattle.law_invariants.specs.Operations.{IsOpenOf, IsAfterSwitch, RestorationStateGood, CloneStateGood, OperationsGood}
@@ -33,7 +25,7 @@ use Rattle.law_invariants.proofs.Commanded.{IsPending, BySnapshot, ByRestoration
 abbrev pub mark_of : Command → Mark
 mark_of c = record { operation = c.operation; kind = kind_of c.body }
 
-after_stage : (b : Body) (r : RestorationRecord) (point : ℕ) (serving : Id) → IsAfterSwitch r point serving b → restoring_stage (kind_of b) ≤ 2
+after_stage : (b : Body) (r : RestorationRecord) (point : ℕ) (serving : Id) → IsAfterSwitch r.to point serving b → restoring_stage (kind_of b) ≤ 2
 after_stage (RestoreFrom snapshot to at version) r point serving h = omega arith
 after_stage (Hide ended) r point serving h = omega arith
 after_stage _ r point serving h = absurd h
@@ -154,9 +146,8 @@ apart_in Fencing m changes r slot t u unlisted closed marks unfenced h = record 
 }
 apart_in (Snapshotting point own) m changes r slot t u unlisted closed marks unfenced h = record { fenced = λ i opened is. absurd (closed refl i opened is) }
 apart_in (Switching point serving) m changes r slot t u unlisted closed marks unfenced h = record { fenced = λ i opened is. absurd (closed refl i opened is); past = λ i opened is. absurd (closed refl i opened is) }
-apart_in (Restoring point serving) m changes r slot t u unlisted closed marks unfenced h = λ l isin is. absurd (unlisted refl l isin is)
-apart_in (Releasing point serving) m changes r slot t u unlisted closed marks unfenced h = λ l isin is. absurd (unlisted refl l isin is)
 apart_in (Restored point serving) m changes r slot t u unlisted closed marks unfenced h = tt
+apart_in _ m changes r slot t u unlisted closed marks unfenced h = λ l isin is. absurd (unlisted refl l isin is)
 
 -- a restoration that doesn't hold the namespace of a slot has nothing there
 pub apart_restoration : (m : Master) (changes : List Change) (slot : ℕ) (t u : Tablet) (ns : Id) (r : RestorationRecord) → MasterGood m changes → OperationsGood m changes → SlotGood m changes slot t → OrdersGood m slot t
@@ -173,8 +164,6 @@ pub apart_of : (state : CloneState) (m : Master) (changes : List Change) (c : Cl
     → (is_visible state ≡ true → is_cloned state ≡ false → (l : Listed) → In l c.listed → l.slot ≡ slot → ⊥)
     → (is_visible state ≡ false → is_serving u.presence ≡ true → u.fence ≡ None → owner_of m.catalog.owners u.table ≡ Some c.source → c.to ≤ u.clock)
     → CloneStateGood state m c → CloneSlot state m changes c slot u
-apart_of Accepted m changes c slot u unpaired unlisted later good = record { empty = λ p paired is. absurd (unpaired refl p paired is) }
-apart_of (CloneSnapshot own) m changes c slot u unpaired unlisted later good = record { empty = λ p paired is. absurd (unpaired refl p paired is) }
 apart_of (Copying serving at) m changes c slot u unpaired unlisted later good = record {
   acked = λ l isin is. absurd (let b = good.bodies l isin in unpaired refl b.pair b.paired (sym b.slot_is ∙ is));
   empty = λ p paired is. absurd (unpaired refl p paired is);
@@ -183,6 +172,7 @@ apart_of (Copying serving at) m changes c slot u unpaired unlisted later good = 
 }
 apart_of (CloneReleasing serving at) m changes c slot u unpaired unlisted later good = λ l isin is. absurd (unlisted refl refl l isin is)
 apart_of (CloneComplete serving at) m changes c slot u unpaired unlisted later good = tt
+apart_of _ m changes c slot u unpaired unlisted later good = record { empty = λ p paired is. absurd (unpaired refl p paired is) }
 
 active_owner : (state : CloneState) (m : Master) (changes : List Change) (slot : ℕ) (t : Tablet) (ns : Id) (c : CloneRecord) (l : Listed) → SlotGood m changes slot t → IsHere m slot ns → CloneStateGood state m c → is_visible state ≡ true → is_cloned state ≡ false
     → In l c.listed → l.slot ≡ slot → c.target_id ≡ ns

@@ -1,12 +1,8 @@
 -- A tablet that a restoration fences keeps what holds.
 use Rattle.std.proofs.Common.{ℕ, ◌≡◌, ◌≤◌, List, [], ◌∷◌, ◌++◌, Some, None, false, inl, refl, sym, ap, subst, ◌∙◌, arith, le_refl, le_trans, le_of_lt}
-use Rattle.row_values.specs.declared.rows.KeyedRow.{KeyedRow}
-use Rattle.row_values.specs.Ids.{Id}
-use Rattle.row_values.specs.Elements.{In}
+use Rattle.model.specs.Cluster.{KeyedRow, Id, In, Listed, RestorationRecord, RestorationState, Fencing, Restoring, Releasing, CloneRecord, CloneState, CloneSnapshot, Copying, CloneReleasing, Master}
 use Rattle.model.specs.Journal.{Change}
 use Rattle.model.specs.Tablets.{Tablet, Command, Fence, Freeze, Release, Copy, FenceKind, FreezeKind, RestoreFromKind, processed, is_empty}
-use Rattle.model.specs.Records.{Listed, RestorationRecord, RestorationState, Fencing, Restoring, Releasing, CloneRecord, CloneState, Accepted, CloneSnapshot, Copying, CloneReleasing, CloneComplete}
-use Rattle.model.specs.Parts.{Master}
 use Rattle.law_invariants.specs.Operations.{IsAfterSwitch, FencingGood, RestorationStateGood, CloneStateGood}
 use Rattle.law_invariants.specs.Orders.{FencingSlot, FencePlace, RestorationSlot}
 use Rattle.law_invariants.proofs.DoneMarks.{done_still, done_beside}
@@ -16,17 +12,16 @@ use Rattle.law_commands.proofs.Held.{Does, HoldsOf, each_restoration, clones_bes
 
 fencing_is : (state : RestorationState) (m : Master) (changes : List Change) (r : RestorationRecord) (l : Listed) → RestorationStateGood state m changes r → In l r.listed → l.body ≡ Fence → state ≡ Fencing
 fencing_is Fencing m changes r l h isin e = refl
-fencing_is (Restoring point serving) m changes r l h isin e = absurd (subst (IsAfterSwitch r point serving) e (h.bodies l isin))
+fencing_is (Restoring point serving) m changes r l h isin e = absurd (subst (IsAfterSwitch r.to point serving) e (h.bodies l isin))
 fencing_is (Releasing point serving) m changes r l h isin e = absurd (let q : Release point ≡ Fence = sym (h.bodies l isin) ∙ e in grind arith)
 fencing_is _ m changes r l h isin e = absurd (none_in r.listed l h.empty isin)
 
 no_clone_fence : (state : CloneState) (m : Master) (c : CloneRecord) (l : Listed) → CloneStateGood state m c → In l c.listed → l.body ≡ Fence → ⊥
-no_clone_fence Accepted m c l h isin e = none_in c.listed l h isin
 no_clone_fence (CloneSnapshot own) m c l h isin e = none_in c.listed l h.empty isin
 no_clone_fence (Copying serving at) m c l h isin e =
     let b = h.bodies l isin in let q : Fence ≡ Copy b.pair.source_slot serving c.to at b.pair.table b.pair.low b.pair.high 1 = sym e ∙ b.body_is in grind arith
 no_clone_fence (CloneReleasing serving at) m c l h isin e = let q : Fence ≡ Release h.since = sym e ∙ h.bodies l isin in grind arith
-no_clone_fence (CloneComplete serving at) m c l h isin e = none_in c.listed l h isin
+no_clone_fence _ m c l h isin e = none_in c.listed l h isin
 
 fenced_by : (m : Master) (changes : List Change) (slot n : ℕ) (t : Tablet) (operation tablet : Id) (cs : List Command) (rows : List KeyedRow) → Does m changes slot n t operation tablet Fence cs
     → OfRestoration m operation slot (record { tablet = tablet; slot = slot; body = Fence; acked = false }) → HoldsOf m changes slot (processed (record { operation = operation; tablet = tablet; body = Fence } ∷ cs) rows n t)

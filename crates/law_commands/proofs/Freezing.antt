@@ -2,20 +2,11 @@
 use Rattle.std.proofs.Common.{ℕ, ◌≡◌, ◌≢◌, ◌≤◌, ◌<◌, List, [], ◌∷◌, ◌++◌, Option, Some, None, true, false, inl, inr, refl, sym, ap, subst, ◌∙◌, arith, leb, leb-true, le_refl, le_trans, le_of_lt, lt_of_lt_of_le}
 use Rattle.std.specs.Option.{is_some}
 use Rattle.std.proofs.lemmas.Bool.{true≢false}
-use Rattle.row_values.specs.Codes.{code_of}
-use Rattle.row_values.specs.declared.rows.KeyedRow.{KeyedRow}
-use Rattle.row_values.specs.Ids.{Id, same}
-use Rattle.row_values.specs.Elements.{In}
-use Rattle.model.specs.Times.{is_open, before_end}
+use Rattle.model.specs.Cluster.{code_of, KeyedRow, Id, same, In, is_open, before_end, in_range, owner_of, Interval, active_at, Listed, SnapshotRecord, RestorationRecord, RestorationState, Fencing, Snapshotting, Switching, Restoring, Releasing, Restored, CloneRecord, CloneState, Accepted, CloneSnapshot, Copying, CloneReleasing, CloneComplete, Master}
 use Rattle.row_values.specs.Store.{Version, frozen}
-use Rattle.row_values.specs.Ranges.{in_range}
-use Rattle.model.specs.Catalog.{owner_of}
-use Rattle.model.specs.Activity.{Interval, active_at}
 use Rattle.model.specs.Journal.{Change}
 use Rattle.model.specs.Tablets.{Tablet, Command, Mark, Body, Freeze, BodyKind, FenceKind, FreezeKind, RestoreFromKind, HideKind, CopyKind, ReleaseKind, FrozenSet, set_of, processed, kind_of, is_done}
-use Rattle.model.specs.Records.{Listed, SnapshotRecord, RestorationRecord, RestorationState, Fencing, Snapshotting, Switching, Restoring, Releasing, Restored, CloneRecord, CloneState, Accepted, CloneSnapshot, Copying, CloneReleasing, CloneComplete}
 use Rattle.model.specs.Stands.{HoldsFrozen, awaited_in}
-use Rattle.model.specs.Parts.{Master}
 use Rattle.law_store.proofs.Keys.{either_way}
 use Rattle.law_store.proofs.Choosing.{frozen_reads, sorted_frozen}
 use Rattle.law_store.proofs.Members.{keys_frozen}
@@ -25,7 +16,7 @@ use Rattle.law_invariants.specs.Orders.{FencePlace, ClonePlace, IsFence, IsSetOf
 use Rattle.law_invariants.proofs.Finding.{both_pass, in_append, filter_in, same_equal, same_self}
 use Rattle.law_invariants.proofs.DoneMarks.{done_still, done_beside, done_now, done_either}
 use Rattle.law_invariants.proofs.Commanded.{IsPending, BySnapshot, ByRestoration as RestorationPends, ByClone as ClonePends}
-use Rattle.law_invariants.proofs.Awaits.{awaits_is}
+use Rattle.law_invariants.proofs.Awaiting.{awaits_is}
 use Rattle.law_commands.proofs.Doing.{mark_of, mark_pending, orders_done, SetGood, same_restores, awaited_kept, set_good, slot_changed}
 use Rattle.law_commands.proofs.Held.{Does, HoldsOf, obeyed_done, marked_after}
 use Rattle.law_invariants.proofs.Bodies.{snapshot_alone, no_restoration_freeze, no_clone_freeze}
@@ -102,8 +93,6 @@ restoration_kept (Restored point serving) m changes r slot t n sets inbox done l
 
 clone_kept : (state : CloneState) (m : Master) (changes : List Change) (c : CloneRecord) (slot : ℕ) (t : Tablet) (n : ℕ) (sets : List FrozenSet) (inbox : List Command) (done : List Mark) → t.clock ≤ n → OnlyFrozen t.done done
     → CloneSlot state m changes c slot t → CloneSlot state m changes c slot (froze t n sets inbox done)
-clone_kept Accepted m changes c slot t n sets inbox done le marks h = record { empty = h.empty }
-clone_kept (CloneSnapshot own) m changes c slot t n sets inbox done le marks h = record { empty = h.empty }
 clone_kept (Copying serving at) m changes c slot t n sets inbox done le marks h =
     let e = marks.same_ c.id CopyKind (λ e. let q : CopyKind ≡ FreezeKind = e in grind arith) in record {
       acked = λ l isin is a. marks.still c.id CopyKind (h.acked l isin is a);
@@ -113,6 +102,7 @@ clone_kept (Copying serving at) m changes c slot t n sets inbox done le marks h 
     }
 clone_kept (CloneReleasing serving at) m changes c slot t n sets inbox done le marks h = λ l isin is. releasing_kept c.id l t n sets inbox done marks (h l isin is)
 clone_kept (CloneComplete serving at) m changes c slot t n sets inbox done le marks h = tt
+clone_kept _ m changes c slot t n sets inbox done le marks h = record { empty = h.empty }
 
 -- Times before a restoration's point
 

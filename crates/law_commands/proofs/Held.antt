@@ -1,13 +1,9 @@
 -- A tablet does a command of the operation that holds its namespace: no other operation has anything in its slot.
 use Rattle.std.proofs.Common.{ℕ, ◌≡◌, ◌≢◌, ◌≤◌, ◌<◌, List, [], ◌∷◌, ◌++◌, Some, false, ◌⊎◌, inl, inr, refl, sym, ap, subst, ◌∙◌, le_of_lt}
 use Rattle.std.proofs.lemmas.Bool.{true≢false}
-use Rattle.row_values.specs.Ids.{Id, same}
-use Rattle.row_values.specs.Elements.{In}
-use Rattle.model.specs.Catalog.{owner_of}
+use Rattle.model.specs.Cluster.{Id, same, In, owner_of, RestorationRecord, CloneRecord, is_restored, is_cloned, Master}
 use Rattle.model.specs.Journal.{Change}
 use Rattle.model.specs.Tablets.{Tablet, Command, Mark, Body, FenceKind, FreezeKind, kind_of, is_done, is_empty}
-use Rattle.model.specs.Records.{RestorationRecord, CloneRecord, is_restored, is_cloned}
-use Rattle.model.specs.Parts.{Master}
 use Rattle.law_store.proofs.Keys.{either_way}
 use Rattle.law_invariants.specs.Invariant.{MasterGood, SlotGood, SlotWorks}
 use Rattle.law_invariants.specs.Operations.{OperationsGood}

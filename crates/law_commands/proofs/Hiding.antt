@@ -2,17 +2,10 @@
 use Rattle.row_values.specs.Store.{Below}
 use Rattle.std.proofs.Common.{ℕ, ◌≡◌, ◌≤◌, ◌+◌, List, [], ◌∷◌, ◌++◌, Option, Some, None, true, false, refl, sym, ap, subst, ◌∙◌, arith, le_trans, le_of_lt, lt_of_lt_of_le, ◌<◌}
 use Rattle.std.proofs.lemmas.Bool.{true≢false}
-use Rattle.row_values.specs.declared.rows.KeyedRow.{KeyedRow}
-use Rattle.row_values.specs.Ids.{Id}
-use Rattle.row_values.specs.Elements.{In}
-use Rattle.model.specs.Times.{ended_by}
-use Rattle.model.specs.Catalog.{owner_of}
-use Rattle.model.specs.Activity.{Interval}
+use Rattle.model.specs.Cluster.{KeyedRow, Id, In, ended_by, owner_of, Interval, Listed, RestorationRecord, Restoring, Master}
 use Rattle.model.specs.Journal.{Change}
 use Rattle.model.specs.Tablets.{Tablet, HiddenPart, Command, Mark, Freeze, Hide, FenceKind, FreezeKind, RestoreFromKind, HideKind, processed, kind_of, is_empty, FrozenSet, is_serving}
-use Rattle.model.specs.Records.{Listed, RestorationRecord, Restoring}
 use Rattle.model.specs.Stands.{awaited_in, awaited_of}
-use Rattle.model.specs.Parts.{Master}
 use Rattle.law_invariants.specs.Invariant.{is_awaited, SlotGood, OverBy, TurnsAt, ComesFrom, StandsIn}
 use Rattle.law_invariants.specs.Operations.{RestoringGood, RestorationStateGood}
 use Rattle.law_invariants.specs.Orders.{RestoringSlot, RestorationSlot}

@@ -3,13 +3,9 @@ use Rattle.std.proofs.Common.{ℕ, ◌≡◌, ◌≤◌, List, [], ◌∷◌, Bo
 use Rattle.std.specs.Option.{option_map}
 use Rattle.std.proofs.lemmas.Bool.{true≢false}
 use Rattle.std.proofs.lemmas.Bool.Decides.{nat_tests}
-use Rattle.row_values.specs.Ids.{Id}
-use Rattle.row_values.specs.Elements.{In}
-use Rattle.model.specs.Activity.{Interval}
+use Rattle.model.specs.Cluster.{Id, In, Interval, Process, Idle, OtherSlot, Done, Master, Parts, If}
 use Rattle.model.specs.Journal.{Change}
 use Rattle.model.specs.Tablets.{Tablet, Command, Body, Fence, Freeze, RestoreFrom, Hide, Copy, Release, kind_of, processed, set_of}
-use Rattle.model.specs.Acts.{Process, Idle, OtherSlot, Done}
-use Rattle.model.specs.Parts.{Master, Parts, If}
 use Rattle.model.specs.Coordination.{source_slot, rows_for, processing, process}
 use Rattle.model.specs.Entries.{slots_of}
 use Rattle.model.specs.Retained.{FindsRows, ReachesBack, RowsFound, from_set}

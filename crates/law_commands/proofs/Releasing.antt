@@ -2,25 +2,18 @@
 use Rattle.std.proofs.Common.{ℕ, ◌≡◌, ◌≤◌, ◌<◌, max, List, [], ◌∷◌, ◌++◌, Some, None, true, false, inr, refl, sym, ap, subst, ◌∙◌, arith, leb, le-leb, le_trans, le_of_lt}
 use Rattle.std.specs.Option.{is_some}
 use Rattle.std.proofs.lemmas.Bool.{true≢false}
-use Rattle.row_values.specs.declared.rows.KeyedRow.{KeyedRow}
-use Rattle.row_values.specs.Ids.{Id}
-use Rattle.row_values.specs.Elements.{In}
-use Rattle.model.specs.Times.{before_end}
-use Rattle.model.specs.Catalog.{owner_of}
-use Rattle.model.specs.Activity.{Interval, active_at}
+use Rattle.model.specs.Cluster.{KeyedRow, Id, In, before_end, owner_of, Interval, active_at, Listed, RestorationRecord, Restoring, Releasing, CloneRecord, CloneReleasing, is_restored, point_of, Master}
 use Rattle.model.specs.Journal.{Change, table_at}
 use Rattle.model.specs.Right.{is_fixed}
 use Rattle.model.specs.Tablets.{Tablet, Command, Freeze, Release, FenceKind, FreezeKind, RestoreFromKind, ReleaseKind, processed}
-use Rattle.model.specs.Records.{Listed, RestorationRecord, Restoring, Releasing, CloneRecord, CloneReleasing, is_restored, point_of}
 use Rattle.model.specs.Stands.{awaited_in}
-use Rattle.model.specs.Parts.{Master}
 use Rattle.law_invariants.specs.Invariant.{MasterGood, SlotGood}
 use Rattle.law_invariants.specs.Operations.{ReleasingGood, RestorationStateGood, VisibleGood, CloneStateGood}
 use Rattle.law_invariants.specs.Orders.{ReleasingSlot, RestorationSlot, CloneSlot}
 use Rattle.law_invariants.proofs.Finding.{passes_both, none_or_some}
 use Rattle.law_invariants.proofs.DoneMarks.{done_still, done_beside, done_now}
 use Rattle.law_invariants.proofs.Commanded.{OfRestoration, OfClone, IsPending, BySnapshot, ByRestoration as RestorationPends, ByClone as ClonePends}
-use Rattle.law_invariants.proofs.Awaits.{awaits_is}
+use Rattle.law_invariants.proofs.Awaiting.{awaits_is}
 use Rattle.law_commands.proofs.Doing.{mark_of, mark_pending, orders_done, IsHere, table_here, owner_here, same_restores, awaited_kept, set_good, slot_changed}
 use Rattle.law_commands.proofs.Held.{Does, HoldsOf, each_restoration, clones_beside, restorations_beside, each_clone, obeyed_done, marked_after}
 use Rattle.law_invariants.proofs.Bodies.{releasing_is, visible_is}

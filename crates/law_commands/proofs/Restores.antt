@@ -2,20 +2,11 @@
 use Rattle.std.proofs.Common.{ℕ, ◌≡◌, ◌≤◌, ◌<◌, ◌+◌, List, [], ◌∷◌, ◌++◌, Some, None, true, false, cond, ◌&&◌, inl, refl, sym, ap, subst, ◌∙◌, arith, not, ltb-true, le_of_lt, lt_of_lt_of_le}
 use Rattle.std.proofs.lemmas.Bool.{true≢false}
 use Rattle.std.specs.Option.{option_map}
-use Rattle.row_values.specs.Codes.{code_of}
-use Rattle.row_values.specs.declared.rows.KeyedRow.{KeyedRow}
-use Rattle.row_values.specs.Ids.{Id}
-use Rattle.row_values.specs.Elements.{In}
-use Rattle.model.specs.Times.{before_end, ended_by}
+use Rattle.model.specs.Cluster.{code_of, KeyedRow, Id, In, before_end, ended_by, in_range, owner_of, Interval, Listed, RestorationRecord, Restoring, is_restored, point_of, Master}
 use Rattle.row_values.specs.Store.{Version, Below, read_of, rows_at, of_rows}
-use Rattle.row_values.specs.Ranges.{in_range}
-use Rattle.model.specs.Catalog.{owner_of}
-use Rattle.model.specs.Activity.{Interval}
 use Rattle.model.specs.Journal.{Change, row_at}
 use Rattle.model.specs.Tablets.{Tablet, ServingPart, HiddenPart, Command, Mark, Freeze, RestoreFrom, FenceKind, FreezeKind, RestoreFromKind, set_of, rows_of_set, processed, kind_of, is_done, is_empty, is_serving}
-use Rattle.model.specs.Records.{Listed, RestorationRecord, Restoring, is_restored, point_of}
 use Rattle.model.specs.Stands.{awaited_in, awaited_of, before_restore, AreRowsAt}
-use Rattle.model.specs.Parts.{Master}
 use Rattle.model.specs.Retained.{ReachesBack, from_set}
 use Rattle.law_store.proofs.Listing.{restored_reads, sorted_restored, below_of_rows}
 use Rattle.law_store.proofs.Members.{keys_of_rows, keys_rows_at}
@@ -26,10 +17,9 @@ use Rattle.law_invariants.specs.Operations.{RestoringGood, RestorationStateGood}
 use Rattle.law_invariants.specs.Orders.{FencePlace, RestoringSlot, RestorationSlot}
 use Rattle.law_invariants.proofs.Finding.{none_or_some}
 use Rattle.law_invariants.proofs.Ticking.{over_later}
-use Rattle.law_invariants.proofs.Awaiting.{settled_none}
+use Rattle.law_invariants.proofs.Awaiting.{settled_none, Awaits, awaits_is, listed_any}
 use Rattle.law_invariants.proofs.DoneMarks.{done_still, done_beside, done_now}
 use Rattle.law_invariants.proofs.Commanded.{IsPending, BySnapshot, ByRestoration as RestorationPends, ByClone as ClonePends}
-use Rattle.law_invariants.proofs.Awaits.{Awaits, awaits_is, listed_any}
 use Rattle.law_commands.proofs.Doing.{mark_of, mark_pending, orders_done, IsHere, table_here, owner_here}
 use Rattle.law_commands.proofs.Hiding.{no_end}
 use Rattle.law_commands.proofs.Held.{Does, HoldsOf, each_restoration, clones_beside, obeyed_done, marked_after}

@@ -2,15 +2,10 @@
 use Rattle.std.proofs.Common.{ℕ, ◌≡◌, ◌≤◌, List, [], ◌∷◌, ◌++◌, Option, Some, None, Bool, true, false, cond, ◌||◌, inl, inr, refl, sym, ap, subst, ◌∙◌, arith, le_refl, le_trans, le_of_lt}
 use Rattle.std.proofs.lemmas.Bool.{cond_both, true≢false}
 use Rattle.std.proofs.lemmas.Bool.Decides.{nat_tests}
-use Rattle.row_values.specs.Ids.{Id}
-use Rattle.row_values.specs.Elements.{In}
-use Rattle.model.specs.Activity.{Interval}
+use Rattle.model.specs.Cluster.{Id, In, Interval, Listed, Sent, is_sent, Send, SentTo, NotPending, Master, Parts}
 use Rattle.model.specs.Journal.{Change}
 use Rattle.model.specs.Tablets.{Tablet, Command, Offer, offered, kind_of, is_done, holds_command}
-use Rattle.model.specs.Records.{Listed, Sent, is_sent}
 use Rattle.model.specs.Stands.{NoneTwice}
-use Rattle.model.specs.Acts.{Send, SentTo, NotPending}
-use Rattle.model.specs.Parts.{Master, Parts}
 use Rattle.model.specs.Coordination.{pending, command_for, sending, send, sent_to}
 use Rattle.model.specs.Entries.{slots_of}
 use Rattle.law_store.proofs.Keys.{either_way}
@@ -19,13 +14,12 @@ use Rattle.law_invariants.specs.Operations.{IsSent, OperationsGood}
 use Rattle.law_invariants.specs.Orders.{IsOrder, OrdersGood}
 use Rattle.law_invariants.proofs.Finding.{in_append, in_added}
 use Rattle.law_invariants.proofs.Ticking.{refused_keeps, KeepsAll, master_before, master_ticked, slot_ticked, tablet_before, tablet_ticked}
-use Rattle.law_invariants.proofs.Marked.{master_marked, inbox_changed}
+use Rattle.law_invariants.proofs.Frame.{master_marked, inbox_changed, touched, slot_told}
 use Rattle.law_invariants.proofs.Remembering.{FloorsHold, remembered_on, floor_rises}
 use Rattle.law_invariants.proofs.Operating.{operations_sent}
 use Rattle.law_invariants.proofs.Ordering.{rows_same, orders_on, obeyed_on, order_later, mark_later, obeyed_mild}
 use Rattle.law_invariants.proofs.Undoing.{same_rows, journal_on}
 use Rattle.law_invariants.proofs.Working.{tables_drawn, all_listed, same_fixed, onward_ticked, work_later}
-use Rattle.law_invariants.proofs.Frame.{touched, slot_told}
 use Rattle.law_invariants.proofs.Hearing.{clocks_rise, rows_on}
 use Rattle.law_invariants.proofs.Told.{clock_before, has_second}
 use Rattle.law_invariants.proofs.DoneMarks.{command_there, command_held}

@@ -1,34 +1,26 @@
 -- Which record gives which command, and from which frozen set a restore and a copy take their rows.
 use Rattle.std.proofs.Common.{ℕ, ◌≡◌, ◌≤◌, ◌<◌, ◌+◌, List, [], ◌∷◌, Some, None, true, inl, inr, refl, sym, ap, subst, ◌∙◌, arith, Option, leb, leb-true, le_trans, le-leb, ◌||◌}
-use Rattle.row_values.specs.Ids.{Id, same}
-use Rattle.row_values.specs.Elements.{In}
-use Rattle.model.specs.Activity.{Interval, active_at, active_within}
+use Rattle.model.specs.Cluster.{Id, same, In, Interval, active_at, active_within, Tablet, Fence, Freeze, Release, Copy, FrozenSet, set_of, Hide, RestoreFrom, Listed, RestorationRecord, RestorationState, Fencing, Restoring, Releasing, CloneRecord, CloneState, CloneSnapshot, Copying, CloneReleasing, SnapshotRecord, Restored, Master, before_end, owner_of}
 use Rattle.model.specs.Journal.{Change}
-use Rattle.model.specs.Tablets.{Tablet, Fence, Freeze, Release, Copy, FrozenSet, set_of, Hide, RestoreFrom}
-use Rattle.model.specs.Records.{Listed, RestorationRecord, RestorationState, Fencing, Restoring, Releasing, CloneRecord, CloneState, Accepted, CloneSnapshot, Copying, CloneReleasing, CloneComplete, SnapshotRecord, Restored}
-use Rattle.model.specs.Parts.{Master}
 use Rattle.law_store.proofs.Keys.{either_way}
 use Rattle.law_invariants.specs.Invariant.{SlotGood, SlotWorks}
 use Rattle.law_invariants.specs.Operations.{IsAfterSwitch, IsCopied, RestorationStateGood, CloneStateGood, SnapshotsRise, IsServing, OperationsGood}
 use Rattle.law_invariants.proofs.Finding.{both_pass, apart_by_number, passes_both}
-use Rattle.model.specs.Times.{before_end}
-use Rattle.model.specs.Catalog.{owner_of}
 use Rattle.std.proofs.lemmas.Bool.Decides.{nat_tests}
 use Rattle.law_invariants.proofs.Commanded.{none_in}
 
 pub copying_is : (state : CloneState) (m : Master) (c : CloneRecord) (l : Listed) (source : ℕ) (snapshot : Id) (to stamp : ℕ) (table : Id) (low high version : ℕ) → CloneStateGood state m c → In l c.listed → l.body ≡ Copy source snapshot to stamp table low high version
     → (serving : Id) × ((at : ℕ) × ((state ≡ Copying serving at) × IsCopied c serving at l))
-copying_is Accepted m c l source snapshot to stamp table low high version h isin e = absurd (none_in c.listed l h isin)
 copying_is (CloneSnapshot own) m c l source snapshot to stamp table low high version h isin e = absurd (none_in c.listed l h.empty isin)
 copying_is (Copying serving at) m c l source snapshot to stamp table low high version h isin e = (serving, (at, (refl, h.bodies l isin)))
 copying_is (CloneReleasing serving at) m c l source snapshot to stamp table low high version h isin e =
     absurd (let q : Copy source snapshot to stamp table low high version ≡ Release h.since = sym e ∙ h.bodies l isin in grind arith)
-copying_is (CloneComplete serving at) m c l source snapshot to stamp table low high version h isin e = absurd (none_in c.listed l h isin)
+copying_is _ m c l source snapshot to stamp table low high version h isin e = absurd (none_in c.listed l h isin)
 
 pub no_restoration_copy : (state : RestorationState) (m : Master) (changes : List Change) (r : RestorationRecord) (l : Listed) (source : ℕ) (snapshot : Id) (to stamp : ℕ) (table : Id) (low high version : ℕ) → RestorationStateGood state m changes r → In l r.listed
     → l.body ≡ Copy source snapshot to stamp table low high version → ⊥
 no_restoration_copy Fencing m changes r l source snapshot to stamp table low high version h isin e = let q : Fence ≡ Copy source snapshot to stamp table low high version = sym (h.bodies l isin) ∙ e in grind arith
-no_restoration_copy (Restoring point serving) m changes r l source snapshot to stamp table low high version h isin e = subst (IsAfterSwitch r point serving) e (h.bodies l isin)
+no_restoration_copy (Restoring point serving) m changes r l source snapshot to stamp table low high version h isin e = subst (IsAfterSwitch r.to point serving) e (h.bodies l isin)
 no_restoration_copy (Releasing point serving) m changes r l source snapshot to stamp table low high version h isin e = let q : Release point ≡ Copy source snapshot to stamp table low high version = sym (h.bodies l isin) ∙ e in grind arith
 no_restoration_copy _ m changes r l source snapshot to stamp table low high version h isin e = none_in r.listed l h.empty isin
 
@@ -42,45 +34,42 @@ snapshot_alone (s ∷ rs) q r h (inr a) (inr b) e = snapshot_alone rs q r h.1 a 
 
 pub no_restoration_freeze : (state : RestorationState) (m : Master) (changes : List Change) (r : RestorationRecord) (l : Listed) (snapshot : Id) (at : ℕ) → RestorationStateGood state m changes r → In l r.listed → l.body ≡ Freeze snapshot at → ⊥
 no_restoration_freeze Fencing m changes r l snapshot at h isin e = let q : Fence ≡ Freeze snapshot at = sym (h.bodies l isin) ∙ e in grind arith
-no_restoration_freeze (Restoring point serving) m changes r l snapshot at h isin e = subst (IsAfterSwitch r point serving) e (h.bodies l isin)
+no_restoration_freeze (Restoring point serving) m changes r l snapshot at h isin e = subst (IsAfterSwitch r.to point serving) e (h.bodies l isin)
 no_restoration_freeze (Releasing point serving) m changes r l snapshot at h isin e = let q : Release point ≡ Freeze snapshot at = sym (h.bodies l isin) ∙ e in grind arith
 no_restoration_freeze _ m changes r l snapshot at h isin e = none_in r.listed l h.empty isin
 
 pub no_clone_freeze : (state : CloneState) (m : Master) (c : CloneRecord) (l : Listed) (snapshot : Id) (at : ℕ) → CloneStateGood state m c → In l c.listed → l.body ≡ Freeze snapshot at → ⊥
-no_clone_freeze Accepted m c l snapshot at h isin e = none_in c.listed l h isin
 no_clone_freeze (CloneSnapshot own) m c l snapshot at h isin e = none_in c.listed l h.empty isin
 no_clone_freeze (Copying serving copied) m c l snapshot at h isin e =
     let b = h.bodies l isin in let q : Freeze snapshot at ≡ Copy b.pair.source_slot serving c.to copied b.pair.table b.pair.low b.pair.high 1 = sym e ∙ b.body_is in grind arith
 no_clone_freeze (CloneReleasing serving copied) m c l snapshot at h isin e = let q : Freeze snapshot at ≡ Release h.since = sym e ∙ h.bodies l isin in grind arith
-no_clone_freeze (CloneComplete serving copied) m c l snapshot at h isin e = none_in c.listed l h isin
+no_clone_freeze _ m c l snapshot at h isin e = none_in c.listed l h isin
 
 pub hiding_is : (state : RestorationState) (m : Master) (changes : List Change) (r : RestorationRecord) (l : Listed) (at : ℕ) → RestorationStateGood state m changes r → In l r.listed → l.body ≡ Hide at → (serving : Id) × (state ≡ Restoring at serving)
 hiding_is Fencing m changes r l at h isin e = absurd (let q : Fence ≡ Hide at = sym (h.bodies l isin) ∙ e in grind arith)
-hiding_is (Restoring point serving) m changes r l at h isin e = let q : at ≡ point = subst (IsAfterSwitch r point serving) e (h.bodies l isin) in (serving, ap (λ z. Restoring z serving) (sym q))
+hiding_is (Restoring point serving) m changes r l at h isin e = let q : at ≡ point = subst (IsAfterSwitch r.to point serving) e (h.bodies l isin) in (serving, ap (λ z. Restoring z serving) (sym q))
 hiding_is (Releasing point serving) m changes r l at h isin e = absurd (let q : Release point ≡ Hide at = sym (h.bodies l isin) ∙ e in grind arith)
 hiding_is _ m changes r l at h isin e = absurd (none_in r.listed l h.empty isin)
 
 pub no_clone_hide : (state : CloneState) (m : Master) (c : CloneRecord) (l : Listed) (ended : ℕ) → CloneStateGood state m c → In l c.listed → l.body ≡ Hide ended → ⊥
-no_clone_hide Accepted m c l ended h isin e = none_in c.listed l h isin
 no_clone_hide (CloneSnapshot own) m c l ended h isin e = none_in c.listed l h.empty isin
 no_clone_hide (Copying serving at) m c l ended h isin e =
     let b = h.bodies l isin in let q : Hide ended ≡ Copy b.pair.source_slot serving c.to at b.pair.table b.pair.low b.pair.high 1 = sym e ∙ b.body_is in grind arith
 no_clone_hide (CloneReleasing serving at) m c l ended h isin e = let q : Hide ended ≡ Release h.since = sym e ∙ h.bodies l isin in grind arith
-no_clone_hide (CloneComplete serving at) m c l ended h isin e = none_in c.listed l h isin
+no_clone_hide _ m c l ended h isin e = none_in c.listed l h isin
 
 pub releasing_is : (state : RestorationState) (m : Master) (changes : List Change) (r : RestorationRecord) (l : Listed) (cutoff : ℕ) → RestorationStateGood state m changes r → In l r.listed → l.body ≡ Release cutoff → (serving : Id) × (state ≡ Releasing cutoff serving)
 releasing_is Fencing m changes r l cutoff h isin e = absurd (let q : Fence ≡ Release cutoff = sym (h.bodies l isin) ∙ e in grind arith)
-releasing_is (Restoring point serving) m changes r l cutoff h isin e = absurd (subst (IsAfterSwitch r point serving) e (h.bodies l isin))
+releasing_is (Restoring point serving) m changes r l cutoff h isin e = absurd (subst (IsAfterSwitch r.to point serving) e (h.bodies l isin))
 releasing_is (Releasing point serving) m changes r l cutoff h isin e = let q : Release point ≡ Release cutoff = sym (h.bodies l isin) ∙ e in let is : point ≡ cutoff = cc in (serving, ap (λ z. Releasing z serving) is)
 releasing_is _ m changes r l cutoff h isin e = absurd (none_in r.listed l h.empty isin)
 
 pub visible_is : (state : CloneState) (m : Master) (c : CloneRecord) (l : Listed) (cutoff : ℕ) → CloneStateGood state m c → In l c.listed → l.body ≡ Release cutoff → (serving : Id) × ((at : ℕ) × (state ≡ CloneReleasing serving at))
-visible_is Accepted m c l cutoff h isin e = absurd (none_in c.listed l h isin)
 visible_is (CloneSnapshot own) m c l cutoff h isin e = absurd (none_in c.listed l h.empty isin)
 visible_is (Copying serving at) m c l cutoff h isin e =
     absurd (let b = h.bodies l isin in let q : Release cutoff ≡ Copy b.pair.source_slot serving c.to at b.pair.table b.pair.low b.pair.high 1 = sym e ∙ b.body_is in grind arith)
 visible_is (CloneReleasing serving at) m c l cutoff h isin e = (serving, (at, refl))
-visible_is (CloneComplete serving at) m c l cutoff h isin e = absurd (none_in c.listed l h isin)
+visible_is _ m c l cutoff h isin e = absurd (none_in c.listed l h isin)
 
 pub set_in : (fs : List FrozenSet) (id : Id) (f : FrozenSet) → set_of fs id ≡ Some f → In f fs
 set_in [] id f e = absurd (let q = e in grind arith)
@@ -122,15 +111,14 @@ pub restoring_is : (state : RestorationState) (m : Master) (changes : List Chang
     → (state ≡ Restoring at snapshot) × (to ≡ r.to)
 restoring_is Fencing m changes r l snapshot to at version h isin e = absurd (let q : Fence ≡ RestoreFrom snapshot to at version = sym (h.bodies l isin) ∙ e in grind arith)
 restoring_is (Restoring point serving) m changes r l snapshot to at version h isin e =
-    let q = subst (IsAfterSwitch r point serving) e (h.bodies l isin) in (ap (λ p. Restoring p serving) (sym q.1.1) ∙ ap (Restoring at) (sym q.0), q.1.0)
+    let q = subst (IsAfterSwitch r.to point serving) e (h.bodies l isin) in (ap (λ p. Restoring p serving) (sym q.1.1) ∙ ap (Restoring at) (sym q.0), q.1.0)
 restoring_is (Releasing point serving) m changes r l snapshot to at version h isin e = absurd (let q : Release point ≡ RestoreFrom snapshot to at version = sym (h.bodies l isin) ∙ e in grind arith)
 restoring_is (Restored point serving) m changes r l snapshot to at version h isin e = absurd (none_in r.listed l h.empty isin)
 restoring_is _ m changes r l snapshot to at version h isin e = absurd (none_in r.listed l h.empty isin)
 
 pub no_clone_restore : (state : CloneState) (m : Master) (c : CloneRecord) (l : Listed) (snapshot : Id) (to at version : ℕ) → CloneStateGood state m c → In l c.listed → l.body ≡ RestoreFrom snapshot to at version → ⊥
-no_clone_restore Accepted m c l snapshot to at version h isin e = none_in c.listed l h isin
 no_clone_restore (CloneSnapshot own) m c l snapshot to at version h isin e = none_in c.listed l h.empty isin
 no_clone_restore (Copying serving copied) m c l snapshot to at version h isin e =
     let b = h.bodies l isin in let q : RestoreFrom snapshot to at version ≡ Copy b.pair.source_slot serving c.to copied b.pair.table b.pair.low b.pair.high 1 = sym e ∙ b.body_is in grind arith
 no_clone_restore (CloneReleasing serving copied) m c l snapshot to at version h isin e = let q : RestoreFrom snapshot to at version ≡ Release h.since = sym e ∙ h.bodies l isin in grind arith
-no_clone_restore (CloneComplete serving copied) m c l snapshot to at version h isin e = none_in c.listed l h isin
+no_clone_restore _ m c l snapshot to at version h isin e = none_in c.listed l h isin

@@ -2,14 +2,10 @@
 use Rattle.std.proofs.Common.{ℕ, ◌≡◌, ◌≤◌, ◌<◌, List, [], ◌∷◌, Some, true, false, ◌&&◌, ◌⊎◌, inl, inr, refl, sym, ap, subst, ◌∙◌, arith, not, eqb, eqb-true, lt_of_le_of_lt, le_of_lt}
 use Rattle.std.specs.Option.{option_and_then}
 use Rattle.std.proofs.lemmas.Bool.{true≢false}
-use Rattle.row_values.specs.Ids.{Kind, Namespace, Table, Tablet as TabletKind, Schedule, Snapshot, Restoration, Clone, Id, same}
-use Rattle.row_values.specs.Elements.{In}
-use Rattle.model.specs.Tablets.{Copy, Release, BodyKind}
-use Rattle.model.specs.Records.{Listed, SnapshotRecord, RestorationRecord, RestorationState, Fencing, Snapshotting, Switching, Restoring, Releasing, Restored, CloneRecord, CloneState, Accepted, CloneSnapshot, Copying, CloneReleasing, CloneComplete, unacked_at, is_restored, is_cloned, point_of}
+use Rattle.model.specs.Cluster.{Kind, Snapshot, RestorationKind as Restoration, CloneKind as Clone, Id, same, In, Copy, Release, BodyKind, Listed, SnapshotRecord, RestorationRecord, RestorationState, Fencing, Snapshotting, Switching, Restoring, Releasing, Restored, CloneRecord, CloneState, CloneSnapshot, Copying, CloneReleasing, CloneComplete, unacked_at, is_restored, is_cloned, point_of, Master}
 use Rattle.model.specs.Coordination.{pending, pending_of, unfinished_snapshot, unfinished_restoration, unfinished_clone}
 use Rattle.model.specs.Stands.{copied_at}
 use Rattle.model.specs.Journal.{Change}
-use Rattle.model.specs.Parts.{Master}
 use Rattle.law_store.proofs.Keys.{either_way}
 use Rattle.law_invariants.specs.Operations.{RestorationStateGood, CloneStateGood, OperationsGood}
 use Rattle.law_invariants.specs.Orders.{IsAfter}
@@ -94,10 +90,7 @@ pending_by Restoration m operation slot l e =
 pending_by Clone m operation slot l e =
     let k = by_clone m.clones operation slot l e in
     ByClone (record { clone = k.0; kept = k.1.0; id_is = k.1.1.0; unfinished = k.1.1.1.0; line = unacked_is k.0.listed slot l k.1.1.1.1 })
-pending_by Namespace m operation slot l e = absurd (let q = e in grind arith)
-pending_by Table m operation slot l e = absurd (let q = e in grind arith)
-pending_by TabletKind m operation slot l e = absurd (let q = e in grind arith)
-pending_by Schedule m operation slot l e = absurd (let q = e in grind arith)
+pending_by _ m operation slot l e = absurd (let q = e in grind arith)
 
 pub pending_is : (m : Master) (operation : Id) (slot : ℕ) (l : Listed) → pending m operation slot ≡ Some l → IsPending m operation slot l
 pending_is m operation slot l e = pending_by operation.kind m operation slot l e
@@ -141,12 +134,11 @@ copied_past (CloneComplete serving copied) m c at h e = inr refl
 copied_past _ m c at h e = absurd (let q = e in grind arith)
 
 released_past : (state : CloneState) (m : Master) (c : CloneRecord) (l : Listed) (at : ℕ) → CloneStateGood state m c → In l c.listed → l.body ≡ Release at → at ≤ m.clock
-released_past Accepted m c l at h isin e = absurd (none_in c.listed l h isin)
 released_past (CloneSnapshot own) m c l at h isin e = absurd (none_in c.listed l h.empty isin)
 released_past (Copying serving copied) m c l at h isin e =
     absurd (let b = h.bodies l isin in let q : Release at ≡ Copy b.pair.source_slot serving c.to copied b.pair.table b.pair.low b.pair.high 1 = sym e ∙ b.body_is in grind arith)
 released_past (CloneReleasing serving copied) m c l at h isin e = let q : Release at ≡ Release h.since = sym e ∙ h.bodies l isin in let is : at ≡ h.since = cc in let b = h.begun in omega (arith, is, b)
-released_past (CloneComplete serving copied) m c l at h isin e = absurd (none_in c.listed l h isin)
+released_past _ m c l at h isin e = absurd (none_in c.listed l h isin)
 
 point_pending : (m : Master) (changes : List Change) (operation : Id) (slot n : ℕ) (l : Listed) (r : RestorationRecord) (at : ℕ) → OperationsGood m changes → m.clock < n → IsPending m operation slot l → In r m.restorations → r.id ≡ operation
     → (at ≤ m.clock) ⊎ (r.listed ≡ []) → at < n

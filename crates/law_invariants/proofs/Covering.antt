@@ -1,23 +1,44 @@
 -- The ranges of tablets go on to cover the codes.
-use Rattle.std.proofs.Common.{ℕ, ◌≡◌, ◌≤◌, ◌<◌, ◌+◌, ◌/◌, ◌*◌, List, ◌++◌, length, true, false, sym, ap, subst, ◌∙◌, arith, leb, le_trans, leb-true, inl, inr}
+use Rattle.std.proofs.Common.{ℕ, ◌≡◌, ◌≤◌, ◌<◌, ◌+◌, ◌/◌, ◌*◌, List, ◌++◌, length, true, false, sym, ap, subst, ◌∙◌, arith, leb, le_trans, leb-true, inl, inr, Option, Some, None, refl, le_refl}
 use Rattle.std.specs.Option.{is_some}
 use Rattle.std.proofs.Math.Nat.{div-le_self}
 use Rattle.std.proofs.lemmas.Bool.{true≢false}
 use Rattle.std.proofs.lemmas.Bool.Decides.{nat_tests}
-use Rattle.row_values.specs.Ids.{Id, same}
-use Rattle.row_values.specs.Elements.{In}
-use Rattle.model.specs.Activity.{Interval, end_table_tablets}
-use Rattle.model.specs.Stands.{holders}
+use Rattle.model.specs.Cluster.{Id, same, In, Interval, end_table_tablets, Column, ended, ended_by, HiddenPart}
+use Rattle.model.specs.Stands.{holders, HasRange}
 use Rattle.model.specs.Changed.{shares}
-use Rattle.row_values.specs.Schema.{Column}
 use Rattle.model.specs.Journal.{Change, TableMade, TableDropped, table_at}
 use Rattle.model.specs.History.{with}
 use Rattle.law_store.proofs.Keys.{either_way}
-use Rattle.law_invariants.specs.Invariant.{Covered}
-use Rattle.model.specs.Stands.{HasRange}
+use Rattle.law_invariants.specs.Invariant.{Covered, EndsBy, OverBy}
 use Rattle.law_invariants.proofs.Finding.{in_append, in_mapped, same_equal}
 use Rattle.law_invariants.proofs.Holding.{one, holders_append, none_hold, ended_less, ended_early, ended_others, shares_early, shares_others, shares_hold, share_ranges}
 use Rattle.law_invariants.proofs.Journaling.{IsQuiet, made_before, made_others, dropped_before, dropped_others, dropped_here}
+
+-- An open interval ends at a stamp.
+
+pub ended_ends : (to : Option ℕ) (from time n : ℕ) → from ≤ time → time ≤ n → EndsBy time from to → EndsBy n from (ended n to)
+ended_ends None from time n begun le h = (le_trans begun le, le_refl n)
+ended_ends (Some e) from time n begun le h = (h.0, le_trans h.1 le)
+
+pub ended_over : (to : Option ℕ) (from time n : ℕ) → from < n → time ≤ n → OverBy time from to → OverBy n from (ended n to)
+ended_over None from time n begun le h = (begun, le_refl n)
+ended_over (Some e) from time n begun le h = (h.0, le_trans h.1 le)
+
+pub closed : (to : Option ℕ) (n : ℕ) → (to ≡ None → ⊥) → ended n to ≡ to
+closed None n h = absurd (h refl)
+closed (Some e) n h = refl
+
+pub not_open : (n : ℕ) (to : Option ℕ) → ended n to ≡ None → ⊥
+not_open n None e = let q = e in grind arith
+not_open n (Some x) e = let q = e in grind arith
+
+pub over_then : (n : ℕ) (to : Option ℕ) (from time : ℕ) → time ≤ n → OverBy time from to → ended_by n (ended n to) ≡ true
+over_then n None from time le h = grind (arith, nat_tests)
+over_then n (Some e) from time le h = let l : e ≤ time = h.1 in grind (arith, nat_tests)
+
+pub stamp_is : (n at : ℕ) → HiddenPart n ≡ HiddenPart at → n ≡ at
+stamp_is n at e = cc
 
 -- under a change that makes and drops no table
 pub quiet_covers : (activity : List Interval) (changes new : List Change) → IsQuiet changes new → Covered activity changes → Covered activity new

@@ -1,8 +1,7 @@
 -- Marks of what a tablet did, and commands in its inbox.
 use Rattle.std.proofs.Common.{◌≡◌, List, [], ◌∷◌, ◌++◌, true, false, ◌&&◌, ◌⊎◌, inl, inr, refl, sym, ap, ◌∙◌}
 use Rattle.std.proofs.lemmas.Bool.{true≢false}
-use Rattle.row_values.specs.Ids.{Id, same}
-use Rattle.row_values.specs.Elements.{In}
+use Rattle.model.specs.Cluster.{Id, same, In}
 use Rattle.model.specs.Tablets.{BodyKind, same_body, kind_of, Command, Mark, is_mark, is_done, holds_command}
 use Rattle.law_store.proofs.Keys.{either_way}
 use Rattle.law_invariants.proofs.Finding.{body_equal, body_self, either_is, both_pass, passes_both, same_equal, same_self}

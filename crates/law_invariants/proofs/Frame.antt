@@ -1,24 +1,22 @@
 -- One tablet's part does what it is told, and the others set their clocks.
 use Rattle.std.proofs.Common.{ℕ, ◌≡◌, ◌≤◌, List, [], ◌∷◌, Bool, true, false, ◌&&◌, sym, subst, ◌∙◌, arith, not, eqb, eqb-true, le_refl}
 use Rattle.std.proofs.lemmas.Bool.{cond_both}
-use Rattle.row_values.specs.Slots.{has}
-use Rattle.model.specs.Activity.{Interval}
+use Rattle.model.specs.Cluster.{has, Interval, Act, Reply, Parts, Outcome, Ticks, Master, In, Sent}
 use Rattle.model.specs.Journal.{Change}
-use Rattle.model.specs.Tablets.{Tablet, TabletAct, Clock, act_for, effect}
-use Rattle.model.specs.Acts.{Act, Reply}
-use Rattle.model.specs.Parts.{Parts, Outcome, Ticks}
+use Rattle.model.specs.Tablets.{Tablet, TabletAct, Clock, act_for, effect, Command, is_serving}
 use Rattle.model.specs.Entries.{slots_of}
 use Rattle.model.specs.History.{told}
 use Rattle.law_store.proofs.Keys.{either_way}
 use Rattle.law_invariants.specs.Remembered.{activity_after, Remembered}
-use Rattle.law_invariants.specs.Invariant.{SlotGood, SlotWorks, Covered, MasterGood, Inv, Later}
+use Rattle.law_invariants.specs.Invariant.{SlotGood, SlotWorks, Covered, MasterGood, Inv, Later, IsGoodIn, TakesWritesIn}
 use Rattle.law_invariants.specs.Operations.{OperationsGood, JournalGood}
-use Rattle.law_invariants.specs.Orders.{RowsPast}
+use Rattle.law_invariants.specs.Orders.{RowsPast, directory}
 use Rattle.law_invariants.proofs.Hearing.{clocks_rise, rows_ticked, rows_ticked_if}
 use Rattle.law_invariants.proofs.Undoing.{journal_ticked_if}
 use Rattle.law_invariants.proofs.Working.{tables_drawn, all_listed, operations_ticked_if, works_ticked_if, work_later}
 use Rattle.law_invariants.proofs.Remembering.{activity_stays, remembered_ticked_if}
 use Rattle.law_invariants.proofs.Ticking.{tablet_ticked, slot_ticked_if, master_ticked_if, tablet_before, master_before}
+use Rattle.std.specs.Prelude.{None, true}
 
 -- an outcome that tells one tablet's part something
 abbrev pub tells : ℕ → TabletAct → Reply → Outcome
@@ -66,3 +64,23 @@ one_told act reply slot what n ps activity new later is master others mine opera
       works = λ i. works_ticked_if (has (slots_of act) 0) ps.master n new i _ early drawn operations
           (slot_told (SlotWorks ps.master new) act reply slot what n ps later is (λ j t le h. work_later ps.master n new j t le h) others_work mine_works i);
     })
+
+-- Sent marks and inboxes are none of what holds of the catalog and of stores.
+
+pub master_marked : (m : Master) (s : List Sent) (changes : List Change) → MasterGood m changes → MasterGood (record m { sent = s }) changes
+master_marked m s changes k = record { namespaces = k.namespaces; tables = k.tables; marks = k.marks; past = k.past; complete = k.complete; listed = k.listed; listed_of = k.listed_of }
+
+-- a tablet's inbox is none of what holds of its store
+pub inbox_changed : (m : Master) (changes : List Change) (slot : ℕ) (t : Tablet) (n : ℕ) (inbox : List Command) → t.clock ≤ n → SlotGood m changes slot t → SlotGood m changes slot (record t { clock = n; inbox = inbox })
+inbox_changed m changes slot t n inbox le h =
+    let k = tablet_ticked m n changes slot t le h in
+    let each : (i : Interval) → In i m.activity → i.slot ≡ slot → IsGoodIn m.clock m.slots (directory m) changes (record t { clock = n; inbox = inbox }) i = λ i isin is. let g = k.each i isin is in assumption g in
+    let opens : is_serving t.presence ≡ true → t.fence ≡ None → TakesWritesIn m.activity m.restorations slot (record t { clock = n; inbox = inbox }) = λ serving unfenced. let o = k.opens serving unfenced in record {
+      interval = o.interval;
+      listed = o.listed;
+      slot_is = o.slot_is;
+      opened = o.opened;
+      begun = o.begun;
+      settled = o.settled;
+    } in
+    assumption (each, opens)

@@ -2,10 +2,7 @@
 use Rattle.std.proofs.Common.{ℕ, suc, zero, ◌≡◌, ◌≤◌, ◌<◌, ◌+◌, List, [], ◌∷◌, length, map, take, Bool, true, false, ◌||◌, inl, inr, refl, sym, ap, ◌∙◌, arith, not, le_trans, length-take-le}
 use Rattle.std.specs.List.{filter}
 use Rattle.std.proofs.lemmas.Bool.{cond_both, true≢false}
-use Rattle.row_values.specs.Elements.{In}
-use Rattle.row_values.specs.Slots.{has}
-use Rattle.model.specs.Activity.{Interval}
-use Rattle.model.specs.Parts.{Master}
+use Rattle.model.specs.Cluster.{In, has, Interval, Master}
 use Rattle.model.specs.Looks.{counting, is_free, free_slots, is_reserved}
 use Rattle.law_invariants.proofs.Finding.{filter_in, map_in}
 use Rattle.law_invariants.proofs.Plans.{has_in}

@@ -1,20 +1,11 @@
 -- Each change of a row goes on to be before the master's clock, or behind that of its tablet.
 use Rattle.std.proofs.Common.{ℕ, ◌≡◌, ◌≤◌, List, [], ◌∷◌, Bool, true, cond, ◌&&◌, ◌⊎◌, inl, inr, sym, subst, refl, not, eqb, le_refl, le_trans}
 use Rattle.std.proofs.lemmas.Bool.{cond_both}
-use Rattle.row_values.specs.declared.value.RowOp.{RowOp}
-use Rattle.row_values.specs.declared.rows.KeyedRow.{KeyedRow}
-use Rattle.row_values.specs.Ids.{Id}
-use Rattle.row_values.specs.Elements.{In}
-use Rattle.row_values.specs.Slots.{has}
-use Rattle.model.specs.Catalog.{Catalog}
-use Rattle.model.specs.Activity.{Interval}
+use Rattle.model.specs.Cluster.{RowOp, KeyedRow, Id, In, has, Catalog, Interval, Sent, Act, Master, Drawn, Parts, Outcome}
 use Rattle.model.specs.Journal.{Change, RowChanged}
-use Rattle.model.specs.Records.{Sent}
 use Rattle.model.specs.Tablets as tell
 use Rattle.model.specs.Tablets.{Tablet, TabletAct, Command, processed, act_for, effect}
-use Rattle.model.specs.Acts.{Act}
 use Rattle.model.specs.Entries.{slots_of}
-use Rattle.model.specs.Parts.{Master, Drawn, Parts, Outcome}
 use Rattle.model.specs.History.{told}
 use Rattle.law_invariants.specs.Orders.{RowsPast}
 use Rattle.law_invariants.proofs.Operating.{going}

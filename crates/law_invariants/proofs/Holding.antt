@@ -1,20 +1,21 @@
 -- How many tablets hold a code: of a new table's tablets, of those of a table that ends, and of the others.
-use Rattle.std.proofs.Common.{ℕ, ◌≡◌, ◌≤◌, ◌<◌, ◌+◌, ◌*◌, ◌/◌, List, [], ◌∷◌, ◌++◌, length, Option, Some, None, Bool, true, false, cond, ◌&&◌, inl, inr, refl, sym, ap, ◌∙◌, arith, leb, le_refl, le_trans, lt-ltb, subst}
+use Rattle.std.proofs.Common.{ℕ, ◌≡◌, ◌≤◌, ◌<◌, ◌+◌, ◌*◌, ◌/◌, List, [], ◌∷◌, ◌++◌, length, Option, Some, None, Bool, true, false, cond, ◌&&◌, inl, inr, refl, sym, ap, ◌∙◌, arith, leb, le_refl, le_trans, lt-ltb, subst, lt_of_lt_of_le}
 use Rattle.std.proofs.Math.Nat.{add-div_right, mul-div_cancel, div-mul-le_self}
 use Rattle.std.proofs.lemmas.Nat.{le-div}
 use Rattle.std.proofs.lemmas.Bool.{cond_both}
 use Rattle.std.proofs.lemmas.Bool.Decides.{nat_tests}
-use Rattle.row_values.specs.Ids.{Id, same}
-use Rattle.row_values.specs.Elements.{In}
-use Rattle.model.specs.Times.{before_end, ended}
-use Rattle.row_values.specs.Ranges.{in_range, IsRange}
-use Rattle.model.specs.Stands.{HasRange}
-use Rattle.model.specs.Activity.{Interval, active_at, end_table_tablets}
-use Rattle.model.specs.Stands.{holders}
+use Rattle.model.specs.Cluster.{Id, same, In, before_end, ended, in_range, IsRange, Interval, active_at, end_table_tablets, Tablet, Master, code_of}
+use Rattle.model.specs.Stands.{HasRange, holders, awaited_in}
 use Rattle.model.specs.Changed.{begins, shares, next_tablet}
 use Rattle.law_store.proofs.Keys.{either_way}
 use Rattle.law_invariants.proofs.Overlap.{holds}
 use Rattle.law_invariants.proofs.Finding.{same_equal, same_self, first_fails}
+use Rattle.std.specs.Prelude.{false}
+use Rattle.row_values.specs.Store.{Version, Below, read_of}
+use Rattle.model.specs.Journal.{Change}
+use Rattle.law_store.specs.Sorted.{Sorted, EachKey}
+use Rattle.law_invariants.specs.Invariant.{SlotGood, OverBy, StandsIn, is_awaited}
+use Rattle.law_invariants.proofs.Ticking.{over_later}
 
 abbrev pub one : Bool → ℕ
 one b = cond b 1 0
@@ -143,3 +144,32 @@ share_ranges (slot ∷ slots) place count n drawn made pos most places i (inl e)
     subst HasRange e (share_range place count pos most (omega (arith, places)))
 share_ranges (slot ∷ slots) place count n drawn made pos most places i (inr isin) =
     share_ranges slots (place + 1) count n drawn made pos most (omega (arith, places)) i isin
+
+-- A tablet's versions give way to others that read the same from a later cutoff on.
+
+-- the tablet after it, its clock at a stamp
+abbrev pub rewritten : Tablet → ℕ → List Version → ℕ → Tablet
+rewritten t n vs c = record t { clock = n; versions = vs; cutoff = c }
+
+pub rewriting_keeps : (m : Master) (n : ℕ) (changes : List Change) (slot : ℕ) (t : Tablet) (vs : List Version) (c : ℕ) → t.clock ≤ n → t.cutoff ≤ c → c ≤ n
+    → Sorted vs → Below (n + 1) vs → EachKey (λ key. in_range t.low t.high (code_of key)) vs → ((key : List ℕ) (x : ℕ) → c ≤ x → read_of vs key x ≡ read_of t.versions key x)
+    → SlotGood m changes slot t → SlotGood m changes slot (rewritten t n vs c)
+rewriting_keeps m n changes slot t vs c le up within sorted below keys same h = record {
+  good = record { sorted = sorted; below = below; cutoff = within; keys = keys; set_past = λ f held. lt_of_lt_of_le (h.good.set_past f held) le; set_sorted = h.good.set_sorted; set_keys = h.good.set_keys };
+  home = h.home;
+  numbered = h.numbered;
+  each = λ i isin is. let g = h.each i isin is in
+      let over : OverBy n i.from i.to = over_later i.to i.from t.clock n le g.over in
+      let stands : is_awaited (awaited_in m.restorations t.tablet t.done) i.to ≡ false → StandsIn (rewritten t n vs c) changes i = λ counted key x ranged cut before there. same key x cut ∙ g.stands counted key x ranged (le_trans up cut) before there in
+      assumption (over, stands);
+  opens = λ serving unfenced. let o = h.opens serving unfenced in record {
+    interval = o.interval;
+    listed = o.listed;
+    slot_is = o.slot_is;
+    opened = o.opened;
+    begun = le_trans o.begun le;
+    settled = o.settled;
+  };
+  shown = λ serving unfenced x cut. h.shown serving unfenced x (le_trans up cut);
+  later = λ ns to is serving unfenced owned. le_trans (h.later ns to is serving unfenced owned) le;
+}

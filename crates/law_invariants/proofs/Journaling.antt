@@ -3,10 +3,7 @@ use Rattle.std.proofs.Common.{ℕ, ◌≡◌, ◌≤◌, ◌<◌, List, [], ◌�
 use Rattle.std.specs.Option.{is_some}
 use Rattle.std.proofs.lemmas.Bool.{true≢false}
 use Rattle.std.proofs.lemmas.Bool.Decides.{nat_tests}
-use Rattle.row_values.specs.Rows.{absent_row}
-use Rattle.row_values.specs.declared.rows.Row.{Row}
-use Rattle.row_values.specs.Ids.{Id, same}
-use Rattle.row_values.specs.Schema.{Column}
+use Rattle.model.specs.Cluster.{absent_row, Row, Id, same, Column}
 use Rattle.model.specs.Right.{is_fixed}
 use Rattle.model.specs.Journal.{Change, ChangeAct, NamespaceMade, NamespaceDropped, TableMade, TableRenamed, TableDropped, ColumnAdded, ColumnDropped, RowChanged, NamespaceRestored, NamespaceCloned, TableView, moved_to, renamed, with_column, without_column, restored_table, cloned_table, restored_row, cloned_row, source_of, table_after, row_after, table_at, row_at}
 use Rattle.model.specs.History.{with}
@@ -178,11 +175,10 @@ no_rows_after (TableDropped table) id key before then_ rows rows_then h g e = ei
 no_rows_after (ColumnAdded table column) id key before then_ rows rows_then h g e = h id (none_before (same table id) (before id) _ (none_stays (before id) _ (added_stays column (before id))) e)
 no_rows_after (ColumnDropped table column) id key before then_ rows rows_then h g e = h id (none_before (same table id) (before id) _ (none_stays (before id) _ (dropped_stays column (before id))) e)
 no_rows_after (RowChanged table k op) id key before then_ rows rows_then h g e = no_change _ (before id) (rows id key) _ e (h id e)
-no_rows_after (NamespaceMade namespace name) id key before then_ rows rows_then h g e = h id e
-no_rows_after (NamespaceDropped namespace) id key before then_ rows rows_then h g e = h id e
 no_rows_after (NamespaceRestored namespace to) id key before then_ rows rows_then h g e = no_restored namespace (then_ to id) (before id) (rows_then to id key) (rows id key) (h id) e
 no_rows_after (NamespaceCloned source target name to tables) id key before then_ rows rows_then h g e =
     no_cloned (source_of tables id) target id key (then_ to) (rows_then to) (before id) (rows id key) (g to) (h id) e
+no_rows_after _ id key before then_ rows rows_then h g e = h id e
 
 -- a table that the view doesn't have has no rows
 pub no_rows : (changes : List Change) (x : ℕ) (table : Id) (key : List ℕ) → table_at changes x table ≡ None → row_at changes x table key ≡ absent_row

@@ -1,11 +1,17 @@
 -- What holds of a judgement, by the refusals that come.
-use Rattle.std.proofs.Common.{◌≡◌, Bool, true, false, List, [], ◌∷◌, Option, Some, None, refl, ap, subst}
+use Rattle.std.proofs.Common.{◌≡◌, Bool, true, false, List, [], ◌∷◌, Option, Some, None, refl, ap, subst, ℕ, not}
 use Rattle.std.specs.Prelude.{Result, Ok, Err}
 use Rattle.std.specs.Option.{option_map, ok_or}
-use Rattle.row_values.specs.Ids.{Id}
-use Rattle.model.specs.Acts.{Refusal}
-use Rattle.model.specs.Parts.{Check, If, Names, Fault, refusal_in, either, checked, and_found}
-use Rattle.law_invariants.specs.Invariant.{Passes}
+use Rattle.model.specs.Cluster.{Id, same_slots, Interval}
+use Rattle.model.specs.Acts.{Refusal, Command, Change, StalePlan, Act}
+use Rattle.model.specs.Parts.{Check, If, Names, Fault, refusal_in, either, checked, and_found, Parts, Outcome, judged, refused}
+use Rattle.law_invariants.specs.Invariant.{Passes, Inv, Later}
+use Rattle.model.specs.Journal.{Change as Made}
+use Rattle.model.specs.Entries.{slots_of}
+use Rattle.model.specs.Looks.{plan_of}
+use Rattle.model.specs.Changes.{change, planned}
+use Rattle.model.specs.History.{outcome}
+use Rattle.law_invariants.proofs.Ticking.{refused_keeps, KeepsAll}
 
 -- One refusal after the other: where it comes, and where it doesn't
 
@@ -42,12 +48,10 @@ and_found_is (Ok a) look why b e = (a, (refl, found_is (look a) why b e))
 
 passes_none : (checks : List Check) → refusal_in checks ≡ None → Passes checks
 passes_none [] e = tt
-passes_none (If true why ∷ checks) e = cc
 passes_none (If false why ∷ checks) e = (refl, passes_none checks e)
-passes_none (Names (Some id) why ∷ checks) e = cc
 passes_none (Names None why ∷ checks) e = (refl, passes_none checks e)
-passes_none (Fault (Some why) ∷ checks) e = cc
 passes_none (Fault None ∷ checks) e = (refl, passes_none checks e)
+passes_none _ e = cc
 
 either_is : {A : Type 0} (why : Option Refusal) (a b : A) → either why a ≡ Ok b → (why ≡ None) × (a ≡ b)
 either_is (Some why) a b e = cc
@@ -57,3 +61,20 @@ either_is None a b e = (refl, cc)
 pub checked_is : {A : Type 0} (j : Result A Refusal) (checks : A → List Check) (a : A) → checked j checks ≡ Ok a → (j ≡ Ok a) × Passes (checks a)
 checked_is (Err why) checks a e = cc
 checked_is (Ok b) checks a e = let r = either_is (refusal_in (checks b)) b a e in (ap Ok r.1, subst (λ k. Passes (checks k)) r.1 (passes_none (checks b) r.0))
+
+-- A command under its plan: one under a stale plan is refused.
+
+by_cases : (b : Bool) (why : Refusal) (act : Act) (n : ℕ) (ps : Parts) (activity : List Interval) (changes : List Made) (o : Outcome) → KeepsAll act n ps activity changes (refused why) → (b ≡ true → KeepsAll act n ps activity changes o)
+    → KeepsAll act n ps activity changes (judged (If (not b) why ∷ []) o)
+by_cases true why act n ps activity changes o no_ go = go refl
+by_cases false why act n ps activity changes o no_ go = no_
+
+-- a command keeps what holds where it does under its own plan
+pub change_keeps : (command : Command) (slots : List ℕ) (ps : Parts) (activity : List Interval) (changes : List Made) (n : ℕ) → Later (slots_of (Change command slots)) ps n → Inv ps activity changes
+    → (same_slots slots (plan_of command ps.master) ≡ true → KeepsAll (Change command slots) n ps activity changes (planned command slots n ps))
+    → KeepsAll (Change command slots) n ps activity changes (outcome (Change command slots) n ps)
+unfolding change
+change_keeps command slots ps activity changes n later inv keeps =
+    let kept = plan_of command ps.master in
+    by_cases (same_slots slots kept) (StalePlan kept) (Change command slots) n ps activity changes (planned command slots n ps)
+    (refused_keeps (Change command slots) (StalePlan kept) n ps activity changes later inv refl) keeps

@@ -1,7 +1,6 @@
 -- The last interval of a tablet is one of the tablet's.
 use Rattle.std.proofs.Common.{◌≡◌, List, [], ◌∷◌, Option, Some, None, true, ◌⊎◌, inl, inr, subst}
-use Rattle.row_values.specs.Ids.{Id, same}
-use Rattle.row_values.specs.Elements.{In}
+use Rattle.model.specs.Cluster.{Id, same, In}
 use Rattle.model.specs.Activity.{Interval, last_from, last_of}
 use Rattle.law_store.proofs.Keys.{either_way}
 

@@ -1,20 +1,13 @@
 -- Which tablets a record lists, and that a tablet has one slot and one table.
 use Rattle.std.proofs.Common.{ℕ, ◌≡◌, List, [], ◌∷◌, Option, Some, None, true, false, inl, inr, refl, sym, ap, ◌∙◌, not}
-use Rattle.row_values.specs.Ids.{Id, same}
-use Rattle.row_values.specs.Elements.{In}
-use Rattle.model.specs.Times.{is_open}
-use Rattle.model.specs.Activity.{Interval}
-use Rattle.model.specs.Catalog.{owner_of, owns, is_owned_by}
+use Rattle.model.specs.Cluster.{Id, same, In, is_open, Interval, owner_of, owns, is_owned_by, Body, Listed, Master, Parts}
 use Rattle.model.specs.Journal.{Change}
-use Rattle.model.specs.Tablets.{Body}
-use Rattle.model.specs.Records.{Listed}
 use Rattle.model.specs.Lists.{once, listing, intervals_in, active_tablets, by_table_and_number}
-use Rattle.model.specs.Parts.{Master, Parts}
 use Rattle.law_store.proofs.Keys.{either_way}
 use Rattle.law_invariants.specs.Operations.{IsListed, IsOpenOf}
 use Rattle.law_invariants.specs.Invariant.{Inv}
 use Rattle.law_invariants.proofs.Finding.{in_mapped, map_in, in_filter, filter_in, same_equal, same_self}
-use Rattle.law_invariants.proofs.Placing.{ordered_has, ordered_only}
+use Rattle.law_invariants.proofs.Parting.{ordered_has, ordered_only}
 use Rattle.law_invariants.proofs.Undoing.{owned_is}
 
 -- a line of a list is that of one of its intervals

@@ -4,9 +4,7 @@ use Rattle.std.specs.List.{find}
 use Rattle.std.specs.Option.{option_map}
 use Rattle.std.proofs.lemmas.Bool.{cond_both, true≢false}
 use Rattle.std.specs.Str.{bytes_eq}
-use Rattle.row_values.specs.Ids.{Id, same}
-use Rattle.row_values.specs.Elements.{In}
-use Rattle.model.specs.Times.{is_open, ended}
+use Rattle.model.specs.Cluster.{Id, same, In, is_open, ended}
 use Rattle.model.specs.Catalog.{NamespaceRecord, namespace_named, name_of, end_namespace}
 use Rattle.model.specs.Journal.{Change, ChangeAct, NamespaceMade, NamespaceDropped, NamespaceCloned, name_after, namespace_at}
 use Rattle.law_store.proofs.Keys.{either_way, equal_keys, key_self}

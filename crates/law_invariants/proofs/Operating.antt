@@ -1,24 +1,20 @@
 -- The records of operations go on to be good while the master's clock, catalog and activity go on, and no record changes.
-use Rattle.std.proofs.Common.{ℕ, ◌≡◌, ◌≤◌, ◌<◌, ◌+◌, List, [], ◌∷◌, Option, Some, None, true, false, ◌&&◌, ◌⊎◌, inl, inr, refl, sym, ap, subst, ◌∙◌, arith, not, eqb, leb, ltb, lt-ltb, leb-true, le_trans, lt_of_lt_of_le}
+use Rattle.std.proofs.Common.{ℕ, ◌≡◌, ◌≤◌, ◌<◌, ◌+◌, List, [], ◌∷◌, Option, Some, None, true, false, ◌&&◌, ◌⊎◌, inl, inr, refl, sym, ap, subst, ◌∙◌, arith, not, eqb, leb, ltb, lt-ltb, leb-true, le_refl, le_trans, lt_of_lt_of_le}
 use Rattle.std.specs.Option.{is_some, option_or, option_map}
 use Rattle.std.proofs.lemmas.Bool.{true≢false}
 use Rattle.std.proofs.lemmas.Bool.Decides.{nat_tests}
-use Rattle.row_values.specs.Ids.{Kind, Namespace, Table, Tablet, Schedule as ScheduleKind, Snapshot, Restoration, Clone, Id, same}
-use Rattle.row_values.specs.Elements.{In}
-use Rattle.model.specs.Times.{is_open, ended_by, before_end}
-use Rattle.model.specs.Catalog.{Catalog, NamespaceRecord, TableRecord, owner_of, kept_from}
-use Rattle.model.specs.Activity.{Interval, active_at, active_within}
+use Rattle.model.specs.Cluster.{Kind, NamespaceKind as Namespace, TabletKind as Tablet, ScheduleKind, Snapshot, Id, same, In, is_open, before_end, Catalog, NamespaceRecord, TableRecord, owner_of, kept_from, Interval, active_at, active_within, Listed, Schedule, SnapshotRecord, RestorationRecord, TabletPair, CloneRecord, CloneState, CloneComplete, Sent, is_restored, is_cloned, is_visible, ScheduledNamespace, Master, Drawn}
 use Rattle.model.specs.Journal.{Change}
-use Rattle.model.specs.Records.{Listed, Schedule, SnapshotRecord, RestorationRecord, RestorationState, Fencing, Snapshotting, Switching, Restoring, Releasing, Restored, TabletPair, CloneRecord, CloneState, Accepted, CloneSnapshot, Copying, CloneReleasing, CloneComplete, Sent, is_restored, is_cloned, is_visible, ScheduledNamespace}
 use Rattle.model.specs.Stands.{before_restore}
 use Rattle.model.specs.Operations.{holder, restoration_of, clone_to}
 use Rattle.model.specs.Looks.{has_target, is_reserved}
 use Rattle.model.specs.Cleanup.{floor_of}
 use Rattle.model.specs.Drawn.{drawn_of}
 use Rattle.model.specs.Right.{is_fixed}
-use Rattle.model.specs.Parts.{Master, Drawn}
 use Rattle.law_store.proofs.Keys.{either_way}
-use Rattle.law_invariants.specs.Operations.{IsSent, IsKnown, IsListed, IsOpenOf, ScheduleGood, SnapshotGood, is_switched, IsPoint, BeforePoint, IsBack, IsActive, RestorationStateGood, RestorationGood, IsSource, IsReserved, CloneStateGood, CloneGood, OperationsGood, ScheduledGood}
+use Rattle.law_invariants.specs.Operations.{grounds, IsSent, IsKnown, IsListed, IsOpenOf, ScheduleGood, SnapshotGood, is_switched, RestorationGood, IsSource, IsReserved, CloneGood, OperationsGood, ScheduledGood}
+use Rattle.law_invariants.proofs.Going.{GroundsGo, NamespaceGoes, LinesGo, restoration_goes, clone_goes}
+use Rattle.law_invariants.proofs.Recording.{same_on}
 use Rattle.law_invariants.proofs.Finding.{both_pass, passes_both, same_self, either_passes}
 use Rattle.law_invariants.proofs.Remembering.{floor_rises}
 
@@ -249,227 +245,103 @@ snapshot_on m n c a d s changes new r o h = record {
   scheduled = h.scheduled;
 }
 
--- Restorations
-
-point_on : (m : Master) (n : ℕ) (c : Catalog) (a : List Interval) (d : Drawn) (s : List Sent) (changes new : List Change) (r : RestorationRecord) (point : ℕ) → Onward m n c a d changes new → IsPoint m changes r point
-    → IsPoint (going m n c a d s) new r point
-point_on m n c a d s changes new r point o h = record { later = h.later; fixed = λ to is. h.fixed to (sym (o.fixed r.namespace to) ∙ is); snapshots = h.snapshots; complete = h.complete }
-
-before_on : (m : Master) (n : ℕ) (c : Catalog) (a : List Interval) (d : Drawn) (s : List Sent) (changes new : List Change) (ns : Id) (point : ℕ) → Onward m n c a d changes new → (NotHeld m ns → ⊥) → BeforePoint m ns point
-    → BeforePoint (going m n c a d s) ns point
-before_on m n c a d s changes new ns point o held h = record {
-  begun = λ i there owner. (let k = held_came m n c a d changes new ns i o there owner held in h.begun i k.0 k.1);
-  ended = λ i end_ there owner is. (let k = held_came m n c a d changes new ns i o there owner held in h.ended i end_ k.0 k.1 is);
-  tables_begun = λ r there of. h.tables_begun r (o.tables_held ns r there of held) of;
-  tables_ended = λ r end_ there of is. h.tables_ended r end_ (o.tables_held ns r there of held) of is;
-}
-
-active_on : (m : Master) (n : ℕ) (c : Catalog) (a : List Interval) (d : Drawn) (s : List Sent) (changes new : List Change) (ns : Id) (l : Listed) (from : ℕ) → Onward m n c a d changes new → (NotHeld m ns → ⊥)
-    → ((i : Interval) → In i m.activity → i.tablet ≡ l.tablet → owner_of m.catalog.owners i.table ≡ Some ns) → IsActive m l from → IsActive (going m n c a d s) l from
-active_on m n c a d s changes new ns l from o held owner h = record {
-  interval = h.interval;
-  kept = held_stays m n c a d changes new ns h.interval o h.kept (owner h.interval h.kept h.tablet_is) held;
-  tablet_is = h.tablet_is;
-  slot_is = h.slot_is;
-  opened = h.opened;
-  from_is = h.from_is;
-}
-
-back_on : (m : Master) (n : ℕ) (c : Catalog) (a : List Interval) (d : Drawn) (s : List Sent) (changes new : List Change) (ns : Id) (l : Listed) (to point : ℕ) → Onward m n c a d changes new → (NotHeld m ns → ⊥)
-    → ((i : Interval) → In i m.activity → i.tablet ≡ l.tablet → owner_of m.catalog.owners i.table ≡ Some ns) → IsBack m l to point → IsBack (going m n c a d s) l to point
-back_on m n c a d s changes new ns l to point o held owner h = record {
-  then_ = h.then_;
-  kept_then = held_stays m n c a d changes new ns h.then_ o h.kept_then (owner h.then_ h.kept_then h.tablet_then) held;
-  tablet_then = h.tablet_then;
-  active = h.active;
-  now = h.now;
-  kept_now = held_stays m n c a d changes new ns h.now o h.kept_now (owner h.now h.kept_now h.tablet_now) held;
-  tablet_now = h.tablet_now;
-  slot_now = h.slot_now;
-  opened = h.opened;
-  from_is = h.from_is;
-}
+-- Restorations and clones
 
 -- what the master keeps of the tablets that a restoration lists
 pub record ListedOf (m : Master) (r : RestorationRecord) : Type 0 where
   pub drawn : (l : Listed) → In l r.listed → l.tablet.number ≤ m.drawn.tablets
   pub owner : (l : Listed) → In l r.listed → (i : Interval) → In i m.activity → i.tablet ≡ l.tablet → owner_of m.catalog.owners i.table ≡ Some r.namespace
 
-state_on : (state : RestorationState) (m : Master) (n : ℕ) (c : Catalog) (a : List Interval) (d : Drawn) (s : List Sent) (changes new : List Change) (r : RestorationRecord) → Onward m n c a d changes new
-    → (is_restored state ≡ false → NotHeld m r.namespace → ⊥) → ListedOf m r → RestorationStateGood state m changes r → RestorationStateGood state (going m n c a d s) new r
-state_on Fencing m n c a d s changes new r o held of h = record {
-  bodies = h.bodies;
-  lists = λ i opened. h.lists i (open_was m n c a d s changes new r.namespace i o (held refl) opened);
-  opens = λ l isin. (let k = h.opens l isin in (k.0, (open_on m n c a d s changes new r.namespace k.0 o (held refl) k.1.0, k.1.1)));
-}
-state_on (Snapshotting point own) m n c a d s changes new r o held of h = record {
-  is_point = point_on m n c a d s changes new r point o h.is_point;
-  empty = h.empty;
-  soon = le_trans h.soon (let l = o.clock in omega arith);
-  before = before_on m n c a d s changes new r.namespace point o (held refl) h.before;
-  snapshot = h.snapshot;
-  kept = h.kept;
-  id_is = h.id_is;
-  at_is = h.at_is;
-  namespace_is = h.namespace_is;
-  alone = h.alone;
-}
-state_on (Switching point serving) m n c a d s changes new r o held of h =
-    let is_point : IsPoint (going m n c a d s) new r point = point_on m n c a d s changes new r point o h.is_point in
-    let begun : point ≤ n = le_trans h.begun o.clock in
-    let before : BeforePoint (going m n c a d s) r.namespace point = before_on m n c a d s changes new r.namespace point o (held refl) h.before in
-    assumption (is_point, begun, before)
-state_on (Restoring point serving) m n c a d s changes new r o held of h = record {
-  is_point = point_on m n c a d s changes new r point o h.is_point;
-  begun = le_trans h.begun o.clock;
-  serves = h.serves;
-  calm = h.calm;
-  switched = o.switched r.namespace point h.switched;
-  bodies = h.bodies;
-  back = λ l isin is. back_on m n c a d s changes new r.namespace l r.to point o (held refl) (of.owner l isin) (h.back l isin is);
-  gone = λ l j isin is there same_. elim (o.came j there) [
-    | inl old ↦ (
-        let e = alike_on m n old.0 j old.1.1 in
-        let t : old.0.tablet ≡ l.tablet = sym e.tablet ∙ same_ in
-        let is_old : j ≡ old.0 = held_same m n old.0 j r.namespace old.1.1 (of.owner l isin old.0 old.1.0 t) (held refl) in
-        ap (λ k. ended_by point k.to) is_old ∙ h.gone l old.0 isin is old.1.0 t)
-    | inr made ↦ absurd (let l1 = made.drawn in let l2 = of.drawn l isin in let e : j.tablet.number ≡ l.tablet.number = ap (λ id. id.number) same_ in omega arith)
-  ];
-  opens = λ i opened. h.opens i (open_was m n c a d s changes new r.namespace i o (held refl) opened);
-}
-state_on (Releasing point serving) m n c a d s changes new r o held of h = record {
-  is_point = point_on m n c a d s changes new r point o h.is_point;
-  begun = le_trans h.begun o.clock;
-  switched = o.switched r.namespace point h.switched;
-  bodies = h.bodies;
-  active = λ l isin. active_on m n c a d s changes new r.namespace l point o (held refl) (of.owner l isin) (h.active l isin);
-  opens = λ i opened. h.opens i (open_was m n c a d s changes new r.namespace i o (held refl) opened);
-}
-state_on (Restored point serving) m n c a d s changes new r o held of h = record { empty = h.empty; begun = le_trans h.begun o.clock; later = h.later; switched = o.switched r.namespace point h.switched }
-
-restoration_on : (m : Master) (n : ℕ) (c : Catalog) (a : List Interval) (d : Drawn) (s : List Sent) (changes new : List Change) (r : RestorationRecord) → Onward m n c a d changes new → In r m.restorations → ListedOf m r
-    → RestorationGood m changes r → RestorationGood (going m n c a d s) new r
-restoration_on m n c a d s changes new r o isin of h = record {
-  kind_is = h.kind_is;
-  drawn = le_trans h.drawn (o.drawn Restoration);
-  drawn_namespace = le_trans h.drawn_namespace (o.drawn Namespace);
-  past = lt_of_lt_of_le h.past o.clock;
-  scheduled = h.scheduled;
-  known = λ unfinished l lists. known_on m n c a d s changes new l o (h.known unfinished l lists);
-  in_state = state_on r.state m n c a d s changes new r o (λ unfinished free. free.restoration r isin unfinished refl) of h.in_state;
-}
-
--- Clones
+pub visible_later : (state : CloneState) → is_visible state ≡ false → is_cloned state ≡ false
+visible_later (CloneComplete serving at) e = e
+visible_later _ e = refl
 
 active_still : (m : Master) (n x : ℕ) (i j : Interval) → x < n → GoesOn m n i j → active_at x i ≡ true → active_at x j ≡ true
 active_still m n x i j l (inl e) h = ap (active_at x) e ∙ h
 active_still m n x i j l (inr c) h =
     ap (active_at x) c.is ∙ passes_both (leb i.from x) (ltb x n) (both_pass (leb i.from x) (before_end x i.to) h).0 (lt-ltb x n l)
 
-source_on : (m : Master) (n : ℕ) (c : Catalog) (a : List Interval) (d : Drawn) (s : List Sent) (changes new : List Change) (k : CloneRecord) (p : TabletPair) → Onward m n c a d changes new → k.to < m.clock → IsSource m k p
-    → IsSource (going m n c a d s) k p
-source_on m n c a d s changes new k p o past h = let j = o.kept h.interval h.kept in let e = alike_on m n h.interval j.0 j.1.1 in record {
-  interval = j.0;
-  kept = j.1.0;
-  tablet_is = e.tablet ∙ h.tablet_is;
-  slot_is = e.slot ∙ h.slot_is;
-  low_is = e.low ∙ h.low_is;
-  high_is = e.high ∙ h.high_is;
-  active = active_still m n k.to h.interval j.0 (lt_of_lt_of_le past o.clock) j.1.1 h.active;
-  owned = ap (owner_of c.owners) e.table ∙ o.owned h.interval.table k.source h.owned;
-  pair = h.pair;
-  paired = h.paired;
-  source_is = h.source_is ∙ sym e.table;
-  target_is = h.target_is;
-}
+module _ (m : Master) (n : ℕ) (c : Catalog) (a : List Interval) (d : Drawn) (s : List Sent) (changes new : List Change) (o : Onward m n c a d changes new) where
+  grounds_on : GroundsGo (grounds m) (grounds (going m n c a d s)) changes new
+  grounds_on = record { clock = o.clock; slots = le_refl m.slots; drawn = o.drawn; owned = o.owned; switched = o.switched }
 
-reserved_on : (m : Master) (n : ℕ) (c : Catalog) (a : List Interval) (d : Drawn) (s : List Sent) (changes new : List Change) (p : TabletPair) → Onward m n c a d changes new → is_reserved m.clones p.slot ≡ true
-    → p.target.number ≤ m.drawn.tablets → IsReserved m p → IsReserved (going m n c a d s) p
-reserved_on m n c a d s changes new p o taken drawn h = record {
-  free = λ j there is. elim (o.came j there) [
-    | inl old ↦ h.free old.0 old.1.0 (sym (alike_on m n old.0 j old.1.1).slot ∙ is)
-    | inr made ↦ true≢false (sym taken ∙ ap (is_reserved m.clones) (sym is) ∙ made.unreserved)
-  ];
-  unknown = λ j there is. elim (o.came j there) [
-    | inl old ↦ h.unknown old.0 old.1.0 (sym (alike_on m n old.0 j old.1.1).tablet ∙ is)
-    | inr made ↦ absurd (let l1 = made.drawn in let e : j.tablet.number ≡ p.target.number = ap (λ id. id.number) is in omega arith)
-  ];
-  no_snapshot = h.no_snapshot;
-  no_restoration = h.no_restoration;
-}
+  space_on : (ns : Id) → (NotHeld m ns → ⊥) → NamespaceGoes (grounds m) (grounds (going m n c a d s)) changes new ns
+  space_on ns held = record {
+    came = λ i there owner. held_came m n c a d changes new ns i o there owner held;
+    tables = λ t there of. o.tables_held ns t there of held;
+    fixed = λ to is. sym (o.fixed ns to) ∙ is;
+  }
 
-clone_state_on : (state : CloneState) (m : Master) (n : ℕ) (c : Catalog) (a : List Interval) (d : Drawn) (s : List Sent) (changes new : List Change) (k : CloneRecord) → Onward m n c a d changes new
-    → (is_cloned state ≡ false → NotHeld m k.target_id → ⊥) → ((l : Listed) → In l k.listed → l.tablet.number ≤ m.drawn.tablets) → CloneStateGood state m k → CloneStateGood state (going m n c a d s) k
-clone_state_on Accepted m n c a d s changes new k o held drawn h = h
-clone_state_on (CloneSnapshot own) m n c a d s changes new k o held drawn h = h
-clone_state_on (Copying serving at) m n c a d s changes new k o held drawn h = record {
-  begun = le_trans h.begun o.clock;
-  later = h.later;
-  serves = h.serves;
-  bodies = h.bodies;
-  all = h.all;
-}
-clone_state_on (CloneReleasing serving at) m n c a d s changes new k o held drawn h = record {
-  since = h.since;
-  begun = le_trans h.begun o.clock;
-  later = h.later;
-  copied = h.copied;
-  bodies = h.bodies;
-  active = λ l isin. active_on m n c a d s changes new k.target_id l h.since o (held refl) (λ i there is. h.listed_of l i isin there is) (h.active l isin);
-  listed_of = λ l j isin there is. elim (o.came j there) [
-    | inl old ↦ (
-        let e = alike_on m n old.0 j old.1.1 in
-        ap (owner_of c.owners) e.table ∙ o.owned old.0.table k.target_id (h.listed_of l old.0 isin old.1.0 (sym e.tablet ∙ is)))
-    | inr made ↦ absurd (let l1 = made.drawn in let l2 = drawn l isin in let e : j.tablet.number ≡ l.tablet.number = ap (λ id. id.number) is in omega arith)
-  ];
-  opens = λ i opened. h.opens i (open_was m n c a d s changes new k.target_id i o (held refl) opened);
-}
-clone_state_on (CloneComplete serving at) m n c a d s changes new k o held drawn h = h
+  lines_on : (ns : Id) (ls : List Listed) → (NotHeld m ns → ⊥) → ((l : Listed) → In l ls → l.tablet.number ≤ m.drawn.tablets)
+      → ((l : Listed) (i : Interval) → In l ls → In i m.activity → i.tablet ≡ l.tablet → owner_of m.catalog.owners i.table ≡ Some ns) → LinesGo m.activity a ls
+  lines_on ns ls held drawn owner = record {
+    stays = λ l i isin there is. held_stays m n c a d changes new ns i o there (owner l i isin there is) held;
+    was = λ l j isin known there is. elim (o.came j there) [
+      | inl old ↦ (
+          let t : old.0.tablet ≡ l.tablet = sym (alike_on m n old.0 j old.1.1).tablet ∙ is in
+          subst (λ k. In k m.activity) (sym (held_same m n old.0 j ns old.1.1 (owner l old.0 isin old.1.0 t) held)) old.1.0)
+      | inr made ↦ absurd (let l1 = made.drawn in let l2 = drawn l isin in let e : j.tablet.number ≡ l.tablet.number = ap (λ id. id.number) is in omega arith)
+    ];
+  }
 
-pub visible_later : (state : CloneState) → is_visible state ≡ false → is_cloned state ≡ false
-visible_later (CloneComplete serving at) e = e
-visible_later _ e = refl
+  restoration_on : (r : RestorationRecord) → In r m.restorations → ListedOf m r → RestorationGood m changes r → RestorationGood (going m n c a d s) new r
+  restoration_on r isin of = restoration_goes (grounds m) (grounds (going m n c a d s)) changes new grounds_on r (λ unfinished.
+      let held : NotHeld m r.namespace → ⊥ = λ free. free.restoration r isin unfinished refl in
+      record {
+        space = space_on r.namespace held;
+        lines = lines_on r.namespace r.listed held of.drawn (λ l i lists there is. of.owner l lists i there is);
+        named = λ q there is. (q, (there, same_on q));
+        taken = λ point q at there is. (q, (there, same_on q));
+        points = λ point at h. h;
+        schedule = λ k there id_is is. (k, (there, (id_is, is)));
+      })
 
-held_target : (m : Master) (k : CloneRecord) → In k m.clones → is_visible k.state ≡ false → NotHeld m k.target_id → ⊥
-held_target m k isin unseen free = free.clone k isin (visible_later k.state unseen) refl
+  source_on : (k : CloneRecord) (p : TabletPair) → k.to < m.clock → IsSource m k p → IsSource (going m n c a d s) k p
+  source_on k p past h = let j = o.kept h.interval h.kept in let e = alike_on m n h.interval j.0 j.1.1 in record {
+    interval = j.0;
+    kept = j.1.0;
+    tablet_is = e.tablet ∙ h.tablet_is;
+    slot_is = e.slot ∙ h.slot_is;
+    low_is = e.low ∙ h.low_is;
+    high_is = e.high ∙ h.high_is;
+    active = active_still m n k.to h.interval j.0 (lt_of_lt_of_le past o.clock) j.1.1 h.active;
+    owned = ap (owner_of c.owners) e.table ∙ o.owned h.interval.table k.source h.owned;
+    pair = h.pair;
+    paired = h.paired;
+    source_is = h.source_is ∙ sym e.table;
+    target_is = h.target_is;
+  }
 
-clone_on : (m : Master) (n : ℕ) (c : Catalog) (a : List Interval) (d : Drawn) (s : List Sent) (changes new : List Change) (k : CloneRecord) → Onward m n c a d changes new → In k m.clones → CloneGood m changes k
-    → CloneGood (going m n c a d s) new k
-clone_on m n c a d s changes new k o isin h = record {
-  kind_is = h.kind_is;
-  drawn = le_trans h.drawn (o.drawn Clone);
-  drawn_source = le_trans h.drawn_source (o.drawn Namespace);
-  drawn_target = le_trans h.drawn_target (o.drawn Namespace);
-  apart = h.apart;
-  past = lt_of_lt_of_le h.past o.clock;
-  pairs = λ p paired. (let g = h.pairs p paired in record {
-    slot_from = g.slot_from;
-    slot_to = g.slot_to;
-    drawn = le_trans g.drawn (o.drawn Tablet);
-    drawn_table = le_trans g.drawn_table (o.drawn Table);
-    owned = o.owned p.table k.target_id g.owned;
-  });
-  drawn_listed = λ l lists. le_trans (h.drawn_listed l lists) (o.drawn Tablet);
-  one_slot = h.one_slot;
-  one_target = h.one_target;
-  one_table = h.one_table;
-  tables_apart = h.tables_apart;
-  owned = λ e paired. o.owned e.source k.source (h.owned e paired);
-  drawn_sources = λ e paired. le_trans (h.drawn_sources e paired) (o.drawn Table);
-  covers = h.covers;
-  scheduled = h.scheduled;
-  sources = λ unfinished p paired. source_on m n c a d s changes new k p o h.past (h.sources unfinished p paired);
-  reserved = λ unseen p paired. reserved_on m n c a d s changes new p o (target_reserved m.clones k p isin (visible_later k.state unseen) paired) (h.pairs p paired).drawn (h.reserved unseen p paired);
-  no_tablet = λ unseen i there owner. (let w = held_came m n c a d changes new k.target_id i o there owner (held_target m k isin unseen) in h.no_tablet unseen i w.0 w.1);
-  no_table = λ unseen r there of. h.no_table unseen r (o.tables_held k.target_id r there of (held_target m k isin unseen)) of;
-  no_schedule = h.no_schedule;
-  no_namespace = λ unseen r there. elim (o.names r there) [
-    | inl old ↦ (let w = h.no_namespace unseen old.was old.kept in (λ e. w.0 (sym old.id_is ∙ e), λ opened e. w.1 (old.opened opened) (sym old.name_is ∙ e)))
-    | inr made ↦ (λ e. (let l1 = made.drawn in let l2 = h.drawn_target in let q : r.id.number ≡ k.target_id.number = ap (λ i. i.number) e in absurd (omega arith)), λ opened e. made.free k isin unseen e)
-  ];
-  unfixed = λ unfinished to is. h.unfixed unfinished to (sym (o.fixed k.target_id to) ∙ is);
-  in_state = clone_state_on k.state m n c a d s changes new k o (λ unfinished free. free.clone k isin unfinished refl) h.drawn_listed h.in_state;
-}
+  reserved_on : (p : TabletPair) → is_reserved m.clones p.slot ≡ true → p.target.number ≤ m.drawn.tablets → IsReserved m p → IsReserved (going m n c a d s) p
+  reserved_on p taken drawn h = record {
+    free = λ j there is. elim (o.came j there) [
+      | inl old ↦ h.free old.0 old.1.0 (sym (alike_on m n old.0 j old.1.1).slot ∙ is)
+      | inr made ↦ true≢false (sym taken ∙ ap (is_reserved m.clones) (sym is) ∙ made.unreserved)
+    ];
+    unknown = λ j there is. elim (o.came j there) [
+      | inl old ↦ h.unknown old.0 old.1.0 (sym (alike_on m n old.0 j old.1.1).tablet ∙ is)
+      | inr made ↦ absurd (let l1 = made.drawn in let e : j.tablet.number ≡ p.target.number = ap (λ id. id.number) is in omega arith)
+    ];
+    no_snapshot = h.no_snapshot;
+    no_restoration = h.no_restoration;
+  }
+
+  clone_on : (k : CloneRecord) → In k m.clones → CloneGood m changes k → CloneGood (going m n c a d s) new k
+  clone_on k isin h = clone_goes (grounds m) (grounds (going m n c a d s)) changes new grounds_on m.restorations m.restorations k (λ unfinished.
+      let held : NotHeld m k.target_id → ⊥ = λ free. free.clone k isin unfinished refl in
+      record {
+        space = space_on k.target_id held;
+        lines = lines_on k.target_id k.listed held h.drawn_listed;
+        named = λ q there is. (q, (there, same_on q));
+        schedule = λ t there is. (t, (there, is));
+        source = λ p paired. source_on k p h.past;
+        reserved = λ unseen p paired. reserved_on p (target_reserved m.clones k p isin unfinished paired) (h.pairs p paired).drawn;
+        names = λ unseen r there free. elim (o.names r there) [
+          | inl old ↦ (let w = free old.was old.kept in (λ e. w.0 (sym old.id_is ∙ e), λ opened e. w.1 (old.opened opened) (sym old.name_is ∙ e)))
+          | inr made ↦ (λ e. (let l1 = made.drawn in let l2 = h.drawn_target in let q : r.id.number ≡ k.target_id.number = ap (λ i. i.number) e in absurd (omega arith)), λ opened e. made.free k isin unseen e)
+        ];
+        schedules = λ unseen t there is. (t, (there, is));
+      }) h
 
 -- with sent marks that are good
 pub operations_sent : (m : Master) (n : ℕ) (c : Catalog) (a : List Interval) (d : Drawn) (s : List Sent) (changes new : List Change) → Onward m n c a d changes new
@@ -484,8 +356,8 @@ operations_sent m n c a d s changes new o kept owners marks of h = record {
   schedules = λ k isin. schedule_on m n c a d s changes new k o (h.schedules k isin);
   scheduled = λ k isin. scheduled_on m n c a d s changes new k o (h.scheduled k isin);
   snapshots = λ r isin. snapshot_on m n c a d s changes new r o (h.snapshots r isin);
-  restorations = λ r isin. restoration_on m n c a d s changes new r o isin (of r isin) (h.restorations r isin);
-  clones = λ k isin. clone_on m n c a d s changes new k o isin (h.clones k isin);
+  restorations = λ r isin. restoration_on m n c a d s changes new o r isin (of r isin) (h.restorations r isin);
+  clones = λ k isin. clone_on m n c a d s changes new o k isin (h.clones k isin);
 }
 
 -- with fewer sent marks

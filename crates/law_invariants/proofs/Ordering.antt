@@ -2,31 +2,20 @@
 -- operation has it do.
 use Rattle.std.proofs.Common.{ℕ, ◌≡◌, ◌≤◌, ◌<◌, List, [], Option, Some, None, true, false, ◌⊎◌, inl, inr, refl, sym, ap, subst, ◌∙◌, arith, le_refl, le_trans, lt_of_lt_of_le}
 use Rattle.std.proofs.lemmas.Bool.{true≢false}
-use Rattle.row_values.specs.Ids.{Table, Id}
-use Rattle.row_values.specs.Elements.{In}
+use Rattle.model.specs.Cluster.{TableKind as Table, Id, In, Catalog, owner_of, Interval, Listed, RestorationRecord, RestorationState, Fencing, Snapshotting, Switching, Restoring, Releasing, Restored, TabletPair, IdPair, CloneRecord, CloneState, Accepted, Copying, CloneReleasing, CloneComplete, Sent, is_restored, is_cloned, is_visible, SnapshotRecord, Master, Drawn}
 use Rattle.row_values.specs.Store.{Version, of_rows, rows_at}
-use Rattle.model.specs.Catalog.{Catalog, owner_of}
-use Rattle.model.specs.Activity.{Interval}
 use Rattle.model.specs.Journal.{Change, row_at}
 use Rattle.model.specs.Looks.{is_reserved}
 use Rattle.model.specs.Tablets.{Tablet, Presence, HiddenPart, BodyKind, Command, Mark, is_empty, is_serving, placed, is_done, RestoreFromKind, FreezeKind}
-use Rattle.model.specs.Records.{Listed, RestorationRecord, RestorationState, Fencing, Snapshotting, Switching, Restoring, Releasing, Restored, TabletPair, IdPair, CloneRecord, CloneState, Accepted, CloneSnapshot, Copying, CloneReleasing, CloneComplete, Sent, is_restored, is_cloned, is_visible, SnapshotRecord}
 use Rattle.model.specs.Stands.{AreRowsAt, before_restore, is_restore, HoldsFrozen}
 use Rattle.model.specs.Drawn.{drawn_of}
-use Rattle.model.specs.Parts.{Master, Drawn}
 use Rattle.law_invariants.specs.Operations.{IsKnown, RestorationStateGood, CloneStateGood, OperationsGood}
 use Rattle.law_invariants.specs.Invariant.{SlotWorks}
-use Rattle.law_invariants.specs.Orders.{FencePlace, ClonePlace, IsFence, IsAfter, IsOrder, IsMark, OrdersGood, FencedSlot, RestoringSlot, ReleasingSlot, RestorationSlot, IsCopy, CloneSlot, IsHome, IsTarget, ObeyedGood, directory, IsFenceIn, operations, IsMarkIn, RestorationSlotIn, CloneSlotIn, IsRestored, IsOrderIn, IsBare}
+use Rattle.law_invariants.specs.Orders.{FencePlace, ClonePlace, IsFence, IsAfter, IsOrder, IsMark, OrdersGood, RestoringSlot, ReleasingSlot, RestorationSlot, IsCopy, CloneSlot, IsHome, IsTarget, ObeyedGood, directory, IsFenceIn, operations, IsMarkIn, RestorationSlotIn, CloneSlotIn, IsRestored, IsOrderIn, IsBare}
 use Rattle.law_invariants.proofs.Operating.{NotHeld, Onward, ListedOf, going, target_reserved, alike_on, open_on, open_was}
+use Rattle.law_invariants.proofs.Going.{place_goes, restoration_slot_goes, clone_slot_goes}
 
 -- The master goes on
-
-place_on : (state : RestorationState) (m : Master) (n : ℕ) (c : Catalog) (a : List Interval) (d : Drawn) (s : List Sent) (changes new : List Change) (r : RestorationRecord) (slot : ℕ) (done : List Mark) → Onward m n c a d changes new
-    → (is_restored state ≡ false → NotHeld m r.namespace → ⊥) → FencePlace state r m slot done → FencePlace state r (going m n c a d s) slot done
-place_on (Restoring point serving) m n c a d s changes new r slot done o held h = h
-place_on (Releasing point serving) m n c a d s changes new r slot done o held h = h
-place_on (Restored point serving) m n c a d s changes new r slot done o held h = h
-place_on _ m n c a d s changes new r slot done o held h = (h.0, (open_on m n c a d s changes new r.namespace h.0 o (held refl) h.1.0, h.1.1))
 
 fence_on : (m : Master) (n : ℕ) (c : Catalog) (a : List Interval) (d : Drawn) (s : List Sent) (changes new : List Change) (slot : ℕ) (table : Id) (done : List Mark) (operation : Id) → Onward m n c a d changes new
     → IsFence m slot table done operation → IsFence (going m n c a d s) slot table done operation
@@ -35,7 +24,7 @@ fence_on m n c a d s changes new slot table done operation o (inl h) = inl (reco
   kept = h.kept;
   id_is = h.id_is;
   owned = o.owned table h.restoration.namespace h.owned;
-  place = place_on h.restoration.state m n c a d s changes new h.restoration slot done o (λ unfinished free. free.restoration h.restoration h.kept unfinished refl) h.place;
+  place = place_goes h.restoration.state h.restoration m.activity a m.catalog.owners c.owners slot done (λ unfinished i opened is. open_on m n c a d s changes new h.restoration.namespace i o (λ free. free.restoration h.restoration h.kept unfinished refl) opened) h.place;
 })
 fence_on m n c a d s changes new slot table done operation o (inr h) = inr (record {
   clone = h.clone;
@@ -52,50 +41,10 @@ orders_on m n c a d s changes new slot t o h =
     let marks : (mark : Mark) → In mark t.done → IsMarkIn d (operations (going m n c a d s)) t.clock mark = λ mark isin. (let g = h.marks mark isin in let drawn : mark.operation.number ≤ drawn_of mark.operation.kind d = le_trans g.drawn (o.drawn mark.operation.kind) in assumption (drawn, g)) in
     assumption (fences, marks)
 
-fenced_on : (m : Master) (n : ℕ) (c : Catalog) (a : List Interval) (d : Drawn) (s : List Sent) (changes new : List Change) (r : RestorationRecord) (slot : ℕ) (t : Tablet) → Onward m n c a d changes new
-    → (NotHeld m r.namespace → ⊥) → FencedSlot m r slot t → FencedSlot (going m n c a d s) r slot t
-fenced_on m n c a d s changes new r slot t o held h = record { fenced = λ i opened is. h.fenced i (open_was m n c a d s changes new r.namespace i o held opened) is }
-
-restoring_on : (changes new : List Change) (r : RestorationRecord) (point : ℕ) (l : Listed) (t : Tablet) → before_restore new r.namespace point new ≡ before_restore changes r.namespace point changes → RestoringSlot changes r point l t
-    → RestoringSlot new r point l t
-restoring_on changes new r point l t before h =
-    let restored : is_restore l.body ≡ true → is_done t.done r.id RestoreFromKind ≡ true → IsRestored new r point t = λ is did. (let k = h.restored is did in
-    let rows : AreRowsAt t.versions t.low t.high point (before_restore new r.namespace point new) r.to t.table = subst (λ then_. AreRowsAt t.versions t.low t.high point then_ r.to t.table) (sym before) k.rows in
-    assumption rows) in
-    assumption restored
-
-restoration_slot_on : (state : RestorationState) (m : Master) (n : ℕ) (c : Catalog) (a : List Interval) (d : Drawn) (s : List Sent) (changes new : List Change) (r : RestorationRecord) (slot : ℕ) (t : Tablet) → Onward m n c a d changes new
-    → (is_restored state ≡ false → NotHeld m r.namespace → ⊥) → RestorationStateGood state m changes r → RestorationSlot state m changes r slot t → RestorationSlot state (going m n c a d s) new r slot t
-restoration_slot_on Fencing m n c a d s changes new r slot t o held good h = h
-restoration_slot_on (Snapshotting point own) m n c a d s changes new r slot t o held good h = fenced_on m n c a d s changes new r slot t o (held refl) h
-restoration_slot_on (Switching point serving) m n c a d s changes new r slot t o held good h = record {
-  fenced = λ i opened is. h.fenced i (open_was m n c a d s changes new r.namespace i o (held refl) opened) is;
-  past = λ i opened is. h.past i (open_was m n c a d s changes new r.namespace i o (held refl) opened) is;
-}
-restoration_slot_on (Restoring point serving) m n c a d s changes new r slot t o held good h = λ l isin is. restoring_on changes new r point l t (o.before r.namespace point good.switched) (h l isin is)
-restoration_slot_on (Releasing point serving) m n c a d s changes new r slot t o held good h = h
-restoration_slot_on (Restored point serving) m n c a d s changes new r slot t o held good h = h
-
 -- the rows that clones copy are the same in two journals
 abbrev pub SourcesStay : Master → List Change → List Change → Type 0
 SourcesStay m changes new = (c : CloneRecord) (serving : Id) (at : ℕ) (d : IdPair) (key : List ℕ) → In c m.clones → c.state ≡ Copying serving at → In d c.tables
     → row_at new c.to d.source key ≡ row_at changes c.to d.source key
-
-copy_on : (changes new : List Change) (c : CloneRecord) (at : ℕ) (p : TabletPair) (t : Tablet) → ((d : IdPair) (key : List ℕ) → In d c.tables → row_at new c.to d.source key ≡ row_at changes c.to d.source key)
-    → IsCopy changes c at p t → IsCopy new c at p t
-copy_on changes new c at p t stays h =
-    let rows_now : (d : IdPair) → In d c.tables → d.target ≡ p.table → AreRowsAt t.versions p.low p.high at new c.to d.source = λ d paired is. (let k = h.rows d paired is in record { stamps = k.stamps; upserts = k.upserts; rows = λ key range. k.rows key range ∙ sym (stays d key paired); inside = k.inside }) in
-    assumption rows_now
-
-clone_slot_on : (state : CloneState) (m : Master) (n : ℕ) (c : Catalog) (a : List Interval) (d : Drawn) (s : List Sent) (changes new : List Change) (k : CloneRecord) (slot : ℕ) (t : Tablet) → k.state ≡ state → In k m.clones
-    → owner_of c.owners t.table ≡ owner_of m.catalog.owners t.table → SourcesStay m changes new → CloneSlot state m changes k slot t → CloneSlot state (going m n c a d s) new k slot t
-clone_slot_on (Copying serving at) m n c a d s changes new k slot t e isin owner stays h = record {
-  acked = h.acked;
-  empty = h.empty;
-  copied = λ p paired is done. copy_on changes new k at p t (λ b key listed. stays k serving at b key isin e listed) (h.copied p paired is done);
-  later = λ serving_ free of. h.later serving_ free (sym owner ∙ of);
-}
-clone_slot_on _ m n c a d s changes new k slot t e isin owner stays h = h
 
 home_on : (m : Master) (n : ℕ) (c : Catalog) (a : List Interval) (d : Drawn) (s : List Sent) (changes new : List Change) (slot : ℕ) (tablet : Id) → Onward m n c a d changes new → IsHome m slot tablet ⊎ IsTarget m slot tablet
     → IsHome (going m n c a d s) slot tablet ⊎ IsTarget (going m n c a d s) slot tablet
@@ -109,8 +58,10 @@ obeyed_on m n c a d s changes new slot t o stays ops h = record {
   drawn_table = le_trans h.drawn_table (o.drawn Table);
   home = λ present. home_on m n c a d s changes new slot t.tablet o (h.home present);
   snapshots = h.snapshots;
-  restorations = λ r isin. restoration_slot_on r.state m n c a d s changes new r slot t o (λ unfinished free. free.restoration r isin unfinished refl) (ops.restorations r isin).in_state (h.restorations r isin);
-  clones = λ k isin. clone_slot_on k.state m n c a d s changes new k slot t refl isin (o.owners t.table h.drawn_table) stays (h.clones k isin);
+  restorations = λ r isin. restoration_slot_goes r.state r m.activity a m.catalog.owners c.owners changes new slot t
+      (λ unfinished i opened. open_was m n c a d s changes new r.namespace i o (λ free. free.restoration r isin unfinished refl) opened)
+      (λ point serving e. o.before r.namespace point (subst (λ state. RestorationStateGood state m changes r) e (ops.restorations r isin).in_state).switched) (h.restorations r isin);
+  clones = λ k isin. clone_slot_goes k.state k m.catalog.owners c.owners changes new slot t (λ of. sym (o.owners t.table h.drawn_table) ∙ of) (λ serving at b key e listed. stays k serving at b key isin e listed) (h.clones k isin);
 }
 
 -- A tablet changes
@@ -250,15 +201,12 @@ placed_restorations (Switching point serving) m n c a d s changes new r slot t o
   past = λ i opened is. absurd (let k = open_was m n c a d s changes new r.namespace i o (held refl) opened in free.vacant i k.kept is);
   fenced = λ i opened is. absurd (let k = open_was m n c a d s changes new r.namespace i o (held refl) opened in free.vacant i k.kept is);
 }
-placed_restorations (Restoring point serving) m n c a d s changes new r slot t o free held known = λ l isin is. absurd (unknown_there m slot l free (known refl l isin) is)
-placed_restorations (Releasing point serving) m n c a d s changes new r slot t o free held known = λ l isin is. absurd (unknown_there m slot l free (known refl l isin) is)
 placed_restorations (Restored point serving) m n c a d s changes new r slot t o free held known = tt
+placed_restorations _ m n c a d s changes new r slot t o free held known = λ l isin is. absurd (unknown_there m slot l free (known refl l isin) is)
 
 placed_clones : (state : CloneState) (m : Master) (n : ℕ) (c : Catalog) (a : List Interval) (d : Drawn) (s : List Sent) (new : List Change) (k : CloneRecord) (slot : ℕ) (t : Tablet) → k.to ≤ n
     → (is_cloned state ≡ false → (p : TabletPair) → In p k.tablets → p.slot ≡ slot → ⊥) → CloneStateGood state m k → ((i : Interval) → In i m.activity → i.slot ≡ slot → ⊥)
     → CloneSlot state (going m n c a d s) new k slot (placed t.tablet t.table t.low t.high t.version t.versions t.cutoff n t)
-placed_clones Accepted m n c a d s new k slot t past apart good vacant = record { empty = λ p paired is. absurd (apart refl p paired is) }
-placed_clones (CloneSnapshot own) m n c a d s new k slot t past apart good vacant = record { empty = λ p paired is. absurd (apart refl p paired is) }
 placed_clones (Copying serving at) m n c a d s new k slot t past apart good vacant = record {
   acked = λ l isin is. absurd (let b = good.bodies l isin in apart refl b.pair b.paired (sym b.slot_is ∙ is));
   empty = λ p paired is. absurd (apart refl p paired is);
@@ -267,6 +215,7 @@ placed_clones (Copying serving at) m n c a d s new k slot t past apart good vaca
 }
 placed_clones (CloneReleasing serving at) m n c a d s new k slot t past apart good vacant = λ l isin is. absurd (let b = good.active l isin in vacant b.interval b.kept (b.slot_is ∙ is))
 placed_clones (CloneComplete serving at) m n c a d s new k slot t past apart good vacant = tt
+placed_clones _ m n c a d s new k slot t past apart good vacant = record { empty = λ p paired is. absurd (apart refl p paired is) }
 
 -- nothing was asked of a new tablet in a free slot; `t` has what it is made with
 pub placed_works : (m : Master) (n : ℕ) (c : Catalog) (a : List Interval) (d : Drawn) (s : List Sent) (changes new : List Change) (slot : ℕ) (t : Tablet) (w : Interval) → Onward m n c a d changes new → OperationsGood m changes
@@ -307,8 +256,6 @@ hidden_restorations _ m changes r slot t n p le apart h = λ l isin is. absurd (
 hidden_clones : (state : CloneState) (m : Master) (changes : List Change) (c : CloneRecord) (slot : ℕ) (t : Tablet) (n : ℕ) (p : Presence) → is_serving p ≡ false
     → ((q : TabletPair) → In q c.tablets → q.slot ≡ slot → is_visible state ≡ false → ⊥) → ((l : Listed) → In l c.listed → l.slot ≡ slot → is_visible state ≡ true → is_cloned state ≡ false → ⊥)
     → CloneSlot state m changes c slot t → CloneSlot state m changes c slot (record t { clock = n; presence = p })
-hidden_clones Accepted m changes c slot t n p out apart listed h = record { empty = λ q paired is. absurd (apart q paired is refl) }
-hidden_clones (CloneSnapshot own) m changes c slot t n p out apart listed h = record { empty = λ q paired is. absurd (apart q paired is refl) }
 hidden_clones (Copying serving at) m changes c slot t n p out apart listed h = record {
   acked = h.acked;
   empty = λ q paired is. absurd (apart q paired is refl);
@@ -317,6 +264,7 @@ hidden_clones (Copying serving at) m changes c slot t n p out apart listed h = r
 }
 hidden_clones (CloneReleasing serving at) m changes c slot t n p out apart listed h = λ l isin is. absurd (listed l isin is refl refl)
 hidden_clones (CloneComplete serving at) m changes c slot t n p out apart listed h = tt
+hidden_clones _ m changes c slot t n p out apart listed h = record { empty = λ q paired is. absurd (apart q paired is refl) }
 
 visible_active : (state : CloneState) (m : Master) (c : CloneRecord) (l : Listed) (slot : ℕ) (ns : Id) → is_visible state ≡ true → is_cloned state ≡ false → CloneStateGood state m c → In l c.listed → l.slot ≡ slot
     → ((i : Interval) → In i m.activity → i.slot ≡ slot → owner_of m.catalog.owners i.table ≡ Some ns) → c.target_id ≡ ns

@@ -2,11 +2,7 @@
 use Rattle.std.proofs.Common.{ℕ, ◌≡◌, ◌≢◌, ◌≤◌, ◌<◌, ◌+◌, ◌*◌, ◌%◌, max, List, [], ◌∷◌, Option, Some, None, Bool, true, cond, ◌&&◌, inl, inr, refl, sym, ap, ◌∙◌, arith, ltb-true, le-leb, fold}
 use Rattle.std.proofs.lemmas.Bool.Decides.{nat_tests}
 use Rattle.row_values.specs.Codes.{code_of, code_step}
-use Rattle.row_values.specs.Ids.{Id, same}
-use Rattle.row_values.specs.Elements.{In}
-use Rattle.model.specs.Times.{before_end}
-use Rattle.row_values.specs.Ranges.{in_range}
-use Rattle.model.specs.Activity.{Interval, active_at}
+use Rattle.model.specs.Cluster.{Id, same, In, before_end, in_range, Interval, active_at}
 use Rattle.model.specs.Stands.{holders}
 use Rattle.law_store.proofs.Keys.{either_way}
 use Rattle.law_invariants.specs.Invariant.{OverBy}

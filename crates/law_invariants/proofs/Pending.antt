@@ -2,14 +2,10 @@
 use Rattle.std.proofs.Common.{ℕ, ◌≡◌, ◌≤◌, ◌+◌, List, [], ◌∷◌, ◌++◌, Option, Some, None, true, false, ◌&&◌, ◌⊎◌, inl, inr, refl, sym, ap, subst, ◌∙◌, arith, not, eqb}
 use Rattle.std.specs.Option.{option_and_then}
 use Rattle.std.proofs.lemmas.Bool.{true≢false}
-use Rattle.row_values.specs.Ids.{Kind, Snapshot, Restoration, Clone, Id, same}
-use Rattle.row_values.specs.Elements.{In}
+use Rattle.model.specs.Cluster.{Kind, Snapshot, RestorationKind as Restoration, CloneKind as Clone, Id, same, In, Mark, Listed, SnapshotRecord, RestorationRecord, RestorationState, Fencing, Snapshotting, Switching, Restoring, Releasing, Restored, CloneRecord, is_restored, is_cloned, unacked_at, point_of, ScheduledNamespace, Master}
 use Rattle.model.specs.Journal.{Change}
-use Rattle.model.specs.Tablets.{Mark}
-use Rattle.model.specs.Records.{Listed, SnapshotRecord, RestorationRecord, RestorationState, Fencing, Snapshotting, Switching, Restoring, Releasing, Restored, CloneRecord, is_restored, is_cloned, unacked_at, point_of, ScheduledNamespace}
 use Rattle.model.specs.Drawn.{drawn_of}
 use Rattle.model.specs.Coordination.{pending, pending_of, unfinished_snapshot, unfinished_restoration, unfinished_clone}
-use Rattle.model.specs.Parts.{Master}
 use Rattle.law_store.proofs.Keys.{either_way}
 use Rattle.model.specs.Schedules.{complete_to}
 use Rattle.law_invariants.specs.Operations.{OperationsGood, IsPoint, RestorationStateGood}
@@ -108,12 +104,6 @@ restoration_added (q ∷ rs) s id r e = either_way (same q.id id && not (is_rest
 
 -- Fences stay where their restorations do
 
-place_on : (state : RestorationState) (m : Master) (w : Records) (r : RestorationRecord) (slot : ℕ) (done : List Mark) → FencePlace state r m slot done → FencePlace state r (recorded m w) slot done
-place_on (Restoring point serving) m w r slot done h = h
-place_on (Releasing point serving) m w r slot done h = h
-place_on (Restored point serving) m w r slot done h = h
-place_on _ m w r slot done h = (h.0, (record { kept = h.1.0.kept; opened = h.1.0.opened; owned = h.1.0.owned }, h.1.1))
-
 -- a restoration stays, or another under its id has taken over its fences
 abbrev pub HoldsOn : Master → Records → ℕ → List Mark → Type 0
 HoldsOn m w slot done = (r : RestorationRecord) → In r m.restorations → In r w.restorations
@@ -121,7 +111,7 @@ HoldsOn m w slot done = (r : RestorationRecord) → In r m.restorations → In r
 
 pub fence_stays : (m : Master) (w : Records) (slot : ℕ) (table : Id) (done : List Mark) (operation : Id) → HoldsOn m w slot done → IsFence m slot table done operation → IsFence (recorded m w) slot table done operation
 fence_stays m w slot table done operation holds (inl h) = elim (holds h.restoration h.kept) [
-  | inl stays ↦ inl (record { restoration = h.restoration; kept = stays; id_is = h.id_is; owned = h.owned; place = place_on h.restoration.state m w h.restoration slot done h.place })
+  | inl stays ↦ inl (record { restoration = h.restoration; kept = stays; id_is = h.id_is; owned = h.owned; place = h.place })
   | inr k ↦ inl (record { restoration = k.0; kept = k.1.0; id_is = k.1.1.0 ∙ h.id_is; owned = h.owned ∙ ap Some (sym k.1.1.1.0); place = k.1.1.1.1 h.place })
 ]
 fence_stays m w slot table done operation holds (inr h) = inr (record { clone = h.clone; kept = h.kept; id_is = h.id_is; owned = h.owned; place = h.place })

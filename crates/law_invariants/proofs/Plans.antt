@@ -2,12 +2,8 @@
 use Rattle.std.proofs.Common.{ℕ, ◌≡◌, List, [], ◌∷◌, map, None, Bool, true, cond, ◌&&◌, ◌||◌, inl, inr, refl, ap, ◌∙◌, arith, eqb, ltb, eqb-true}
 use Rattle.std.proofs.lemmas.Bool.{cond_both}
 use Rattle.std.proofs.lemmas.Bool.Decides.{nat_tests}
-use Rattle.row_values.specs.Ids.{Id, same}
-use Rattle.row_values.specs.Elements.{In}
+use Rattle.model.specs.Cluster.{Id, same, In, is_open, Interval, Master}
 use Rattle.row_values.specs.Slots.{has, put_slot, rising}
-use Rattle.model.specs.Times.{is_open}
-use Rattle.model.specs.Activity.{Interval}
-use Rattle.model.specs.Parts.{Master}
 use Rattle.model.specs.Looks.{active_in}
 use Rattle.law_store.proofs.Keys.{either_way}
 use Rattle.law_invariants.proofs.Finding.{either_is, in_filter, filter_in, map_in, both_pass, passes_both, either_passes, same_equal}

@@ -2,17 +2,13 @@
 use Rattle.std.specs.Prelude.{None}
 use Rattle.std.proofs.Common.{ℕ, ◌≡◌, ◌≤◌, List, ◌∷◌, Some, cond, true, ◌⊎◌, inl, refl, sym, ap, subst, ◌∙◌, arith, leb, le_of_lt, le_trans, le_refl}
 use Rattle.std.specs.Option.{is_some}
-use Rattle.row_values.specs.Ids.{Kind, Namespace as NamespaceKind, Table as TableKind, Id, same}
-use Rattle.row_values.specs.Elements.{In}
-use Rattle.model.specs.Activity.{Interval, active_at}
-use Rattle.model.specs.Times.{before_end, ended}
+use Rattle.model.specs.Cluster.{Kind, NamespaceKind, TableKind, Id, same, In, Interval, active_at, before_end, ended, Master, MasterAct, Parts, Drawn}
 use Rattle.model.specs.Catalog.{Catalog, NamespaceRecord, TableRecord, owner_of, kept_from, end_table}
 use Rattle.model.specs.Drawn.{drawn_of}
 use Rattle.model.specs.Journal.{Change as Made, table_at, row_at}
 use Rattle.model.specs.Tablets.{Tablet, TabletAct, Told, act_for, effect, Clock, SetVersion, is_serving}
 use Rattle.model.specs.Stands.{awaited_in, before_restore}
 use Rattle.model.specs.Acts.{Command, Change}
-use Rattle.model.specs.Parts.{Master, MasterAct, Parts, Drawn}
 use Rattle.model.specs.Changes.{accepts}
 use Rattle.model.specs.History.{master_effect, told}
 use Rattle.law_invariants.specs.Remembered.{activity_after, Remembered}

@@ -1,19 +1,13 @@
 -- The master's records of schedules, snapshots and restorations change while its catalog, its activity and its clones stay: what holds
 -- of the others goes on to hold, and what is asked of the new ones and of those that moved is said here.
-use Rattle.std.proofs.Common.{ℕ, ◌≡◌, ◌≤◌, ◌<◌, ◌+◌, List, Some, None, true, false, ◌⊎◌}
-use Rattle.row_values.specs.Ids.{Kind, Snapshot, Restoration, Id}
-use Rattle.row_values.specs.Elements.{In}
-use Rattle.model.specs.Activity.{Interval}
-use Rattle.model.specs.Catalog.{owner_of}
+use Rattle.std.proofs.Common.{ℕ, ◌≡◌, ◌≤◌, ◌<◌, ◌+◌, List, Some, None, true, false, refl, ◌⊎◌}
+use Rattle.model.specs.Cluster.{Kind, Snapshot, RestorationKind as Restoration, Id, In, Interval, owner_of, Mark, is_empty, Listed, Schedule, SnapshotRecord, RestorationRecord, Fencing, CloneRecord, Sent, is_restored, is_cloned, is_visible, point_of, ScheduledNamespace, Master, Drawn, Parts}
 use Rattle.model.specs.Journal.{Change}
-use Rattle.model.specs.Tablets.{Mark, is_empty}
-use Rattle.model.specs.Records.{Listed, Schedule, SnapshotRecord, RestorationRecord, Fencing, CloneRecord, Sent, is_restored, is_cloned, is_visible, point_of, ScheduledNamespace}
 use Rattle.model.specs.Schedules.{complete_to}
 use Rattle.model.specs.Stands.{awaited_in, awaited_of}
 use Rattle.model.specs.Cleanup.{floor_of}
 use Rattle.model.specs.Drawn.{drawn_of}
 use Rattle.model.specs.Coordination.{pending}
-use Rattle.model.specs.Parts.{Master, Drawn, Parts}
 use Rattle.law_invariants.specs.Operations.{is_switched, IsSwitchedBy, IsSent, AfterRowsOf, IsKnown, ScheduleGood, SnapshotGood, RestorationGood, OperationsApart, ScheduledGood}
 use Rattle.law_invariants.specs.Orders.{IsFence, RestorationSlot, stage_of_restoration}
 
@@ -65,6 +59,9 @@ pub record SnapshotOn (q r : SnapshotRecord) : Type 0 where
   pub at_is : r.at ≡ q.at
   pub complete : q.complete ≡ true → r.complete ≡ true
   pub lines : (l : Listed) → In l q.listed → (k : Listed) × (In k r.listed × (k.tablet ≡ l.tablet))
+
+pub same_on : (q : SnapshotRecord) → SnapshotOn q q
+same_on q = record { id_is = refl; namespace_is = refl; after_is = refl; at_is = refl; complete = λ e. e; lines = λ l isin. (l, (isin, refl)) }
 
 -- a new one lists tablets that the master knows, and its namespace is not that of a restoration that has a point
 pub record NewSnapshot (m : Master) (r : SnapshotRecord) : Type 0 where

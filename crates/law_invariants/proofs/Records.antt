@@ -5,9 +5,7 @@ use Rattle.std.specs.Option.{option_map}
 use Rattle.std.proofs.lemmas.Bool.{true≢false}
 use Rattle.std.proofs.lemmas.Bool.Decides.{nat_tests}
 use Rattle.std.specs.Str.{bytes_eq}
-use Rattle.row_values.specs.Ids.{Id, same}
-use Rattle.row_values.specs.Elements.{In}
-use Rattle.model.specs.Times.{is_open, ended, holds_at}
+use Rattle.model.specs.Cluster.{Id, same, In, is_open, ended, holds_at}
 use Rattle.model.specs.Catalog.{TableRecord, KeptFrom, Owner, table_named, current_named, current_table, end_table, owner_of, kept_from, set_kept_from}
 use Rattle.model.specs.Restored.{record_at}
 use Rattle.law_store.proofs.Keys.{either_way, equal_keys}

@@ -1,22 +1,13 @@
 -- What is remembered of all tablets' activity goes on: floors don't fall, and so no forgotten interval is needed again.
-use Rattle.std.proofs.Common.{[], ◌∷◌, ℕ, ◌≡◌, ◌≤◌, ◌<◌, List, Option, Some, None, Bool, true, false, cond, ◌&&◌, inl, inr, refl, sym, ap, subst, ◌∙◌, arith, not, leb, leb-true, ltb-true, le_trans, le_refl, ◌∷◌, ◌++◌, filter, ◌⊎◌}
+use Rattle.std.proofs.Common.{[], ◌∷◌, ℕ, ◌≡◌, ◌≤◌, ◌<◌, List, Option, Some, None, Bool, true, false, cond, ◌&&◌, inl, inr, refl, sym, ap, subst, ◌∙◌, arith, not, leb, leb-true, ltb-true, le_trans, le_of_lt, le_refl, ◌∷◌, ◌++◌, filter, ◌⊎◌}
 use Rattle.std.proofs.lemmas.Bool.{cond_both, true≢false}
 use Rattle.std.proofs.lemmas.Bool.Decides.{nat_tests}
 use Rattle.std.specs.Option.{option_map, option_or, option_map_or}
-use Rattle.row_values.specs.Ids.{Id, same}
-use Rattle.row_values.specs.Elements.{In}
-use Rattle.row_values.specs.Slots.{has}
-use Rattle.model.specs.Times.{ended_by, before_end}
-use Rattle.model.specs.Catalog.{owner_of}
-use Rattle.model.specs.Activity.{Interval, active_at}
-use Rattle.model.specs.Records.{Schedule, RestorationRecord, CloneRecord}
+use Rattle.model.specs.Cluster.{Id, same, In, has, ended_by, before_end, owner_of, Interval, active_at, Schedule, RestorationRecord, CloneRecord, Act, Reply, Told, Master, Parts, Ticks}
 use Rattle.model.specs.Schedules.{low, least_with, floor, least_low}
 use Rattle.model.specs.Operations.{restoration_of, clone_with}
 use Rattle.model.specs.Cleanup.{floor_of, floor_of_table}
-use Rattle.model.specs.Acts.{Act, Reply}
-use Rattle.model.specs.Tablets.{Told}
 use Rattle.model.specs.Entries.{slots_of}
-use Rattle.model.specs.Parts.{Master, Parts, Ticks}
 use Rattle.law_invariants.specs.Remembered.{activity_after, IsPartOf, IsForgotten, Remembered}
 use Rattle.law_store.proofs.Keys.{either_way}
 use Rattle.law_invariants.proofs.Parting.{part_in}
@@ -223,6 +214,19 @@ forgotten_on m k i f owner unknown h = record {
   unknown = unknown;
 }
 
+-- the same where floors are known to rise
+pub forgotten_later : (m k : Master) (i : Interval) → m.clock ≤ k.clock → ((ns : Id) → floor_of m ns m.clock ≤ floor_of k ns k.clock) → owner_of k.catalog.owners i.table ≡ owner_of m.catalog.owners i.table
+    → ((j : Interval) → In j k.activity → j.tablet ≡ i.tablet → ⊥) → IsForgotten m i → IsForgotten k i
+forgotten_later m k i clock floors owner unknown h = record {
+  below = subst (λ o. ended_by (option_map_or (λ ns. floor_of k ns k.clock) o k.clock) i.to ≡ true) (sym owner) (by_owner (owner_of m.catalog.owners i.table) h.below);
+  over = ended_later i.to m.clock k.clock clock h.over;
+  unknown = unknown;
+}
+  where
+    by_owner : (owner : Option Id) → ended_by (option_map_or (λ ns. floor_of m ns m.clock) owner m.clock) i.to ≡ true → ended_by (option_map_or (λ ns. floor_of k ns k.clock) owner k.clock) i.to ≡ true
+    by_owner None e = ended_later i.to m.clock k.clock clock e
+    by_owner (Some ns) e = ended_later i.to (floor_of m ns m.clock) (floor_of k ns k.clock) (floors ns) e
+
 -- where the master keeps its activity
 pub remembered_on : (m k : Master) (activity : List Interval) → FloorsHold m k → k.catalog.owners ≡ m.catalog.owners → k.activity ≡ m.activity → m.drawn.tablets ≤ k.drawn.tablets → m.drawn.tables ≤ k.drawn.tables
     → Remembered m activity → Remembered k activity
@@ -243,7 +247,7 @@ remembered_ticked m n activity le h = remembered_on m (record m { clock = n }) a
 pub remembered_ticked_if : (b : Bool) (m : Master) (n : ℕ) (activity : List Interval) → (b ≡ true → m.clock ≤ n) → Remembered m activity → Remembered (cond b (record m { clock = n }) m) activity
 remembered_ticked_if b m n activity le h = cond_both b (record m { clock = n }) m (λ k. Remembered k activity) (λ e. remembered_ticked m n activity (le e) h) (λ e. h)
 
-active_ends : (to : Option ℕ) (n time : ℕ) → time < n → before_end n to ≡ true → ended_by time to ≡ true → ⊥
+pub active_ends : (to : Option ℕ) (n time : ℕ) → time ≤ n → before_end n to ≡ true → ended_by time to ≡ true → ⊥
 active_ends None n time less before over = true≢false (sym over)
 active_ends (Some e) n time less before over = let b : n < e = ltb-true n e before in let o : e ≤ time = leb-true e time over in omega arith
 
@@ -251,7 +255,7 @@ active_ends (Some e) n time less before over = let b : n < e = ltb-true n e befo
 pub still_kept : (m : Master) (activity : List Interval) (i : Interval) (n : ℕ) → Remembered m activity → m.clock < n → In i activity → active_at n i ≡ true → In i m.activity
 still_kept m activity i n h less isin active = elim (h.each i isin) [
   | inl here ↦ here
-  | inr gone ↦ absurd (active_ends i.to n m.clock less (both_pass (leb i.from n) (before_end n i.to) active).1 gone.over)
+  | inr gone ↦ absurd (active_ends i.to n m.clock (le_of_lt less) (both_pass (leb i.from n) (before_end n i.to) active).1 gone.over)
 ]
 
 -- Activity after an act
@@ -263,3 +267,9 @@ stays false x = refl
 -- where the master is told nothing, the activity stays
 pub activity_stays : (act : Act) (tablets : List Told) (reply : Reply) (n : ℕ) (ps : Parts) (activity : List Interval) → activity_after act (record { master = Ticks; tablets = tablets; reply = reply }) n ps activity ≡ activity
 activity_stays act tablets reply n ps activity = stays (has (slots_of act) 0 && not false) activity
+
+-- an interval that is active at a time from the floor of its namespace on is one that the master keeps
+pub never_forgotten : (m : Master) (ns : Id) (i : Interval) (x : ℕ) → IsForgotten m i → owner_of m.catalog.owners i.table ≡ Some ns → floor_of m ns m.clock ≤ x → active_at x i ≡ true → ⊥
+never_forgotten m ns i x gone owner low active =
+    let floor : floor_of_table m i.table m.clock ≡ floor_of m ns m.clock = ap (λ o. option_map_or (λ k. floor_of m k m.clock) o m.clock) owner in
+    active_ends i.to x (floor_of m ns m.clock) low (both_pass (leb i.from x) (before_end x i.to) active).1 (subst (λ f. ended_by f i.to ≡ true) floor gone.below)

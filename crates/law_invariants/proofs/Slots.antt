@@ -1,16 +1,11 @@
 -- What holds of slots goes on to hold while records of operations are made, move or go.
-use Rattle.model.specs.Times.{ended_by}
+use Rattle.model.specs.Cluster.{ended_by, TableKind as Table, TabletKind, Id, same, In, Interval, SnapshotRecord, RestorationRecord, Master, Parts}
 use Rattle.std.proofs.Common.{ℕ, ◌≡◌, ◌≤◌, List, [], ◌∷◌, Some, None, Bool, true, false, ◌||◌, inl, inr, refl, sym, ap, subst, ◌∙◌, arith, le_trans}
 use Rattle.std.proofs.lemmas.Bool.{true≢false}
-use Rattle.row_values.specs.Ids.{Table, Tablet as TabletKind, Id, same}
-use Rattle.row_values.specs.Elements.{In}
-use Rattle.model.specs.Activity.{Interval}
 use Rattle.model.specs.Journal.{Change}
 use Rattle.model.specs.Tablets.{Presence, EmptyPart, HiddenPart, BodyKind, FreezeKind, RestoreFromKind, HideKind, ReleaseKind, Mark, is_empty, is_serving, is_mark, is_done, kind_of, set_of, same_body}
-use Rattle.model.specs.Records.{SnapshotRecord, RestorationRecord}
 use Rattle.model.specs.Stands.{is_after_switch, awaited_in, awaited_of}
 use Rattle.model.specs.Drawn.{drawn_of}
-use Rattle.model.specs.Parts.{Master, Parts}
 use Rattle.law_store.proofs.Keys.{either_way}
 use Rattle.law_invariants.specs.Orders.{IsAfter, IsMark, OrdersGood, ObeyedGood, restoring_stage, stage_of_restoration, directory}
 use Rattle.law_invariants.specs.Invariant.{IsGood, SlotGood, Inv, is_awaited, IsPast, TurnsAt, ComesFrom, StandsIn, IsGoodIn, TakesWritesIn}

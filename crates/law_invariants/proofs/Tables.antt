@@ -5,11 +5,7 @@ use Rattle.std.specs.Option.{option_map}
 use Rattle.std.proofs.lemmas.Bool.{cond_both, true≢false}
 use Rattle.std.proofs.lemmas.Bool.Decides.{nat_tests}
 use Rattle.std.specs.Str.{bytes_eq}
-use Rattle.row_values.specs.declared.value.Item.{Item}
-use Rattle.row_values.specs.Ids.{Id, same}
-use Rattle.row_values.specs.Elements.{In}
-use Rattle.model.specs.Times.{is_open, holds_at, ended_by}
-use Rattle.row_values.specs.Schema.{Schema, Column, ColumnKind, NewColumn, column_named, first_schema}
+use Rattle.model.specs.Cluster.{Item, Id, same, In, is_open, holds_at, ended_by, Schema, Column, ColumnKind, NewColumn, column_named, first_schema}
 use Rattle.model.specs.Catalog.{Catalog, NamespaceRecord, TableRecord, KeptFrom, Owner, table_named, current_named, end_table, change_table, owner_of, kept_from, set_kept_from}
 use Rattle.model.specs.Restored.{record_at}
 use Rattle.model.specs.Journal.{Change, ChangeAct, NamespaceMade, NamespaceDropped, TableMade, TableRenamed, TableDropped, ColumnAdded, ColumnDropped, RowChanged, TableView, renamed, with_column, without_column, table_after, table_at}
@@ -17,10 +13,9 @@ use Rattle.model.specs.Entries.{NamesDiffer}
 use Rattle.model.specs.History.{rows_made}
 use Rattle.law_store.proofs.Keys.{either_way, equal_keys, key_self}
 use Rattle.law_invariants.specs.Invariant.{IsPast, view_of, view_at, ColumnsStand, NamespacesStand, TablesStand}
-use Rattle.law_invariants.proofs.Rising.{rise_ended, rise_added, rise_top, rise_over}
+use Rattle.law_invariants.proofs.Rising.{rise_ended, rise_added, rise_top, rise_over, columns_made, columns_added, columns_dropped, dropped_alike}
 use Rattle.law_invariants.proofs.Finding.{both_pass, passes_both, first_fails, second_fails, not_passing, none_or_some, same_equal, same_self, not_same, in_added, in_mapped, none_found}
 use Rattle.law_invariants.proofs.Names.{names_kept}
-use Rattle.law_invariants.proofs.Columns.{columns_made, columns_added, columns_dropped, dropped_alike}
 use Rattle.law_invariants.proofs.Records.{has_title, is_named_at, table_named_found, now_holds, current_named_at, record_fresh, named_first, named_last, record_first, record_last, record_beside, end_one, table_end_past, end_held, end_over, named_ended, record_ended, record_gone, record_other, view_before, record_at_is, owners_first, owners_beside, owner_last, owner_beside, kept_rises, kept_by}
 use Rattle.law_invariants.proofs.Ticking.{past_later}
 use Rattle.row_values.specs.Schema as schema

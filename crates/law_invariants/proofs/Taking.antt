@@ -2,29 +2,23 @@
 use Rattle.std.proofs.Common.{ℕ, ◌≡◌, ◌≤◌, ◌<◌, ◌+◌, List, [], ◌∷◌, ◌++◌, Some, None, Bool, true, false, cond, ◌⊎◌, inl, inr, refl, sym, ap, subst, ◌∙◌, arith, le_trans, le_refl, le_of_lt, lt_of_lt_of_le}
 use Rattle.std.specs.List.{filter}
 use Rattle.std.proofs.lemmas.Bool.{true≢false}
-use Rattle.row_values.specs.Ids.{Kind, Snapshot, Id, same}
-use Rattle.row_values.specs.Elements.{In}
-use Rattle.model.specs.Activity.{Interval, active_within}
-use Rattle.model.specs.Catalog.{owner_of}
+use Rattle.model.specs.Cluster.{Kind, Snapshot, Id, same, In, Interval, active_within, owner_of, Freeze, Listed, Schedule, SnapshotRecord, RestorationRecord, is_restored, point_of, unfinished_of, ScheduledNamespace, Master, Parts, Drawn}
 use Rattle.model.specs.Journal.{Change as Made}
-use Rattle.model.specs.Tablets.{Freeze}
-use Rattle.model.specs.Records.{Listed, Schedule, SnapshotRecord, RestorationRecord, is_restored, point_of, unfinished_of, ScheduledNamespace}
 use Rattle.model.specs.Schedules.{floor, complete_to, after_of, least_low, after_in}
 use Rattle.model.specs.Drawn.{drawn_of}
 use Rattle.model.specs.Operations.{time_of_user}
 use Rattle.model.specs.Cleanup.{floor_of}
 use Rattle.model.specs.Lists.{next_snapshot, new_snapshot, set_last, tablets_active_within, intervals_in, once, set_last_of}
-use Rattle.model.specs.Parts.{Master, Parts, Drawn}
 use Rattle.law_store.proofs.Keys.{either_way}
 use Rattle.law_invariants.specs.Operations.{SnapshotsRise, ScheduleGood, SnapshotGood, OperationsGood, Alone, IsReached, ScheduledGood}
 use Rattle.law_invariants.specs.Invariant.{Inv}
 use Rattle.law_invariants.proofs.Finding.{same_equal, same_self, in_append, in_added, in_first, in_second, filter_in, in_filter, in_mapped, map_in}
 use Rattle.law_invariants.proofs.Remembering.{floor_rises, kept_all}
-use Rattle.law_invariants.proofs.Recording.{Records, recorded, SnapshotCame, SnapshotOn, Onto}
+use Rattle.law_invariants.proofs.Recording.{same_on, Records, recorded, SnapshotCame, SnapshotOn, Onto}
 use Rattle.law_invariants.proofs.Staying.{schedule_on, scheduled_on}
 use Rattle.law_invariants.proofs.Listing.{IsLineOf, listing_only, listing_has, once_only, once_has, namespace_only, namespace_has, one_place}
 use Rattle.law_invariants.proofs.Pending.{point_complete, pending_drawn, pending_unmoved, pending_stays, fence_stays, snapshot_added}
-use Rattle.law_invariants.proofs.Using.{same_on, unfinished_none, mapped_is, alone_mapped, mapped_lows}
+use Rattle.law_invariants.proofs.Using.{unfinished_none, mapped_is, alone_mapped, mapped_lows}
 
 abbrev pub taken : Id → Id → ℕ → Master → Records
 taken ns schedule n m = record {

@@ -1,18 +1,11 @@
 -- Clocks that rise to a stamp keep what holds; and an act keeps it where each of its refusals, or else its outcome, does.
 use Rattle.model.specs.Right.{is_fixed}
 use Rattle.law_invariants.specs.Orders.{directory}
-use Rattle.row_values.specs.Ids.{Id}
-use Rattle.row_values.specs.Elements.{In}
+use Rattle.model.specs.Cluster.{Id, In, has, Catalog, NamespaceRecord, name_of, TableRecord, kept_from, owner_of, Interval, Tablet, FrozenSet, is_serving, Act, Reply, Refused, Refusal, Master, Parts, Check, If, Names, Fault, Outcome, judged, refused, answered, decided}
 use Rattle.std.proofs.Common.{ℕ, ◌≡◌, ◌≤◌, ◌<◌, ◌+◌, List, [], ◌∷◌, Option, Some, None, Bool, true, false, cond, ◌&&◌, refl, sym, subst, arith, not, le_trans, le_of_lt, lt_of_lt_of_le, eqb, Result, Ok, Err}
 use Rattle.std.proofs.lemmas.Bool.{cond_both}
-use Rattle.row_values.specs.Slots.{has}
 use Rattle.row_values.specs.Store.{Version, Below}
-use Rattle.model.specs.Catalog.{Catalog, NamespaceRecord, name_of, TableRecord, kept_from, owner_of}
-use Rattle.model.specs.Activity.{Interval}
 use Rattle.model.specs.Journal.{Change, namespace_at}
-use Rattle.model.specs.Tablets.{Tablet, FrozenSet, is_serving}
-use Rattle.model.specs.Acts.{Act, Reply, Refused, Refusal}
-use Rattle.model.specs.Parts.{Master, Parts, Check, If, Names, Fault, Outcome, judged, refused, answered, decided}
 use Rattle.model.specs.Entries.{slots_of, clock_at}
 use Rattle.model.specs.History.{told, with_changes}
 use Rattle.law_invariants.specs.Remembered.{activity_after, Remembered}

@@ -2,11 +2,9 @@
 use Rattle.std.proofs.Common.{ℕ, ◌≡◌, ◌<◌, List, [], ◌∷◌, Bool, true, false, cond, ◌&&◌, ◌||◌, refl, sym, ap, ◌∙◌, arith, not, eqb, eqb-true, ◌≤◌}
 use Rattle.std.proofs.lemmas.Bool.{cond_both}
 use Rattle.std.proofs.lemmas.Bool.Decides.{nat_tests}
-use Rattle.row_values.specs.Ids.{Id}
-use Rattle.row_values.specs.Slots.{has, same_slots}
+use Rattle.model.specs.Cluster.{Id, has, same_slots, Parts, MasterAct, Outcome}
 use Rattle.model.specs.Tablets.{Tablet, TabletAct, Told, act_for, effect, Clock}
 use Rattle.model.specs.Acts.{Act, Command, Change}
-use Rattle.model.specs.Parts.{Parts, MasterAct, Outcome}
 use Rattle.model.specs.Entries.{clock_at, slots_of}
 use Rattle.model.specs.Changes.{accepts, tell}
 use Rattle.model.specs.History.{told}

@@ -1,16 +1,10 @@
 -- What restores undo stays before their own snapshots.
 use Rattle.std.proofs.Common.{ℕ, ◌≡◌, ◌≤◌, List, [], ◌∷◌, Option, Some, None, Bool, true, false, cond, ◌||◌, ◌⊎◌, inl, inr, refl, sym, ap, subst, ◌∙◌, le_refl, le_trans}
 use Rattle.std.proofs.lemmas.Bool.{cond_both, true≢false}
-use Rattle.row_values.specs.declared.value.RowOp.{RowOp}
-use Rattle.row_values.specs.Ids.{Id}
-use Rattle.row_values.specs.Elements.{In}
-use Rattle.model.specs.Catalog.{Catalog, is_owned_by, owner_of}
-use Rattle.model.specs.Activity.{Interval}
+use Rattle.model.specs.Cluster.{RowOp, Id, In, Catalog, is_owned_by, owner_of, Interval, Sent, Master, Drawn}
 use Rattle.model.specs.Journal.{Change, RowChanged}
-use Rattle.model.specs.Records.{Sent}
 use Rattle.model.specs.Stands.{is_restore_of, before_restore}
 use Rattle.model.specs.Right.{is_fixed}
-use Rattle.model.specs.Parts.{Master, Drawn}
 use Rattle.law_store.proofs.Keys.{either_way}
 use Rattle.law_invariants.specs.Operations.{is_switched, JournalGood}
 use Rattle.law_invariants.proofs.Finding.{same_equal}

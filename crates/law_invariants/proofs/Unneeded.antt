@@ -3,26 +3,18 @@ use Rattle.std.proofs.Common.{ℕ, ◌≡◌, ◌≤◌, List, [], ◌∷◌, Op
 use Rattle.std.specs.Option.{is_some, option_or, option_map}
 use Rattle.std.specs.List.{list_any, filter}
 use Rattle.std.proofs.lemmas.Bool.{true≢false, cond_both}
-use Rattle.row_values.specs.Ids.{Id, same}
-use Rattle.row_values.specs.Elements.{In}
-use Rattle.model.specs.Activity.{Interval, last_of}
+use Rattle.model.specs.Cluster.{Id, same, In, Interval, last_of, Listed, SnapshotRecord, RestorationRecord, TabletPair, CloneRecord, is_restored, is_cloned, lists_tablet, named_by_restoration, named_by_clone, snapshot_with, Master, Parts, ended_by, holds_at, before_end, Tablet, Presence, HiddenPart, is_hidden, Refusal, IsListed, TableRecord, KeptFrom, kept_from}
 use Rattle.model.specs.Journal.{Change, Change as Made}
-use Rattle.model.specs.Records.{Listed, SnapshotRecord, RestorationRecord, TabletPair, CloneRecord, is_restored, is_cloned, lists_tablet, named_by_restoration, named_by_clone, snapshot_with}
 use Rattle.model.specs.Cleanup.{listing_snapshot, listing_restoration, listing_clone, takes_from, lister_of_tablet, floor_of_table, hidden_at, is_hidden_as, is_this, naming_restoration, naming_clone, lister_of_snapshot, floor_of, prune_to, has_records, raised_mark}
-use Rattle.model.specs.Parts.{Master, Parts}
 use Rattle.law_store.proofs.Keys.{either_way}
 use Rattle.law_invariants.specs.Operations.{OperationsGood, SnapshotsRise}
 use Rattle.law_invariants.proofs.Finding.{in_filter, filter_in, passes_both, either_passes, same_self, not_same, both_pass, second_fails, none_or_some, same_equal}
 use Rattle.law_invariants.proofs.Ticking.{not_true}
-use Rattle.model.specs.Times.{ended_by, holds_at, before_end}
 use Rattle.model.specs.Stands.{awaited_in}
-use Rattle.model.specs.Tablets.{Tablet, Presence, HiddenPart, is_hidden}
-use Rattle.model.specs.Acts.{Refusal, IsListed}
 use Rattle.law_invariants.specs.Invariant.{Inv, is_marked}
 use Rattle.law_invariants.proofs.Lasting.{last_in}
 use Rattle.law_invariants.proofs.Remembering.{ended_later}
-use Rattle.law_invariants.proofs.Awaits.{awaits_is}
-use Rattle.model.specs.Catalog.{TableRecord, KeptFrom, kept_from}
+use Rattle.law_invariants.proofs.Awaiting.{awaits_is}
 use Rattle.model.specs.Schedules.{history_retention}
 
 pub not_false : (b : Bool) → not b ≡ false → b ≡ true

@@ -2,13 +2,9 @@
 use Rattle.std.proofs.Common.{ℕ, ◌≡◌, ◌≤◌, List, [], ◌∷◌, ◌++◌, Option, Some, None, Bool, true, false, cond, ◌&&◌, ◌||◌, inl, inr, refl, sym, ap, subst, ◌∙◌, arith, not, map}
 use Rattle.std.specs.Option.{is_some, option_or, option_map}
 use Rattle.std.proofs.lemmas.Bool.{true≢false}
-use Rattle.row_values.specs.Ids.{Id, same}
-use Rattle.row_values.specs.Elements.{In}
-use Rattle.model.specs.Records.{Schedule, SnapshotRecord, RestorationRecord, CloneRecord, is_restored, is_cloned, schedule_with, schedule_of, unfinished_of, is_visible}
+use Rattle.model.specs.Cluster.{Id, same, In, Schedule, SnapshotRecord, RestorationRecord, CloneRecord, is_restored, is_cloned, schedule_with, schedule_of, unfinished_of, is_visible, Master, UnknownSchedule}
 use Rattle.model.specs.Schedules.{low, least_with, least_low}
 use Rattle.model.specs.Operations.{user, restoration_of, clone_with, time_of_user}
-use Rattle.model.specs.Parts.{Master}
-use Rattle.model.specs.Acts.{UnknownSchedule}
 use Rattle.model.specs.Changes.{found_schedule, clone_named}
 use Rattle.law_invariants.proofs.Judging.{found_is}
 use Rattle.std.specs.Prelude.{Ok, is_some}
@@ -17,7 +13,6 @@ use Rattle.law_invariants.specs.Operations.{Alone, Uses, SnapshotsRise}
 use Rattle.law_invariants.proofs.Finding.{in_append, in_mapped, passes_both, both_pass, same_equal, same_self}
 use Rattle.law_invariants.proofs.Operating.{is_held, held_first, held_second}
 use Rattle.law_invariants.proofs.Remembering.{LowRises, first_rises}
-use Rattle.law_invariants.proofs.Recording.{SnapshotOn}
 use Rattle.std.specs.Str.{bytes_eq}
 
 -- Lists
@@ -36,9 +31,6 @@ alone_added drawn xs y h apart = λ x z in_x in_z e. elim (in_append xs (y ∷ [
     | inr none ↦ absurd none
   ]
 ]
-
-pub same_on : (q : SnapshotRecord) → SnapshotOn q q
-same_on q = record { id_is = refl; namespace_is = refl; after_is = refl; at_is = refl; complete = λ e. e; lines = λ l isin. (l, (isin, refl)) }
 
 -- Schedules
 

@@ -1,16 +1,9 @@
 -- Operations and slots go on while clocks rise, and while the journal goes on without what operations read.
 use Rattle.std.proofs.Common.{ℕ, ◌≡◌, ◌≤◌, List, [], ◌∷◌, Bool, true, cond, inl, refl, sym, ap, ◌∙◌, le_refl, le_trans}
 use Rattle.std.proofs.lemmas.Bool.{cond_both, true≢false}
-use Rattle.row_values.specs.Ids.{Id}
-use Rattle.row_values.specs.Elements.{In}
-use Rattle.model.specs.Activity.{Interval}
-use Rattle.row_values.specs.Codes.{code_of}
-use Rattle.row_values.specs.Ranges.{in_range}
+use Rattle.model.specs.Cluster.{Id, In, Interval, code_of, in_range, Tablet, RestorationRecord, Master}
 use Rattle.model.specs.Journal.{Change, row_at}
-use Rattle.model.specs.Tablets.{Tablet}
-use Rattle.model.specs.Records.{RestorationRecord}
 use Rattle.model.specs.Right.{is_fixed}
-use Rattle.model.specs.Parts.{Master}
 use Rattle.law_invariants.specs.Operations.{is_switched, OperationsGood}
 use Rattle.law_invariants.specs.Remembered.{Remembered}
 use Rattle.law_invariants.specs.Invariant.{ComesFrom, MasterGood, SlotWorks}

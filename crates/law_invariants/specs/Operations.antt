@@ -6,7 +6,7 @@ use Rattle.row_values.specs.Ids.{Id, Snapshot as SnapshotKind, Restoration as Re
 use Rattle.row_values.specs.Elements.{In}
 use Rattle.model.specs.Times.{ended_by, is_open}
 use Rattle.row_values.specs.Ranges.{in_range}
-use Rattle.model.specs.Catalog.{NamespaceRecord, TableRecord, Owner, owner_of, owns, kept_from}
+use Rattle.model.specs.Catalog.{Catalog, NamespaceRecord, TableRecord, Owner, owner_of, owns, kept_from}
 use Rattle.model.specs.Activity.{Interval, active_at, active_within}
 use Rattle.model.specs.Journal.{Change, RowChanged}
 use Rattle.model.specs.Tablets.{Body, Fence, Freeze, RestoreFrom, Hide, Copy, Release}
@@ -16,6 +16,20 @@ use Rattle.model.specs.Stands.{is_restore, is_restore_of, before_restore}
 use Rattle.model.specs.Cleanup.{floor_of}
 use Rattle.model.specs.Right.{is_fixed}
 use Rattle.model.specs.Parts.{Master, Drawn}
+
+-- what a record's facts read of the master: all but the operations themselves, and the marks of what was sent
+pub record Grounds : Type 0 where
+  pub clock : ℕ
+  pub slots : ℕ
+  pub catalog : Catalog
+  pub activity : List Interval
+  pub schedules : List Schedule
+  pub scheduled : List ScheduledNamespace
+  pub snapshots : List SnapshotRecord
+  pub drawn : Drawn
+
+abbrev pub grounds : Master → Grounds
+grounds m = record { clock = m.clock; slots = m.slots; catalog = m.catalog; activity = m.activity; schedules = m.schedules; scheduled = m.scheduled; snapshots = m.snapshots; drawn = m.drawn }
 
 -- Each two
 
@@ -99,12 +113,15 @@ IsReached m ns after =
     (after < floor_of m ns m.clock)
     ⊎ ((q : SnapshotRecord) × (In q m.snapshots × ((q.namespace ≡ ns) × (q.at ≡ after))))
 
-pub record ScheduleGood (m : Master) (s : Schedule) : Type 0 where
-  pub drawn : s.id.number ≤ m.drawn.schedules
-  pub drawn_namespace : s.namespace.number ≤ m.drawn.namespaces
-  pub begun : s.kept_low ≤ m.clock
+pub record ScheduleIn (clock : ℕ) (numbers : Drawn) (spaces : List ScheduledNamespace) (s : Schedule) : Type 0 where
+  pub drawn : s.id.number ≤ numbers.schedules
+  pub drawn_namespace : s.namespace.number ≤ numbers.namespaces
+  pub begun : s.kept_low ≤ clock
   -- its namespace is scheduled, since before its window begins
-  pub scheduled : (k : ScheduledNamespace) × (In k m.scheduled × ((k.namespace ≡ s.namespace) × (k.since ≤ s.kept_low)))
+  pub scheduled : (k : ScheduledNamespace) × (In k spaces × ((k.namespace ≡ s.namespace) × (k.since ≤ s.kept_low)))
+
+abbrev pub ScheduleGood : Master → Schedule → Type 0
+ScheduleGood m s = ScheduleIn m.clock m.drawn m.scheduled s
 
 pub record ScheduledGood (m : Master) (k : ScheduledNamespace) : Type 0 where
   pub drawn_namespace : k.namespace.number ≤ m.drawn.namespaces
@@ -166,18 +183,21 @@ is_switched changes ns point = list_any (is_restore_of ns point) changes
 
 -- a restoration's point comes after all that it undoes
 pub record IsPointIn (taken : List SnapshotRecord) (scheduled : List ScheduledNamespace) (changes : List Change)
-    (r : RestorationRecord) (point : ℕ) : Type 0 where
-  pub later : r.to < point
-  pub fixed : (to : ℕ) → is_fixed changes r.namespace to ≡ true → to < point
-  pub snapshots : (q : SnapshotRecord) → In q taken → q.namespace ≡ r.namespace → q.at < point
-  pub complete : (k : ScheduledNamespace) → In k scheduled → k.namespace ≡ r.namespace → complete_to k + 1 ≤ point
+    (ns : Id) (to point : ℕ) : Type 0 where
+  pub later : to < point
+  pub fixed : (x : ℕ) → is_fixed changes ns x ≡ true → x < point
+  pub snapshots : (q : SnapshotRecord) → In q taken → q.namespace ≡ ns → q.at < point
+  pub complete : (k : ScheduledNamespace) → In k scheduled → k.namespace ≡ ns → complete_to k + 1 ≤ point
 
 abbrev pub IsPoint : Master → List Change → RestorationRecord → ℕ → Type 0
-IsPoint m changes r point = IsPointIn m.snapshots m.scheduled changes r point
+IsPoint m changes r point = IsPointIn m.snapshots m.scheduled changes r.namespace r.to point
 
 -- no snapshot of the restoration's namespace is unfinished
+abbrev pub IsCalmIn : List SnapshotRecord → Id → Type 0
+IsCalmIn snapshots ns = (q : SnapshotRecord) → In q snapshots → q.complete ≡ false → q.namespace ≡ ns → ⊥
+
 abbrev pub IsCalm : Master → RestorationRecord → Type 0
-IsCalm m r = (q : SnapshotRecord) → In q m.snapshots → q.complete ≡ false → q.namespace ≡ r.namespace → ⊥
+IsCalm m r = IsCalmIn m.snapshots r.namespace
 
 -- it fences the active tablets of its namespace, of which none comes or goes
 pub record FencingIn (activity : List Interval) (owners : List Owner) (r : RestorationRecord) : Type 0 where
@@ -202,12 +222,12 @@ abbrev pub BeforePoint : Master → Id → ℕ → Type 0
 BeforePoint m ns point = BeforePointIn m.activity m.catalog.owners m.catalog.tables ns point
 
 -- it waits for its own snapshot, whose time is just before the point
-pub record SnapshottingGood (m : Master) (changes : List Change) (r : RestorationRecord) (point : ℕ)
+pub record SnapshottingOf (m : Grounds) (changes : List Change) (r : RestorationRecord) (point : ℕ)
     (own : Id) : Type 0 where
-  pub is_point : IsPoint m changes r point
+  pub is_point : IsPointIn m.snapshots m.scheduled changes r.namespace r.to point
   pub empty : r.listed ≡ []
   pub soon : point ≤ m.clock + 1
-  pub before : BeforePoint m r.namespace point
+  pub before : BeforePointIn m.activity m.catalog.owners m.catalog.tables r.namespace point
   pub snapshot : SnapshotRecord
   pub kept : In snapshot m.snapshots
   pub id_is : snapshot.id ≡ own
@@ -215,20 +235,26 @@ pub record SnapshottingGood (m : Master) (changes : List Change) (r : Restoratio
   pub namespace_is : snapshot.namespace ≡ r.namespace
   pub alone : (q : SnapshotRecord) → In q m.snapshots → q.complete ≡ false → q.namespace ≡ r.namespace → q.id ≡ own
 
-pub record SwitchingGood (m : Master) (changes : List Change) (r : RestorationRecord) (point : ℕ)
+abbrev pub SnapshottingGood : Master → List Change → RestorationRecord → ℕ → Id → Type 0
+SnapshottingGood m changes r point snapshot = SnapshottingOf (grounds m) changes r point snapshot
+
+pub record SwitchingOf (m : Grounds) (changes : List Change) (r : RestorationRecord) (point : ℕ)
     (serving : Id) : Type 0 where
-  pub is_point : IsPoint m changes r point
+  pub is_point : IsPointIn m.snapshots m.scheduled changes r.namespace r.to point
   pub empty : r.listed ≡ []
   pub begun : point ≤ m.clock
-  pub before : BeforePoint m r.namespace point
-  pub serves : IsServing m serving r.namespace r.to
-  pub calm : IsCalm m r
+  pub before : BeforePointIn m.activity m.catalog.owners m.catalog.tables r.namespace point
+  pub serves : IsServingIn m.snapshots serving r.namespace r.to
+  pub calm : IsCalmIn m.snapshots r.namespace
+
+abbrev pub SwitchingGood : Master → List Change → RestorationRecord → ℕ → Id → Type 0
+SwitchingGood m changes r point snapshot = SwitchingOf (grounds m) changes r point snapshot
 
 -- a tablet takes back its rows or is hidden
-abbrev pub IsAfterSwitch : RestorationRecord → ℕ → Id → Body → Type 0
-IsAfterSwitch r point serving (RestoreFrom snapshot to at version) = (snapshot ≡ serving) × ((to ≡ r.to) × (at ≡ point))
-IsAfterSwitch r point serving (Hide ended) = ended ≡ point
-IsAfterSwitch r point serving _ = ⊥
+abbrev pub IsAfterSwitch : ℕ → ℕ → Id → Body → Type 0
+IsAfterSwitch time point serving (RestoreFrom snapshot to at version) = (snapshot ≡ serving) × ((to ≡ time) × (at ≡ point))
+IsAfterSwitch time point serving (Hide ended) = ended ≡ point
+IsAfterSwitch time point serving _ = ⊥
 
 -- a tablet that takes back its rows was active at the time, and is active from the point on
 pub record IsBackIn (activity : List Interval) (l : Listed) (to point : ℕ) : Type 0 where
@@ -252,19 +278,22 @@ pub record IsComing (r : RestorationRecord) (point : ℕ) (i : Interval) : Type 
   pub is_listed : IsListed r.listed i
   pub restores : is_restore is_listed.line.body ≡ true
 
-pub record RestoringGood (m : Master) (changes : List Change) (r : RestorationRecord) (point : ℕ)
+pub record RestoringOf (m : Grounds) (changes : List Change) (r : RestorationRecord) (point : ℕ)
     (serving : Id) : Type 0 where
-  pub is_point : IsPoint m changes r point
+  pub is_point : IsPointIn m.snapshots m.scheduled changes r.namespace r.to point
   pub begun : point ≤ m.clock
-  pub serves : IsServing m serving r.namespace r.to
-  pub calm : IsCalm m r
+  pub serves : IsServingIn m.snapshots serving r.namespace r.to
+  pub calm : IsCalmIn m.snapshots r.namespace
   pub switched : is_switched changes r.namespace point ≡ true
-  pub bodies : (l : Listed) → In l r.listed → IsAfterSwitch r point serving l.body
-  pub back : (l : Listed) → In l r.listed → is_restore l.body ≡ true → IsBack m l r.to point
+  pub bodies : (l : Listed) → In l r.listed → IsAfterSwitch r.to point serving l.body
+  pub back : (l : Listed) → In l r.listed → is_restore l.body ≡ true → IsBackIn m.activity l r.to point
   -- a tablet that is to be hidden has had its time
   pub gone : (l : Listed) (i : Interval) → In l r.listed → is_restore l.body ≡ false → In i m.activity
       → i.tablet ≡ l.tablet → ended_by point i.to ≡ true
-  pub opens : (i : Interval) → IsOpenOf m r.namespace i → IsComing r point i
+  pub opens : (i : Interval) → IsOpenIn m.activity m.catalog.owners r.namespace i → IsComing r point i
+
+abbrev pub RestoringGood : Master → List Change → RestorationRecord → ℕ → Id → Type 0
+RestoringGood m changes r point snapshot = RestoringOf (grounds m) changes r point snapshot
 
 -- a listed tablet is active, from a time on
 pub record IsActiveIn (activity : List Interval) (l : Listed) (from : ℕ) : Type 0 where
@@ -278,30 +307,36 @@ pub record IsActiveIn (activity : List Interval) (l : Listed) (from : ℕ) : Typ
 abbrev pub IsActive : Master → Listed → ℕ → Type 0
 IsActive m l from = IsActiveIn m.activity l from
 
-pub record ReleasingGood (m : Master) (changes : List Change) (r : RestorationRecord) (point : ℕ)
+pub record ReleasingOf (m : Grounds) (changes : List Change) (r : RestorationRecord) (point : ℕ)
     (serving : Id) : Type 0 where
-  pub is_point : IsPoint m changes r point
+  pub is_point : IsPointIn m.snapshots m.scheduled changes r.namespace r.to point
   pub begun : point ≤ m.clock
   pub switched : is_switched changes r.namespace point ≡ true
   pub bodies : (l : Listed) → In l r.listed → l.body ≡ Release point
-  pub active : (l : Listed) → In l r.listed → IsActive m l point
-  pub opens : (i : Interval) → IsOpenOf m r.namespace i → IsListed r.listed i
+  pub active : (l : Listed) → In l r.listed → IsActiveIn m.activity l point
+  pub opens : (i : Interval) → IsOpenIn m.activity m.catalog.owners r.namespace i → IsListed r.listed i
 
-pub record RestoredGood (m : Master) (changes : List Change) (r : RestorationRecord) (point : ℕ) : Type 0 where
+abbrev pub ReleasingGood : Master → List Change → RestorationRecord → ℕ → Id → Type 0
+ReleasingGood m changes r point snapshot = ReleasingOf (grounds m) changes r point snapshot
+
+pub record RestoredOf (m : Grounds) (changes : List Change) (r : RestorationRecord) (point : ℕ) : Type 0 where
   pub empty : r.listed ≡ []
   pub begun : point ≤ m.clock
   pub later : r.to < point
   pub switched : is_switched changes r.namespace point ≡ true
 
-abbrev pub RestorationStateGood : RestorationState → Master → List Change → RestorationRecord → Type 0
-RestorationStateGood Fencing m changes r = FencingGood m r
-RestorationStateGood (Snapshotting point own) m changes r = SnapshottingGood m changes r point own
-RestorationStateGood (Switching point serving) m changes r = SwitchingGood m changes r point serving
-RestorationStateGood (Restoring point serving) m changes r = RestoringGood m changes r point serving
-RestorationStateGood (Releasing point serving) m changes r = ReleasingGood m changes r point serving
-RestorationStateGood (Restored point serving) m changes r = RestoredGood m changes r point
+abbrev pub RestorationStateIn : RestorationState → Grounds → List Change → RestorationRecord → Type 0
+RestorationStateIn Fencing m changes r = FencingIn m.activity m.catalog.owners r
+RestorationStateIn (Snapshotting point own) m changes r = SnapshottingOf m changes r point own
+RestorationStateIn (Switching point serving) m changes r = SwitchingOf m changes r point serving
+RestorationStateIn (Restoring point serving) m changes r = RestoringOf m changes r point serving
+RestorationStateIn (Releasing point serving) m changes r = ReleasingOf m changes r point serving
+RestorationStateIn (Restored point serving) m changes r = RestoredOf m changes r point
 
-pub record RestorationGood (m : Master) (changes : List Change) (r : RestorationRecord) : Type 0 where
+abbrev pub RestorationStateGood : RestorationState → Master → List Change → RestorationRecord → Type 0
+RestorationStateGood state m changes r = RestorationStateIn state (grounds m) changes r
+
+pub record RestorationIn (m : Grounds) (changes : List Change) (r : RestorationRecord) : Type 0 where
   pub kind_is : r.id.kind ≡ RestorationKind
   pub drawn : r.id.number ≤ m.drawn.restorations
   pub drawn_namespace : r.namespace.number ≤ m.drawn.namespaces
@@ -309,8 +344,11 @@ pub record RestorationGood (m : Master) (changes : List Change) (r : Restoration
   -- while it is unfinished its schedule is kept, and it finds its tablets
   pub scheduled : is_restored r.state ≡ false
       → (s : Schedule) × (In s m.schedules × ((s.id ≡ r.schedule) × (s.namespace ≡ r.namespace)))
-  pub known : is_restored r.state ≡ false → (l : Listed) → In l r.listed → IsKnown m l
-  pub in_state : RestorationStateGood r.state m changes r
+  pub known : is_restored r.state ≡ false → (l : Listed) → In l r.listed → IsKnownIn m.activity l
+  pub in_state : RestorationStateIn r.state m changes r
+
+abbrev pub RestorationGood : Master → List Change → RestorationRecord → Type 0
+RestorationGood m changes r = RestorationIn (grounds m) changes r
 
 -- Clones
 
@@ -320,22 +358,23 @@ takers [] table code = 0
 takers (p ∷ ps) table code = (if same p.table table && in_range p.low p.high code then 1 else 0) + takers ps table code
 
 -- a source tablet was active at the time with the target's range, for the source of its table
-pub record IsSourceIn (activity : List Interval) (owners : List Owner) (c : CloneRecord) (p : TabletPair) : Type 0 where
+pub record IsSourceIn (activity : List Interval) (owners : List Owner) (to : ℕ) (source : Id)
+    (tables : List IdPair) (p : TabletPair) : Type 0 where
   pub interval : Interval
   pub kept : In interval activity
   pub tablet_is : interval.tablet ≡ p.source
   pub slot_is : interval.slot ≡ p.source_slot
   pub low_is : interval.low ≡ p.low
   pub high_is : interval.high ≡ p.high
-  pub active : active_at c.to interval ≡ true
-  pub owned : owner_of owners interval.table ≡ Some c.source
+  pub active : active_at to interval ≡ true
+  pub owned : owner_of owners interval.table ≡ Some source
   pub pair : IdPair
-  pub paired : In pair c.tables
+  pub paired : In pair tables
   pub source_is : pair.source ≡ interval.table
   pub target_is : pair.target ≡ p.table
 
 abbrev pub IsSource : Master → CloneRecord → TabletPair → Type 0
-IsSource m c p = IsSourceIn m.activity m.catalog.owners c p
+IsSource m c p = IsSourceIn m.activity m.catalog.owners c.to c.source c.tables p
 
 -- a target tablet and its slot are the clone's alone
 pub record IsReservedIn (activity : List Interval) (snapshots : List SnapshotRecord)
@@ -393,33 +432,36 @@ pub record CloningIn (snapshots : List SnapshotRecord) (c : CloneRecord) (own : 
   pub namespace_is : snapshot.namespace ≡ c.source
   pub reaches : c.to ≤ snapshot.at
 
-abbrev pub CloneStateGood : CloneState → Master → CloneRecord → Type 0
-CloneStateGood Accepted m c = c.listed ≡ []
-CloneStateGood (CloneSnapshot own) m c = CloningIn m.snapshots c own
-CloneStateGood (Copying serving copied_at) m c = CopyingGood m c serving copied_at
-CloneStateGood (CloneReleasing serving copied_at) m c = VisibleGood m c copied_at
-CloneStateGood (CloneComplete serving copied_at) m c = c.listed ≡ []
+abbrev pub CloneStateIn : CloneState → Grounds → CloneRecord → Type 0
+CloneStateIn Accepted m c = c.listed ≡ []
+CloneStateIn (CloneSnapshot own) m c = CloningIn m.snapshots c own
+CloneStateIn (Copying serving copied_at) m c = CopyingIn m.clock m.snapshots c serving copied_at
+CloneStateIn (CloneReleasing serving copied_at) m c = VisibleIn m.clock m.activity m.catalog.owners c copied_at
+CloneStateIn (CloneComplete serving copied_at) m c = c.listed ≡ []
 
-pub record PairIn (slots : ℕ) (numbers : Drawn) (owners : List Owner) (c : CloneRecord) (p : TabletPair) : Type 0 where
+abbrev pub CloneStateGood : CloneState → Master → CloneRecord → Type 0
+CloneStateGood state m c = CloneStateIn state (grounds m) c
+
+pub record PairIn (slots : ℕ) (numbers : Drawn) (owners : List Owner) (target : Id) (p : TabletPair) : Type 0 where
   pub slot_from : 1 ≤ p.slot
   pub slot_to : p.slot ≤ slots
   pub drawn : p.target.number ≤ numbers.tablets
   pub drawn_table : p.table.number ≤ numbers.tables
-  pub owned : owner_of owners p.table ≡ Some c.target_id
+  pub owned : owner_of owners p.table ≡ Some target
 
 -- each table is cloned once, into a table of its own
 abbrev pub PairsApart : List IdPair → Type 0
 PairsApart [] = Unit {0}
 PairsApart (d ∷ ds) = ((e : IdPair) → In e ds → (d.source ≡ e.source → ⊥) × (d.target ≡ e.target → ⊥)) × PairsApart ds
 
-pub record CloneGood (m : Master) (changes : List Change) (c : CloneRecord) : Type 0 where
+pub record CloneIn (m : Grounds) (restorations : List RestorationRecord) (changes : List Change) (c : CloneRecord) : Type 0 where
   pub kind_is : c.id.kind ≡ CloneKind
   pub drawn : c.id.number ≤ m.drawn.clones
   pub drawn_source : c.source.number ≤ m.drawn.namespaces
   pub drawn_target : c.target_id.number ≤ m.drawn.namespaces
   pub apart : c.source ≢ c.target_id
   pub past : c.to < m.clock
-  pub pairs : (p : TabletPair) → In p c.tablets → PairIn m.slots m.drawn m.catalog.owners c p
+  pub pairs : (p : TabletPair) → In p c.tablets → PairIn m.slots m.drawn m.catalog.owners c.target_id p
   pub drawn_listed : (l : Listed) → In l c.listed → l.tablet.number ≤ m.drawn.tablets
   pub one_slot : (p q : TabletPair) → In p c.tablets → In q c.tablets → p.slot ≡ q.slot → p ≡ q
   pub one_target : (p q : TabletPair) → In p c.tablets → In q c.tablets → p.target ≡ q.target → p ≡ q
@@ -430,8 +472,9 @@ pub record CloneGood (m : Master) (changes : List Change) (c : CloneRecord) : Ty
   -- the ranges of the targets cover the codes of each table
   pub covers : (d : IdPair) (code : ℕ) → In d c.tables → code < 65536 → takers c.tablets d.target code ≡ 1
   pub scheduled : is_cloned c.state ≡ false → (s : Schedule) × (In s m.schedules × (s.namespace ≡ c.source))
-  pub sources : is_cloned c.state ≡ false → (p : TabletPair) → In p c.tablets → IsSource m c p
-  pub reserved : is_visible c.state ≡ false → (p : TabletPair) → In p c.tablets → IsReserved m p
+  pub sources : is_cloned c.state ≡ false → (p : TabletPair) → In p c.tablets
+      → IsSourceIn m.activity m.catalog.owners c.to c.source c.tables p
+  pub reserved : is_visible c.state ≡ false → (p : TabletPair) → In p c.tablets → IsReservedIn m.activity m.snapshots restorations p
   -- before the target is current there is nothing of it
   pub no_tablet : is_visible c.state ≡ false → (i : Interval) → In i m.activity
       → owner_of m.catalog.owners i.table ≡ Some c.target_id → ⊥
@@ -441,7 +484,10 @@ pub record CloneGood (m : Master) (changes : List Change) (c : CloneRecord) : Ty
   pub no_schedule : is_visible c.state ≡ false → (s : Schedule) → In s m.schedules → s.namespace ≡ c.target_id → ⊥
   -- nothing took the target back, or cloned it
   pub unfixed : is_cloned c.state ≡ false → (to : ℕ) → is_fixed changes c.target_id to ≡ true → ⊥
-  pub in_state : CloneStateGood c.state m c
+  pub in_state : CloneStateIn c.state m c
+
+abbrev pub CloneGood : Master → List Change → CloneRecord → Type 0
+CloneGood m changes c = CloneIn (grounds m) m.restorations changes c
 
 -- Sent marks
 

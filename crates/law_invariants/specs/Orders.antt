@@ -8,9 +8,10 @@ use Rattle.model.specs.Catalog.{Owner, owner_of}
 use Rattle.model.specs.Activity.{Interval}
 use Rattle.model.specs.Journal.{Change, RowChanged}
 use Rattle.model.specs.Tablets.{Tablet, HiddenPart, Release, BodyKind, FenceKind, FreezeKind, RestoreFromKind, HideKind, CopyKind, ReleaseKind, kind_of, Command, Mark, FrozenSet, is_empty, is_serving, is_done}
-use Rattle.model.specs.Records.{Listed, SnapshotRecord, RestorationRecord, RestorationState, Fencing, Snapshotting, Switching, Restoring, Releasing, Restored, TabletPair, IdPair, CloneRecord, CloneState, Accepted, CloneSnapshot, Copying, CloneReleasing, CloneComplete, point_of}
+use Rattle.model.specs.Records.{Listed, SnapshotRecord, RestorationRecord, RestorationState, Fencing, Snapshotting, Switching, Restoring, Releasing, Restored, TabletPair, CloneRecord, CloneState, Accepted, CloneSnapshot, Copying, CloneReleasing, CloneComplete, point_of}
 use Rattle.model.specs.Coordination.{pending_in}
 use Rattle.model.specs.Stands.{is_restore, is_after_switch, copied_at, NoneTwice, HoldsFrozen, AreRowsAt, before_restore}
+pub use Rattle.model.specs.Stands.{IsCopy, IsHomeIn, IsTargetIn}
 use Rattle.model.specs.Drawn.{drawn_of}
 use Rattle.model.specs.Parts.{Master, Drawn}
 use Rattle.law_invariants.specs.Operations.{IsOpenIn}
@@ -265,18 +266,6 @@ RestorationSlotIn (Restored point serving) activity owners changes r slot t = Un
 abbrev pub RestorationSlot : RestorationState → Master → List Change → RestorationRecord → ℕ → Tablet → Type 0
 RestorationSlot state m changes r slot t = RestorationSlotIn state m.activity m.catalog.owners changes r slot t
 
--- a target that has copied has the rows of its source at the time
-pub record IsCopy (changes : List Change) (c : CloneRecord) (at : ℕ) (p : TabletPair) (t : Tablet) : Type 0 where
-  pub serves : is_serving t.presence ≡ true
-  pub fenced : t.fence ≡ Some c.id
-  pub tablet_is : t.tablet ≡ p.target
-  pub table_is : t.table ≡ p.table
-  pub low_is : t.low ≡ p.low
-  pub high_is : t.high ≡ p.high
-  pub cutoff : at ≤ t.cutoff
-  pub rows : (d : IdPair) → In d c.tables → d.target ≡ p.table
-      → AreRowsAt t.versions p.low p.high at changes c.to d.source
-
 pub record CopyingIn (owners : List Owner) (changes : List Change) (c : CloneRecord) (at slot : ℕ)
     (t : Tablet) : Type 0 where
   pub acked : (l : Listed) → In l c.listed → l.slot ≡ slot → l.acked ≡ true → is_done t.done c.id CopyKind ≡ true
@@ -306,25 +295,8 @@ abbrev pub CloneSlot : CloneState → Master → List Change → CloneRecord →
 CloneSlot state m changes c slot t = CloneSlotIn state m.catalog.owners changes c slot t
 
 -- the master knows the tablet in a slot, or it is the target of a clone that copies
-pub record IsHomeIn (activity : List Interval) (slot : ℕ) (tablet : Id) : Type 0 where
-  pub interval : Interval
-  pub kept : In interval activity
-  pub slot_is : interval.slot ≡ slot
-  pub tablet_is : interval.tablet ≡ tablet
-
 abbrev pub IsHome : Master → ℕ → Id → Type 0
 IsHome m slot tablet = IsHomeIn m.activity slot tablet
-
-pub record IsTargetIn (clones : List CloneRecord) (slot : ℕ) (tablet : Id) : Type 0 where
-  pub clone : CloneRecord
-  pub kept : In clone clones
-  pub serving : Id
-  pub at : ℕ
-  pub state_is : clone.state ≡ Copying serving at
-  pub pair : TabletPair
-  pub paired : In pair clone.tablets
-  pub slot_is : pair.slot ≡ slot
-  pub tablet_is : pair.target ≡ tablet
 
 abbrev pub IsTarget : Master → ℕ → Id → Type 0
 IsTarget m slot tablet = IsTargetIn m.clones slot tablet

@@ -1,22 +1,17 @@
 -- The activity of all tablets that ever were, beside that which the master keeps: a removal forgets a tablet's
 -- intervals.
-use Rattle.std.specs.Prelude.{◌≡◌, ℕ, ◌≤◌, true, false, List, [], ◌∷◌, ◌&&◌, ◌⊎◌, not, if◌then◌else◌}
+use Rattle.std.specs.Prelude.{◌≡◌, ℕ, ◌≤◌, true, false, List, ◌&&◌, ◌⊎◌, not, if◌then◌else◌}
 use Rattle.row_values.specs.Elements.{In}
 use Rattle.row_values.specs.Slots.{has}
 use Rattle.model.specs.Times.{ended_by}
 use Rattle.model.specs.Activity.{Interval}
 use Rattle.model.specs.Records.{TabletPair, CloneRecord, is_visible}
 use Rattle.model.specs.Cleanup.{floor_of_table}
+pub use Rattle.model.specs.Drawn.{IsPartOf}
 use Rattle.model.specs.Acts.{Act}
 use Rattle.model.specs.Entries.{slots_of}
 use Rattle.model.specs.Parts.{Master, Parts, Outcome}
 use Rattle.model.specs.History.{master_effect, is_removal}
-
--- the intervals of a list are some of another's, in its order and each with its count
-abbrev pub IsPartOf : List Interval → List Interval → Type 0
-IsPartOf [] all = Unit {0}
-IsPartOf (i ∷ is) [] = ⊥
-IsPartOf (i ∷ is) (j ∷ js) = ((i ≡ j) × IsPartOf is js) ⊎ IsPartOf (i ∷ is) js
 
 -- what an outcome makes of it: what it makes of the master's, but that no removal forgets
 abbrev pub activity_after : Act → Outcome → ℕ → Parts → List Interval → List Interval

@@ -5,9 +5,7 @@ use Rattle.std.specs.Option.{option_map}
 use Rattle.std.specs.Str.{bytes_eq}
 use Rattle.std.proofs.lemmas.Bool.{true≢false, cond_both}
 use Rattle.std.proofs.lemmas.Bool.Decides.{nat_tests}
-use Rattle.row_values.specs.Ids.{Id, same}
-use Rattle.row_values.specs.Elements.{In}
-use Rattle.model.specs.Times.{holds_at, ended, ended_by, before_end}
+use Rattle.model.specs.Cluster.{Id, same, In, holds_at, ended, ended_by, before_end}
 use Rattle.model.specs.Catalog.{Catalog, TableRecord, owner_of, owns, is_owned_by, kept_from, put_table, by_id, tables_at, end_tables}
 use Rattle.model.specs.Restored.{newest, back_at, tables_back, restored_tables, record_at}
 use Rattle.model.specs.Journal.{Change}

@@ -1,17 +1,15 @@
 -- Commands on schedules under their plans.
 use Rattle.std.proofs.Common.{ℕ, ◌≡◌, List, ◌∷◌, true}
-use Rattle.row_values.specs.Slots.{same_slots}
-use Rattle.model.specs.Activity.{Interval}
+use Rattle.model.specs.Cluster.{same_slots, Interval, Parts}
 use Rattle.model.specs.Journal.{Change as Made}
 use Rattle.model.specs.Acts.{Command, CreateSchedule, EditSchedule, DeleteSchedule, TakeSnapshot, Restore, Change}
 use Rattle.model.specs.Entries.{slots_of}
-use Rattle.model.specs.Parts.{Parts}
 use Rattle.model.specs.Looks.{plan_of}
 use Rattle.model.specs.Changes.{planned}
 use Rattle.model.specs.History.{outcome}
 use Rattle.law_invariants.specs.Invariant.{Inv, Later}
 use Rattle.law_invariants.proofs.Ticking.{KeepsAll}
-use Rattle.law_invariants.proofs.Stale.{change_keeps}
+use Rattle.law_invariants.proofs.Judging.{change_keeps}
 use Rattle.law_moves.specs.Commands.{IsOfSchedules}
 use Rattle.law_moves.proofs.Schedules.{create_schedule_keeps, delete_schedule_keeps}
 use Rattle.law_moves.proofs.Editing.{edit_schedule_keeps}

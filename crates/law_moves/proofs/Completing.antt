@@ -2,16 +2,11 @@
 use Rattle.std.proofs.Common.{ℕ, ◌≡◌, ◌≤◌, ◌<◌, ◌+◌, List, [], ◌∷◌, map, Some, None, Bool, true, false, cond, ◌&&◌, inl, inr, refl, sym, ap, subst, ◌∙◌, arith, not, le_trans, le_refl, le_of_lt, lt_of_lt_of_le}
 use Rattle.std.specs.Option.{option_map_or}
 use Rattle.std.proofs.lemmas.Bool.{true≢false}
-use Rattle.row_values.specs.Ids.{Snapshot, Restoration, Clone, Id, same}
-use Rattle.row_values.specs.Elements.{In}
-use Rattle.model.specs.Activity.{Interval}
+use Rattle.model.specs.Cluster.{Snapshot, RestorationKind as Restoration, CloneKind as Clone, Id, same, In, Interval, Listed, SnapshotRecord, unsent, ScheduledNamespace, Advance, Master, Parts}
 use Rattle.model.specs.Journal.{Change as Made}
-use Rattle.model.specs.Records.{Listed, SnapshotRecord, unsent, ScheduledNamespace}
 use Rattle.model.specs.Schedules.{complete_to, or_before}
 use Rattle.model.specs.Coordination.{unfinished_snapshot, unfinished_restoration, unfinished_clone}
-use Rattle.model.specs.Acts.{Advance}
 use Rattle.model.specs.Cleanup.{floor_of}
-use Rattle.model.specs.Parts.{Master, Parts}
 use Rattle.model.specs.Moves.{progress_of, snapshot_progress, anew, completed, moved_of, advance, snapshot_advanced}
 use Rattle.model.specs.History.{with_either}
 use Rattle.law_store.proofs.Keys.{either_way}
@@ -23,8 +18,7 @@ use Rattle.law_invariants.proofs.Ticking.{KeepsAll, not_true}
 use Rattle.law_invariants.proofs.Recording.{Records, recorded, SnapshotOn, SnapshotCame, Onto}
 use Rattle.law_invariants.proofs.Staying.{schedule_on, scheduled_on}
 use Rattle.law_invariants.proofs.Slots.{records_keep}
-use Rattle.law_invariants.proofs.Acting.{alone_keeps}
-use Rattle.law_invariants.proofs.Advancing.{moves, advance_by, mapped_some, no_restoration, no_clone}
+use Rattle.law_invariants.proofs.Advancing.{alone_keeps, moves, advance_by, mapped_some, no_restoration, no_clone}
 use Rattle.law_invariants.proofs.Pending.{point_is, pending_drawn, pending_unmoved, pending_stays, fence_stays, unfinished_snapshot_is, unacked_is}
 use Rattle.law_invariants.proofs.Using.{mapped_is, alone_mapped, one_snapshot}
 

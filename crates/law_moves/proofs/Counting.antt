@@ -4,12 +4,7 @@ use Rattle.std.specs.List.{filter}
 use Rattle.std.specs.Option.{is_some}
 use Rattle.std.proofs.lemmas.Bool.{true≢false}
 use Rattle.std.proofs.lemmas.Bool.Decides.{nat_tests}
-use Rattle.row_values.specs.Ids.{Id, same}
-use Rattle.row_values.specs.Elements.{In}
-use Rattle.model.specs.Times.{ended, before_end}
-use Rattle.row_values.specs.Ranges.{in_range}
-use Rattle.model.specs.Catalog.{Owner, owns}
-use Rattle.model.specs.Activity.{Interval, active_at}
+use Rattle.model.specs.Cluster.{Id, same, In, ended, before_end, in_range, Owner, owns, Interval, active_at}
 use Rattle.model.specs.Restored.{begun_at, end_namespace_tablets}
 use Rattle.model.specs.Journal.{Change}
 use Rattle.model.specs.Stands.{holders}

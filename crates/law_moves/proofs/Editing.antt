@@ -1,16 +1,11 @@
 -- A schedule's periods are edited. Its window only closes further: what was out of it stays out.
 use Rattle.std.proofs.Common.{ℕ, ◌≡◌, ◌≤◌, ◌<◌, List, [], ◌∷◌, Bool, true, false, cond, inl, refl, sym, ap, ◌∙◌, arith, le_trans, le_refl, le_of_lt}
 use Rattle.std.proofs.lemmas.Bool.{true≢false}
-use Rattle.row_values.specs.Ids.{Id, same}
-use Rattle.row_values.specs.Slots.{same_slots}
-use Rattle.model.specs.Activity.{Interval}
+use Rattle.model.specs.Cluster.{Id, same, same_slots, Interval, Schedule, EditSchedule, Change, Master, Parts, EditsSchedule}
 use Rattle.model.specs.Journal.{Change as Made}
-use Rattle.model.specs.Records.{Schedule}
 use Rattle.model.specs.Schedules.{low, least_low, edited}
-use Rattle.model.specs.Acts.{EditSchedule, Change}
 use Rattle.model.specs.Operations.{time_of_user}
 use Rattle.model.specs.Cleanup.{floor_of}
-use Rattle.model.specs.Parts.{Master, Parts, EditsSchedule}
 use Rattle.model.specs.Changes.{accepts, judge_edit_schedule, edit_schedule}
 use Rattle.model.specs.Changed.{with_periods}
 use Rattle.law_invariants.specs.Operations.{ScheduleGood}
@@ -18,12 +13,12 @@ use Rattle.law_invariants.specs.Invariant.{Inv, Later}
 use Rattle.law_invariants.proofs.Finding.{in_mapped, map_in}
 use Rattle.law_invariants.proofs.Remembering.{floor_up}
 use Rattle.law_invariants.proofs.Ticking.{by_judgement, refused_keeps, KeepsAll}
-use Rattle.law_invariants.proofs.Recording.{Records, recorded, Onto}
+use Rattle.law_invariants.proofs.Recording.{same_on, Records, recorded, Onto}
 use Rattle.law_invariants.proofs.Staying.{schedule_on, scheduled_on}
 use Rattle.law_invariants.proofs.Slots.{records_keep}
-use Rattle.law_invariants.proofs.Acting.{alone_keeps}
+use Rattle.law_invariants.proofs.Advancing.{alone_keeps}
 use Rattle.law_invariants.proofs.Pending.{point_complete, pending_drawn, pending_unmoved, pending_stays, fence_stays}
-use Rattle.law_invariants.proofs.Using.{same_on, mapped_is, alone_mapped, mapped_rise}
+use Rattle.law_invariants.proofs.Using.{mapped_is, alone_mapped, mapped_rise}
 
 abbrev with_edit : Id → ℕ → ℕ → ℕ → Master → Records
 with_edit id interval retention n m = record {
@@ -80,20 +75,7 @@ edited_onto ps activity changes n interval retention id before inv =
       clock = le_of_lt before;
       drawn = λ kind. le_refl _;
       floors = floors;
-      apart = record {
-        schedule_ids = alone_mapped {A = Schedule} (λ t. t.id) f m.schedules ids a.schedule_ids;
-        one_scheduled = a.one_scheduled;
-        snapshots_rise = a.snapshots_rise;
-        one_snapshot = a.one_snapshot;
-        restoration_ids = a.restoration_ids;
-        one_restoration = a.one_restoration;
-        clone_ids = a.clone_ids;
-        one_clone = a.one_clone;
-        one_operation = a.one_operation;
-        one_target = a.one_target;
-        one_made = a.one_made;
-        one_name = a.one_name;
-      };
+      apart = assumption (alone_mapped {A = Schedule} (λ t. t.id) f m.schedules ids a.schedule_ids, a);
       complete = λ k isin. le_trans (inv.master.complete k isin) (le_of_lt before);
       schedule = in_mapped {A = Schedule} {B = Schedule} f (ScheduleGood (recorded m w)) m.schedules
           (λ t isin. edited_good (same t.id id) (recorded m w) interval retention t

@@ -2,19 +2,13 @@
 use Rattle.std.proofs.Common.{ℕ, ◌≡◌, ◌≤◌, List, [], ◌∷◌, map, Option, Some, None, true, false, cond, ◌&&◌, ◌⊎◌, inl, inr, refl, sym, ap, subst, ◌∙◌, arith, not, le_trans, le_refl, lt_of_lt_of_le, ◌<◌}
 use Rattle.std.specs.Option.{option_map, option_or}
 use Rattle.std.proofs.lemmas.Bool.{true≢false}
-use Rattle.row_values.specs.Ids.{Id, same}
-use Rattle.row_values.specs.Elements.{In}
-use Rattle.model.specs.Activity.{Interval}
-use Rattle.model.specs.Catalog.{owner_of}
+use Rattle.model.specs.Cluster.{Id, same, In, Interval, owner_of, Mark, is_empty, Listed, RestorationRecord, RestorationState, Fencing, CloneRecord, is_restored, point_of, unsent, is_cloned, Schedule, Master, Parts}
 use Rattle.model.specs.Journal.{Change}
-use Rattle.model.specs.Tablets.{Mark, is_empty}
-use Rattle.model.specs.Records.{Listed, RestorationRecord, RestorationState, Fencing, CloneRecord, is_restored, point_of, unsent, is_cloned, Schedule}
 use Rattle.model.specs.Schedules.{floor, least_low}
 use Rattle.model.specs.Stands.{awaited_in, awaited_of}
 use Rattle.model.specs.Coordination.{unfinished_restoration}
 use Rattle.model.specs.Operations.{restoration_of, clone_with, time_of_user}
 use Rattle.model.specs.Cleanup.{floor_of}
-use Rattle.model.specs.Parts.{Master, Parts}
 use Rattle.law_store.proofs.Keys.{either_way}
 use Rattle.law_invariants.specs.Operations.{OperationsApart, has_switched, IsSwitchedBy, Alone, Uses, AfterRowsOf, IsKnown, RestorationStateGood}
 use Rattle.law_invariants.specs.Orders.{FencePlace, RestorationSlot, stage_of_restoration}
@@ -22,11 +16,11 @@ use Rattle.law_invariants.specs.Invariant.{Inv}
 use Rattle.law_invariants.proofs.Finding.{same_equal, same_self, filter_in, in_mapped, map_in, passes_both}
 use Rattle.law_invariants.proofs.Remembering.{floor_rises}
 use Rattle.law_invariants.proofs.Ticking.{not_true}
-use Rattle.law_invariants.proofs.Recording.{Records, recorded, RestorationCame, Onto, NewRestoration, MovedRestoration}
+use Rattle.law_invariants.proofs.Recording.{same_on, Records, recorded, RestorationCame, Onto, NewRestoration, MovedRestoration}
 use Rattle.law_invariants.proofs.Staying.{schedule_on, scheduled_on}
 use Rattle.law_invariants.proofs.Slots.{parts_with, records_keep}
 use Rattle.law_invariants.proofs.Pending.{point_complete, pending_drawn, pending_unmoved, pending_stays, fence_stays, unfinished_restoration_is, unacked_is}
-use Rattle.law_invariants.proofs.Using.{same_on, mapped_is, alone_mapped}
+use Rattle.law_invariants.proofs.Using.{mapped_is, alone_mapped}
 
 abbrev pub entered : RestorationRecord → RestorationState → List Listed → RestorationRecord
 entered r state listed = record r { listed = listed; state = state }

@@ -1,10 +1,7 @@
 -- An advance keeps what holds, where one of a clone does.
 use Rattle.std.proofs.Common.{ℕ, ◌≡◌, List, [], ◌∷◌, Some, refl, sym, ap, ◌∙◌, arith}
-use Rattle.row_values.specs.Ids.{Kind, Namespace, Table, Tablet, Schedule, Snapshot, Restoration, Clone, Id}
-use Rattle.model.specs.Activity.{Interval}
+use Rattle.model.specs.Cluster.{Kind, NamespaceKind as Namespace, TableKind as Table, TabletKind as Tablet, ScheduleKind as Schedule, Snapshot, RestorationKind as Restoration, CloneKind as Clone, Id, Interval, Advance, Parts}
 use Rattle.model.specs.Journal.{Change as Made}
-use Rattle.model.specs.Acts.{Advance}
-use Rattle.model.specs.Parts.{Parts}
 use Rattle.model.specs.Moves.{Progress, progress_of, advance}
 use Rattle.law_invariants.specs.Invariant.{Inv, Later}
 use Rattle.law_invariants.proofs.Ticking.{KeepsAll}

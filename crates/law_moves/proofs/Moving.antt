@@ -3,17 +3,12 @@ use Rattle.std.proofs.Common.{ℕ, ◌≡◌, ◌≤◌, ◌<◌, List, [], ◌�
 use Rattle.std.specs.List.{list_any}
 use Rattle.std.specs.Option.{option_map, option_or}
 use Rattle.std.proofs.lemmas.Bool.{true≢false}
-use Rattle.row_values.specs.Ids.{Id, same}
-use Rattle.row_values.specs.Elements.{In}
-use Rattle.model.specs.Activity.{Interval}
+use Rattle.model.specs.Cluster.{Id, same, In, Interval, Body, RestoreFrom, Hide, Release, BodyKind, RestoreFromKind, HideKind, ReleaseKind, is_done, kind_of, Listed, RestorationRecord, RestorationState, Restoring, Releasing, Restored, CloneRecord, is_restored, point_of, Master, Parts}
 use Rattle.model.specs.Journal.{Change}
-use Rattle.model.specs.Tablets.{Body, RestoreFrom, Hide, Release, BodyKind, RestoreFromKind, HideKind, ReleaseKind, is_done, kind_of}
-use Rattle.model.specs.Records.{Listed, RestorationRecord, RestorationState, Restoring, Releasing, Restored, CloneRecord, is_restored, point_of}
 use Rattle.model.specs.Schedules.{floor, least_low}
 use Rattle.model.specs.Stands.{awaited_of, is_restore}
 use Rattle.model.specs.Operations.{restoration_of, clone_with, time_of_user}
 use Rattle.model.specs.Cleanup.{floor_of}
-use Rattle.model.specs.Parts.{Master, Parts}
 use Rattle.model.specs.Moves.{released, brought_back}
 use Rattle.law_store.proofs.Keys.{either_way}
 use Rattle.law_invariants.specs.Operations.{Uses, IsPoint, IsAfterSwitch, RestoringGood, ReleasingGood, RestorationStateGood}
@@ -44,7 +39,7 @@ restore_kind : (b : Body) → is_restore b ≡ true → kind_of b ≡ RestoreFro
 restore_kind (RestoreFrom snapshot to point version) e = refl
 restore_kind _ e = absurd (true≢false (sym e))
 
-either_body : (r : RestorationRecord) (point : ℕ) (serving_ : Id) (b : Body) → IsAfterSwitch r point serving_ b → (is_restore b ≡ true) ⊎ (kind_of b ≡ HideKind)
+either_body : (r : RestorationRecord) (point : ℕ) (serving_ : Id) (b : Body) → IsAfterSwitch r.to point serving_ b → (is_restore b ≡ true) ⊎ (kind_of b ≡ HideKind)
 either_body r point serving_ (RestoreFrom snapshot to at version) h = inl refl
 either_body r point serving_ (Hide ended) h = inr refl
 either_body r point serving_ _ h = absurd h

@@ -1,18 +1,13 @@
 -- What operations have slots do, after the switch.
 use Rattle.std.proofs.Common.{ℕ, ◌≡◌, ◌≤◌, ◌<◌, List, map, Option, Some, None, true, false, ◌⊎◌, inl, inr, refl, sym, ap, subst, ◌∙◌, arith}
 use Rattle.std.proofs.lemmas.Bool.{true≢false}
-use Rattle.row_values.specs.Ids.{Id, same}
-use Rattle.row_values.specs.Elements.{In}
-use Rattle.model.specs.Activity.{Interval}
-use Rattle.model.specs.Catalog.{owner_of}
+use Rattle.model.specs.Cluster.{Id, same, In, Interval, owner_of, RestorationRecord, Switching, Restoring, CloneRecord, is_restored, is_cloned, point_of, Master, Parts}
 use Rattle.model.specs.Journal.{Change}
-use Rattle.model.specs.Tablets.{Tablet, BodyKind, RestoreFromKind, HideKind, Mark, is_serving, kind_of, is_done, Command, CopyKind}
-use Rattle.model.specs.Records.{RestorationRecord, RestorationState, Fencing, Snapshotting, Switching, Restoring, Releasing, Restored, CloneRecord, CloneState, Accepted, CloneSnapshot, Copying, CloneReleasing, CloneComplete, is_restored, is_cloned, point_of, IdPair, TabletPair}
-use Rattle.model.specs.Stands.{is_after_switch, AreRowsAt, before_restore, is_restore}
-use Rattle.model.specs.Parts.{Master, Parts}
+use Rattle.model.specs.Tablets.{Tablet, BodyKind, RestoreFromKind, HideKind, Mark, is_serving, kind_of, Command}
+use Rattle.model.specs.Stands.{is_after_switch}
 use Rattle.law_store.proofs.Keys.{either_way}
 use Rattle.law_invariants.specs.Operations.{Uses, RestorationStateGood}
-use Rattle.law_invariants.specs.Orders.{FencePlace, IsFence, IsAfter, IsMark, OrdersGood, RestorationSlot, CloneSlot, IsHome, IsTarget, restoring_stage, stage_of_restoration, IsRestored, operations, IsAfterIn, directory, IsFenceIn, IsOrderIn, IsMarkIn, IsCopy}
+use Rattle.law_invariants.specs.Orders.{FencePlace, IsFence, IsAfter, IsMark, OrdersGood, RestorationSlot, CloneSlot, IsHome, IsTarget, restoring_stage, stage_of_restoration, operations, IsAfterIn, directory, IsFenceIn, IsOrderIn, IsMarkIn}
 use Rattle.law_invariants.specs.Invariant.{SlotWorks}
 use Rattle.law_invariants.proofs.Finding.{in_mapped, map_in, same_equal}
 use Rattle.law_invariants.proofs.Working.{before_any}
@@ -21,17 +16,12 @@ use Rattle.law_moves.proofs.Moving.{not_yet}
 use Rattle.law_moves.proofs.Entering.{entering, entering_it, entering_other, enters, by_record, found_still}
 use Rattle.law_moves.proofs.Viewing.{row_other}
 use Rattle.law_moves.proofs.Counting.{ended_in}
-use Rattle.law_moves.proofs.Switching.{IsSwitch, listed_then, turned, after, back, unfinished_yet, good_yet, slot_yet, other_namespace, not_mine, ended_there, open_was, open_on, line_is, line_of_open}
+use Rattle.law_moves.proofs.Switching.{IsSwitch, listed_then, turned, after, back, unfinished_yet, good_yet, slot_yet, other_namespace, not_mine, ended_there, open_was, open_on, line_is, line_of_open, activity_then}
 use Rattle.law_moves.proofs.Turned.{before_other, other_restore}
 use Rattle.law_invariants.proofs.Ordering.{place_left, clone_left}
+use Rattle.law_invariants.proofs.Going.{place_goes, restoration_slot_goes, clone_slot_goes}
 
 -- Fences
-
-place_turned : (state : RestorationState) (m : Master) (r : RestorationRecord) (point : ℕ) (serving_ : Id) (n : ℕ) (x : RestorationRecord) (slot : ℕ) (done : List Mark) → (x.namespace ≡ r.namespace → ⊥) → FencePlace state x m slot done → FencePlace state x (turned m r point serving_ n) slot done
-place_turned (Restoring p served) m r point serving_ n x slot done apart h = h
-place_turned (Releasing p served) m r point serving_ n x slot done apart h = h
-place_turned (Restored p served) m r point serving_ n x slot done apart h = h
-place_turned _ m r point serving_ n x slot done apart h = (h.0, (open_on m r point serving_ n x.namespace h.0 apart h.1.0, h.1.1))
 
 fence_turned : (ps : Parts) (activity : List Interval) (changes : List Change) (n : ℕ) (r : RestorationRecord) (point : ℕ) (serving_ : Id) (slot : ℕ) (operation : Id) → IsSwitch ps activity changes n r point serving_
     → IsFence ps.master slot (ps.tablet slot).table (ps.tablet slot).done operation → IsFence (turned ps.master r point serving_ n) slot (ps.tablet slot).table (ps.tablet slot).done operation
@@ -58,8 +48,8 @@ fence_turned ps activity changes n r point serving_ slot operation s (inl h) =
       kept = subst (λ q. In q (map f m.restorations)) (entering_other r (Restoring point serving_) L x b) (map_in {A = RestorationRecord} {B = RestorationRecord} f m.restorations x h.kept);
       id_is = h.id_is;
       owned = h.owned;
-      place = place_turned x.state m r point serving_ n x slot (ps.tablet slot).done
-          (λ e. other_namespace ps activity changes n r point serving_ x s h.kept b (place_left x.state x m slot (ps.tablet slot).done h.place) e) h.place;
+      place = place_goes x.state x m.activity (activity_then m r point) m.catalog.owners m.catalog.owners slot (ps.tablet slot).done
+          (λ open_ i opened at. open_on m r point serving_ n x.namespace i (λ e. other_namespace ps activity changes n r point serving_ x s h.kept b open_ e) opened) h.place;
     }))
 
 -- Clocks
@@ -120,23 +110,12 @@ orders_turned ps activity changes n r point serving_ slot s =
 
 -- What tablets did
 
-slot_state : (state : RestorationState) (ps : Parts) (activity : List Interval) (changes : List Change) (n : ℕ) (r : RestorationRecord) (point : ℕ) (serving_ : Id) (x : RestorationRecord) (slot : ℕ) (t : Tablet) → (is_restored state ≡ false → x.namespace ≡ r.namespace → ⊥)
-    → RestorationStateGood state ps.master changes x → RestorationSlot state ps.master changes x slot t → RestorationSlot state (turned ps.master r point serving_ n) (after r point changes) x slot t
-slot_state Fencing ps activity changes n r point serving_ x slot t apart good h = h
-slot_state (Snapshotting p own) ps activity changes n r point serving_ x slot t apart good h = record { fenced = λ i opened at. h.fenced i (open_was ps.master r point serving_ n x.namespace i (apart refl) opened) at }
-slot_state (Switching p served) ps activity changes n r point serving_ x slot t apart good h = record {
-  fenced = λ i opened at. h.fenced i (open_was ps.master r point serving_ n x.namespace i (apart refl) opened) at;
-  past = λ i opened at. h.past i (open_was ps.master r point serving_ n x.namespace i (apart refl) opened) at;
-}
-slot_state (Restoring p served) ps activity changes n r point serving_ x slot t apart good h = λ l isin at. (let k = h l isin at in
-    let before : before_restore (after r point changes) x.namespace p (after r point changes) ≡ before_restore changes x.namespace p changes =
-    before_other r point changes x.namespace p (other_restore r point x.namespace p (apart refl)) ∙ before_any changes x.namespace p (after r point changes) changes good.switched in
-    let restored : is_restore l.body ≡ true → is_done t.done x.id RestoreFromKind ≡ true → IsRestored (after r point changes) x p t = λ is did. (let z = k.restored is did in
-    let rows : AreRowsAt t.versions t.low t.high p (before_restore (after r point changes) x.namespace p (after r point changes)) x.to t.table = subst (λ then_. AreRowsAt t.versions t.low t.high p then_ x.to t.table) (sym before) z.rows in
-    assumption rows) in
-    assumption restored)
-slot_state (Releasing p served) ps activity changes n r point serving_ x slot t apart good h = h
-slot_state (Restored p served) ps activity changes n r point serving_ x slot t apart good h = tt
+slot_state : (ps : Parts) (activity : List Interval) (changes : List Change) (n : ℕ) (r : RestorationRecord) (point : ℕ) (serving_ : Id) (x : RestorationRecord) (slot : ℕ) (t : Tablet) → (is_restored x.state ≡ false → x.namespace ≡ r.namespace → ⊥)
+    → RestorationStateGood x.state ps.master changes x → RestorationSlot x.state ps.master changes x slot t → RestorationSlot x.state (turned ps.master r point serving_ n) (after r point changes) x slot t
+slot_state ps activity changes n r point serving_ x slot t apart good = restoration_slot_goes x.state x ps.master.activity (activity_then ps.master r point) ps.master.catalog.owners ps.master.catalog.owners changes (after r point changes) slot t
+    (λ open_ i opened. open_was ps.master r point serving_ n x.namespace i (apart open_) opened)
+    (λ p served e. before_other r point changes x.namespace p (other_restore r point x.namespace p (apart (ap is_restored e)))
+    ∙ before_any changes x.namespace p (after r point changes) changes (subst (λ st. RestorationStateGood st ps.master changes x) e good).switched)
 
 -- a listed tablet that serves is fenced
 back_fenced : (ps : Parts) (activity : List Interval) (changes : List Change) (n : ℕ) (r : RestorationRecord) (point : ℕ) (serving_ : Id) (slot : ℕ) (i : Interval) → IsSwitch ps activity changes n r point serving_ → In i ps.master.activity → i.slot ≡ slot
@@ -177,19 +156,11 @@ back_slot ps activity changes n r point serving_ slot s = λ l isin at. (
       hidden = λ is did. absurd (true≢false (sym did ∙ not_yet ps activity changes r slot HideKind s.inv s.there (omega (arith, e))));
     })
 
-clone_slot : (state : CloneState) (ps : Parts) (activity : List Interval) (changes : List Change) (n : ℕ) (r : RestorationRecord) (point : ℕ) (serving_ : Id) (c : CloneRecord) (slot : ℕ) (t : Tablet) → IsSwitch ps activity changes n r point serving_ → In c ps.master.clones
-    → (is_cloned state ≡ false → Uses c r.namespace → ⊥) → CloneSlot state ps.master changes c slot t → CloneSlot state (turned ps.master r point serving_ n) (after r point changes) c slot t
-clone_slot Accepted ps activity changes n r point serving_ c slot t s isin unused h = h
-clone_slot (CloneSnapshot own) ps activity changes n r point serving_ c slot t s isin unused h = h
-clone_slot (Copying served at) ps activity changes n r point serving_ c slot t s isin unused h =
-    let copied : (p : TabletPair) → In p c.tablets → p.slot ≡ slot → is_done t.done c.id CopyKind ≡ true → IsCopy (after r point changes) c at p t = λ p paired is did. (let k = h.copied p paired is did in
-    let rows_now : (d : IdPair) → In d c.tables → d.target ≡ p.table → AreRowsAt t.versions p.low p.high at (after r point changes) c.to d.source = λ d listed e. (let z = k.rows d listed e in
-    let other = not_mine ps.master r.namespace c.source d.source ((s.inv.operations.clones c isin).owned d listed) (λ e. unused refl (inl e)) in
-    record { stamps = z.stamps; upserts = z.upserts; rows = λ key ranged. z.rows key ranged ∙ sym (row_other ps.master.catalog.owners changes r.namespace d.source point r.to c.to key s.inv.master.tables.inside other); inside = z.inside }) in
-    assumption rows_now) in
-    assumption copied
-clone_slot (CloneReleasing served at) ps activity changes n r point serving_ c slot t s isin unused h = h
-clone_slot (CloneComplete served at) ps activity changes n r point serving_ c slot t s isin unused h = tt
+clone_slot : (ps : Parts) (activity : List Interval) (changes : List Change) (n : ℕ) (r : RestorationRecord) (point : ℕ) (serving_ : Id) (c : CloneRecord) (slot : ℕ) (t : Tablet) → IsSwitch ps activity changes n r point serving_ → In c ps.master.clones
+    → (is_cloned c.state ≡ false → Uses c r.namespace → ⊥) → CloneSlot c.state ps.master changes c slot t → CloneSlot c.state (turned ps.master r point serving_ n) (after r point changes) c slot t
+clone_slot ps activity changes n r point serving_ c slot t s isin unused = clone_slot_goes c.state c ps.master.catalog.owners ps.master.catalog.owners changes (after r point changes) slot t (λ of. of)
+    (λ served at d key e listed. row_other ps.master.catalog.owners changes r.namespace d.source point r.to c.to key s.inv.master.tables.inside
+    (not_mine ps.master r.namespace c.source d.source ((s.inv.operations.clones c isin).owned d listed) (λ z. unused (ap is_cloned e) (inl z))))
 
 home_turned : (m : Master) (r : RestorationRecord) (point : ℕ) (serving_ : Id) (n slot : ℕ) (tablet : Id) → IsHome m slot tablet ⊎ IsTarget m slot tablet → IsHome (turned m r point serving_ n) slot tablet ⊎ IsTarget (turned m r point serving_ n) slot tablet
 home_turned m r point serving_ n slot tablet (inl h) = inl (record { interval = ended_in m.catalog.owners r.namespace point h.interval; kept = ended_there m r point h.interval h.kept; slot_is = h.slot_is; tablet_is = h.tablet_is })
@@ -211,8 +182,8 @@ works_turned ps activity changes n r point serving_ slot s =
         restorations = λ q there. in_mapped {A = RestorationRecord} {B = RestorationRecord} (entering r (Restoring point serving_) L) (λ q. RestorationSlot q.state (turned m r point serving_ n) (after r point changes) q slot t) m.restorations
             (λ x isin. by_record (λ x q. RestorationSlot q.state (turned m r point serving_ n) (after r point changes) q slot t) m r (Restoring point serving_) L x s.inv.operations.apart.restoration_ids s.there isin
             (back_slot ps activity changes n r point serving_ slot s)
-            (λ b. slot_state x.state ps activity changes n r point serving_ x slot t (λ open_ e. other_namespace ps activity changes n r point serving_ x s isin b open_ e) (s.inv.operations.restorations x isin).in_state (h.restorations x isin))) q there;
-        clones = λ c isin. clone_slot c.state ps activity changes n r point serving_ c slot t s isin
+            (λ b. slot_state ps activity changes n r point serving_ x slot t (λ open_ e. other_namespace ps activity changes n r point serving_ x s isin b open_ e) (s.inv.operations.restorations x isin).in_state (h.restorations x isin))) q there;
+        clones = λ c isin. clone_slot ps activity changes n r point serving_ c slot t s isin
             (λ open_ uses. s.inv.operations.apart.one_operation r c s.there isin (unfinished_yet ps activity changes n r point serving_ s) open_ uses) (h.clones c isin);
       };
     }

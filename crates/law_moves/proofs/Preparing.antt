@@ -2,18 +2,11 @@
 use Rattle.std.proofs.Common.{ℕ, ◌≡◌, ◌≤◌, ◌<◌, ◌+◌, List, [], ◌∷◌, Option, Some, None, true, false, ◌||◌, inl, inr, refl, sym, ap, subst, ◌∙◌, arith, leb, le-leb, le_refl, le_of_lt}
 use Rattle.std.specs.Option.{option_map, unwrap_or}
 use Rattle.std.proofs.lemmas.Bool.{true≢false}
-use Rattle.row_values.specs.Ids.{Id}
-use Rattle.row_values.specs.Elements.{In}
-use Rattle.model.specs.Times.{before_end}
-use Rattle.model.specs.Activity.{Interval, active_within}
-use Rattle.model.specs.Catalog.{owner_of}
+use Rattle.model.specs.Cluster.{Id, In, before_end, Interval, active_within, owner_of, FreezeKind, Listed, SnapshotRecord, RestorationRecord, RestorationState, Fencing, Snapshotting, Switching, Restored, is_restored, point_of, Master, Parts}
 use Rattle.model.specs.Journal.{Change}
-use Rattle.model.specs.Tablets.{FreezeKind}
-use Rattle.model.specs.Records.{Listed, SnapshotRecord, RestorationRecord, RestorationState, Fencing, Snapshotting, Switching, Restored, is_restored, point_of}
 use Rattle.model.specs.Schedules.{serving}
 use Rattle.model.specs.Stands.{awaited_of}
 use Rattle.model.specs.Lists.{next_snapshot, new_snapshot}
-use Rattle.model.specs.Parts.{Master, Parts}
 use Rattle.model.specs.Moves.{incomplete}
 use Rattle.law_store.proofs.Keys.{either_way}
 use Rattle.law_invariants.specs.Operations.{has_switched, IsServing, AfterRowsOf, BeforePoint, FencingGood, SnapshottingGood, RestorationStateGood}

@@ -1,32 +1,25 @@
 -- The records of operations after the switch.
-use Rattle.model.specs.Right.{is_fixed}
 use Rattle.std.proofs.Common.{ℕ, ◌≡◌, ◌≤◌, ◌<◌, ◌+◌, List, map, Option, Some, None, Bool, true, false, cond, inl, inr, refl, sym, ap, subst, ◌∙◌, arith, not, leb, leb-true, le-leb, le_trans, le_refl, le_of_lt, lt_of_lt_of_le, ◌⊎◌}
 use Rattle.std.proofs.lemmas.Bool.{true≢false}
 use Rattle.std.proofs.lemmas.Bool.Decides.{nat_tests}
-use Rattle.row_values.specs.Ids.{Id, same}
-use Rattle.row_values.specs.Elements.{In}
-use Rattle.model.specs.Times.{ended, ended_by, before_end}
-use Rattle.model.specs.Activity.{Interval, active_at, active_within}
-use Rattle.model.specs.Catalog.{TableRecord, owner_of, owns}
+use Rattle.model.specs.Cluster.{Id, same, In, ended, ended_by, before_end, Interval, active_at, active_within, TableRecord, owner_of, owns, RestoreFrom, Hide, Listed, SnapshotRecord, RestorationRecord, Restoring, CloneRecord, Master, Parts}
 use Rattle.model.specs.Restored.{begun_at, restored_tables, version_of}
 use Rattle.model.specs.Journal.{Change}
-use Rattle.model.specs.Tablets.{RestoreFrom, Hide}
-use Rattle.model.specs.Records.{Listed, SnapshotRecord, RestorationRecord, RestorationState, Fencing, Snapshotting, Switching, Restoring, Releasing, Restored, CloneRecord, CloneState, Accepted, CloneSnapshot, Copying, CloneReleasing, CloneComplete, is_restored, is_cloned, is_visible, TabletPair}
 use Rattle.model.specs.Cleanup.{floor_of}
-use Rattle.model.specs.Parts.{Master, Parts}
 use Rattle.law_store.proofs.Keys.{either_way}
-use Rattle.law_invariants.specs.Operations.{Uses, IsKnown, IsListed, SnapshotGood, IsPoint, BeforePoint, IsAfterSwitch, IsComing, RestorationStateGood, RestorationGood, CloneStateGood, CloneGood, OperationsGood, PairIn, IsSource, IsReserved}
+use Rattle.law_invariants.specs.Operations.{grounds, Uses, IsKnown, IsListed, SnapshotGood, IsAfterSwitch, IsComing, RestorationGood, CloneGood, OperationsGood}
 use Rattle.law_invariants.proofs.Finding.{in_mapped, map_in, filter_in, same_equal, both_pass, passes_both}
 use Rattle.law_invariants.proofs.Ticking.{not_true}
 use Rattle.law_invariants.proofs.Staying.{schedule_on, scheduled_on}
-use Rattle.law_invariants.proofs.Using.{same_on}
 use Rattle.law_invariants.proofs.Listing.{one_place}
 use Rattle.law_moves.proofs.Entering.{entering, entering_other, enters, by_record, going_floors, entered_apart}
 use Rattle.law_moves.proofs.Counting.{ended_in}
 use Rattle.law_moves.proofs.Backing.{over_other, new_is}
-use Rattle.law_moves.proofs.Switching.{IsSwitch, listed_then, turned, after, back, unfinished_yet, good_yet, other_namespace, not_mine, is_mine, interval_is, ended_there, begun_there, ended_mine, origin, other_was, other_stays, open_was, open_on, IsLine, line_is, line_restores, line_then, line_of_then, activity_then}
+use Rattle.law_moves.proofs.Switching.{IsSwitch, listed_then, turned, after, back, unfinished_yet, good_yet, other_namespace, not_mine, is_mine, interval_is, ended_there, begun_there, ended_mine, origin, other_was, other_stays, IsLine, line_is, line_restores, line_then, line_of_then, activity_then}
 use Rattle.law_moves.proofs.Turned.{fixed_is, switched_on, switched_now}
-use Rattle.law_invariants.proofs.Operating.{visible_later}
+use Rattle.law_invariants.proofs.Recording.{same_on}
+use Rattle.law_invariants.proofs.Going.{GroundsGo, NamespaceGoes, LinesGo, restoration_goes, clone_goes}
+use Rattle.model.specs.Drawn.{drawn_of}
 
 -- a known tablet stays known
 known_turned : (m : Master) (r : RestorationRecord) (point : ℕ) (serving_ : Id) (n : ℕ) (l : Listed) → IsKnown m l → IsKnown (turned m r point serving_ n) l
@@ -65,110 +58,50 @@ snapshot_turned ps activity changes n r point serving_ q s isin floors =
 
 -- Restorations
 
-point_turned : (m : Master) (changes : List Change) (r : RestorationRecord) (point : ℕ) (serving_ : Id) (n : ℕ) (x : RestorationRecord) (p : ℕ) → (x.namespace ≡ r.namespace → ⊥) → IsPoint m changes x p → IsPoint (turned m r point serving_ n) (after r point changes) x p
-point_turned m changes r point serving_ n x p apart h =
-    let fixed_now : (to : ℕ) → is_fixed (after r point changes) x.namespace to ≡ true → to < p = λ to fixed. elim (fixed_is r point changes x.namespace to fixed) [ inl k ↦ absurd (apart k.0) | inr old ↦ h.fixed to old ] in
-    assumption fixed_now
-
 table_was : (m : Master) (r : RestorationRecord) (point : ℕ) (ns : Id) (t : TableRecord) → (ns ≡ r.namespace → ⊥) → In t (restored_tables m.catalog.tables r.namespace r.to point) → t.namespace ≡ ns → In t m.catalog.tables
 table_was m r point ns t apart isin = new_is (λ t. t.namespace ≡ ns → In t m.catalog.tables) m.catalog.tables r.namespace r.to point
     (λ q there e. subst (λ k. In k m.catalog.tables) (sym (over_other r.namespace point q (either_way (same q.namespace r.namespace) (λ b. absurd (apart (sym e ∙ same_equal q.namespace r.namespace b))) (λ b. b)))) there)
     (λ q there held named e. absurd (apart (sym e ∙ named))) t isin
 
-before_turned : (m : Master) (r : RestorationRecord) (point : ℕ) (serving_ : Id) (n : ℕ) (ns : Id) (p : ℕ) → (ns ≡ r.namespace → ⊥) → BeforePoint m ns p → BeforePoint (turned m r point serving_ n) ns p
-before_turned m r point serving_ n ns p apart h = record {
-  begun = λ j there owner. h.begun j (other_was m r point j there (not_mine m r.namespace ns j.table owner apart)) owner;
-  ended = λ j e there owner is. h.ended j e (other_was m r point j there (not_mine m r.namespace ns j.table owner apart)) owner is;
-  tables_begun = λ t there named. h.tables_begun t (table_was m r point ns t apart there named) named;
-  tables_ended = λ t e there named is. h.tables_ended t e (table_was m r point ns t apart there named) named is;
+grounds_turned : (ps : Parts) (activity : List Interval) (changes : List Change) (n : ℕ) (r : RestorationRecord) (point : ℕ) (serving_ : Id) → IsSwitch ps activity changes n r point serving_
+    → GroundsGo (grounds ps.master) (grounds (turned ps.master r point serving_ n)) changes (after r point changes)
+grounds_turned ps activity changes n r point serving_ s = record { clock = le_of_lt s.before; slots = le_refl ps.master.slots; drawn = λ kind. le_refl (drawn_of kind ps.master.drawn); owned = λ table ns is. is; switched = λ ns p is. switched_on r point changes ns p is }
+
+-- another namespace stays as it is
+space_turned : (m : Master) (changes : List Change) (n : ℕ) (r : RestorationRecord) (point : ℕ) (serving_ ns : Id) → (ns ≡ r.namespace → ⊥) → NamespaceGoes (grounds m) (grounds (turned m r point serving_ n)) changes (after r point changes) ns
+space_turned m changes n r point serving_ ns apart = record {
+  came = λ j there owner. (other_was m r point j there (not_mine m r.namespace ns j.table owner apart), owner);
+  tables = λ t there named. table_was m r point ns t apart there named;
+  fixed = λ to fixed. elim (fixed_is r point changes ns to fixed) [ inl k ↦ absurd (apart k.0) | inr old ↦ old ];
 }
 
-state_turned : (state : RestorationState) (ps : Parts) (activity : List Interval) (changes : List Change) (n : ℕ) (r : RestorationRecord) (point : ℕ) (serving_ : Id) (x : RestorationRecord) → IsSwitch ps activity changes n r point serving_ → In x ps.master.restorations
-    → (is_restored state ≡ false → x.namespace ≡ r.namespace → ⊥) → RestorationStateGood state ps.master changes x → RestorationStateGood state (turned ps.master r point serving_ n) (after r point changes) x
-state_turned Fencing ps activity changes n r point serving_ x s isin apart h = let m = ps.master in record {
-  bodies = h.bodies;
-  lists = λ i opened. h.lists i (open_was m r point serving_ n x.namespace i (apart refl) opened);
-  opens = λ l lists. (let k = h.opens l lists in (k.0, (open_on m r point serving_ n x.namespace k.0 (apart refl) k.1.0, k.1.1)));
+lines_turned : (m : Master) (r : RestorationRecord) (point : ℕ) (ns : Id) (ls : List Listed) → (ns ≡ r.namespace → ⊥)
+    → ((l : Listed) (i : Interval) → In l ls → In i m.activity → i.tablet ≡ l.tablet → owner_of m.catalog.owners i.table ≡ Some ns) → LinesGo m.activity (activity_then m r point) ls
+lines_turned m r point ns ls apart owner = record {
+  stays = λ l i lists there e. other_stays m r point i there (not_mine m r.namespace ns i.table (owner l i lists there e) apart);
+  was = λ l j lists known there e. (
+      let o = origin m r point j there in
+      other_was m r point j there (ap (owns m.catalog.owners r.namespace) (sym o.table_is) ∙ not_mine m r.namespace ns o.was.table (owner l o.was lists o.kept (o.tablet_is ∙ e)) apart));
 }
-state_turned (Snapshotting p own) ps activity changes n r point serving_ x s isin apart h = let m = ps.master in record {
-  is_point = point_turned m changes r point serving_ n x p (apart refl) h.is_point;
-  empty = h.empty;
-  soon = (let l = h.soon in let b = s.before in omega arith);
-  before = before_turned m r point serving_ n x.namespace p (apart refl) h.before;
-  snapshot = h.snapshot;
-  kept = h.kept;
-  id_is = h.id_is;
-  at_is = h.at_is;
-  namespace_is = h.namespace_is;
-  alone = h.alone;
-}
-state_turned (Switching p served) ps activity changes n r point serving_ x s isin apart h = let m = ps.master in record {
-  is_point = point_turned m changes r point serving_ n x p (apart refl) h.is_point;
-  empty = h.empty;
-  begun = le_trans h.begun (le_of_lt s.before);
-  before = before_turned m r point serving_ n x.namespace p (apart refl) h.before;
-  serves = h.serves;
-  calm = h.calm;
-}
-state_turned (Restoring p served) ps activity changes n r point serving_ x s isin apart h =
-    let m = ps.master in
-    let of : (l : Listed) (i : Interval) → In l x.listed → In i m.activity → i.tablet ≡ l.tablet → owns m.catalog.owners r.namespace i.table ≡ false = λ l i lists there e. not_mine m r.namespace x.namespace i.table (s.inv.master.listed_of x l isin lists i there e) (apart refl) in
-    record {
-      is_point = point_turned m changes r point serving_ n x p (apart refl) h.is_point;
-      begun = le_trans h.begun (le_of_lt s.before);
-      serves = h.serves;
-      calm = h.calm;
-      switched = switched_on r point changes x.namespace p h.switched;
-      bodies = h.bodies;
-      back = λ l lists is. (let k = h.back l lists is in record {
-        then_ = k.then_;
-        kept_then = other_stays m r point k.then_ k.kept_then (of l k.then_ lists k.kept_then k.tablet_then);
-        tablet_then = k.tablet_then;
-        active = k.active;
-        now = k.now;
-        kept_now = other_stays m r point k.now k.kept_now (of l k.now lists k.kept_now k.tablet_now);
-        tablet_now = k.tablet_now;
-        slot_now = k.slot_now;
-        opened = k.opened;
-        from_is = k.from_is;
-      });
-      gone = λ l j lists is there e. (
-          let o = origin m r point j there in
-          let other = of l o.was lists o.kept (o.tablet_is ∙ e) in
-          h.gone l j lists is (other_was m r point j there (ap (owns m.catalog.owners r.namespace) (sym o.table_is) ∙ other)) e);
-      opens = λ i opened. h.opens i (open_was m r point serving_ n x.namespace i (apart refl) opened);
-    }
-state_turned (Releasing p served) ps activity changes n r point serving_ x s isin apart h =
-    let m = ps.master in
-    record {
-      is_point = point_turned m changes r point serving_ n x p (apart refl) h.is_point;
-      begun = le_trans h.begun (le_of_lt s.before);
-      switched = switched_on r point changes x.namespace p h.switched;
-      bodies = h.bodies;
-      active = λ l lists. (let k = h.active l lists in record {
-        interval = k.interval;
-        kept = other_stays m r point k.interval k.kept (not_mine m r.namespace x.namespace k.interval.table (s.inv.master.listed_of x l isin lists k.interval k.kept k.tablet_is) (apart refl));
-        tablet_is = k.tablet_is;
-        slot_is = k.slot_is;
-        opened = k.opened;
-        from_is = k.from_is;
-      });
-      opens = λ i opened. h.opens i (open_was m r point serving_ n x.namespace i (apart refl) opened);
-    }
-state_turned (Restored p served) ps activity changes n r point serving_ x s isin apart h = record { empty = h.empty; begun = le_trans h.begun (le_of_lt s.before); later = h.later; switched = switched_on r point changes x.namespace p h.switched }
 
 restoration_turned : (ps : Parts) (activity : List Interval) (changes : List Change) (n : ℕ) (r : RestorationRecord) (point : ℕ) (serving_ : Id) (x : RestorationRecord) → IsSwitch ps activity changes n r point serving_ → In x ps.master.restorations → same x.id r.id ≡ false
     → RestorationGood (turned ps.master r point serving_ n) (after r point changes) x
 restoration_turned ps activity changes n r point serving_ x s isin other =
-    let h = s.inv.operations.restorations x isin in
-    let past : x.to < n = lt_of_lt_of_le h.past (le_of_lt s.before) in
-    let known : is_restored x.state ≡ false → (l : Listed) → In l x.listed → IsKnown (turned ps.master r point serving_ n) l = λ unfinished l lists. known_turned ps.master r point serving_ n l (h.known unfinished l lists) in
-    let in_state : RestorationStateGood x.state (turned ps.master r point serving_ n) (after r point changes) x = state_turned x.state ps activity changes n r point serving_ x s isin (λ open_ e. other_namespace ps activity changes n r point serving_ x s isin other open_ e) h.in_state in
-    assumption (past, known, in_state)
+    let m = ps.master in
+    restoration_goes (grounds m) (grounds (turned m r point serving_ n)) changes (after r point changes) (grounds_turned ps activity changes n r point serving_ s) x (λ open_.
+    let apart : x.namespace ≡ r.namespace → ⊥ = λ e. other_namespace ps activity changes n r point serving_ x s isin other open_ e in
+    record {
+      space = space_turned m changes n r point serving_ x.namespace apart;
+      lines = lines_turned m r point x.namespace x.listed apart (λ l i lists there e. s.inv.master.listed_of x l isin lists i there e);
+      named = λ q there is. (q, (there, same_on q));
+      taken = λ p q at there is. (q, (there, same_on q));
+      points = λ p at h. h;
+      schedule = λ k there id_is is. (k, (there, (id_is, is)));
+    }) (s.inv.operations.restorations x isin)
 
 -- The restoration that has switched
 
-body_by : (b : Bool) (x : RestorationRecord) (serving_ : Id) (point version : ℕ) → IsAfterSwitch x point serving_ (cond b (RestoreFrom serving_ x.to point version) (Hide point))
+body_by : (b : Bool) (x : RestorationRecord) (serving_ : Id) (point version : ℕ) → IsAfterSwitch x.to point serving_ (cond b (RestoreFrom serving_ x.to point version) (Hide point))
 body_by true x serving_ point version = (refl, (refl, refl))
 body_by false x serving_ point version = refl
 
@@ -210,7 +143,7 @@ back_good ps activity changes n r point serving_ s =
         serves = g.serves;
         calm = g.calm;
         switched = switched_now r point changes;
-        bodies = λ l isin. (let k = line l isin in subst (λ z. IsAfterSwitch (back m r point serving_) point serving_ z.body) k.is (body_by (active_at r.to k.interval) (back m r point serving_) serving_ point (version_of (restored_tables m.catalog.tables r.namespace r.to point) k.interval.table)));
+        bodies = λ l isin. (let k = line l isin in subst (λ z. IsAfterSwitch r.to point serving_ z.body) k.is (body_by (active_at r.to k.interval) (back m r point serving_) serving_ point (version_of (restored_tables m.catalog.tables r.namespace r.to point) k.interval.table)));
         back = λ l isin is. (
             let k = line l isin in
             let active : active_at r.to k.interval ≡ true = sym (line_restores m r point serving_ l k) ∙ is in
@@ -253,67 +186,44 @@ back_good ps activity changes n r point serving_ s =
 
 -- Clones
 
-clone_state_turned : (state : CloneState) (m : Master) (r : RestorationRecord) (point : ℕ) (serving_ : Id) (n : ℕ) (c : CloneRecord) → m.clock ≤ n → (is_cloned state ≡ false → c.target_id ≡ r.namespace → ⊥) → CloneStateGood state m c → CloneStateGood state (turned m r point serving_ n) c
-clone_state_turned Accepted m r point serving_ n c le apart h = h
-clone_state_turned (CloneSnapshot own) m r point serving_ n c le apart h = h
-clone_state_turned (Copying served at) m r point serving_ n c le apart h = record { begun = le_trans h.begun le; later = h.later; serves = h.serves; bodies = h.bodies; all = h.all }
-clone_state_turned (CloneReleasing served at) m r point serving_ n c le apart h = record {
-  since = h.since;
-  begun = le_trans h.begun le;
-  later = h.later;
-  copied = h.copied;
-  bodies = h.bodies;
-  active = λ l lists. (let k = h.active l lists in record {
-    interval = k.interval;
-    kept = other_stays m r point k.interval k.kept (not_mine m r.namespace c.target_id k.interval.table (h.listed_of l k.interval lists k.kept k.tablet_is) (apart refl));
-    tablet_is = k.tablet_is;
-    slot_is = k.slot_is;
-    opened = k.opened;
-    from_is = k.from_is;
-  });
-  listed_of = λ l j lists there e. (let o = origin m r point j there in ap (owner_of m.catalog.owners) (sym o.table_is) ∙ h.listed_of l o.was lists o.kept (o.tablet_is ∙ e));
-  opens = λ i opened. h.opens i (open_was m r point serving_ n c.target_id i (apart refl) opened);
-}
-clone_state_turned (CloneComplete served at) m r point serving_ n c le apart h = h
-
 clone_turned : (ps : Parts) (activity : List Interval) (changes : List Change) (n : ℕ) (r : RestorationRecord) (point : ℕ) (serving_ : Id) (c : CloneRecord) → IsSwitch ps activity changes n r point serving_ → In c ps.master.clones
     → CloneGood (turned ps.master r point serving_ n) (after r point changes) c
 clone_turned ps activity changes n r point serving_ c s isin =
     let m = ps.master in
-    let h = s.inv.operations.clones c isin in
     let one = s.inv.operations.apart.restoration_ids in
-    let unfinished = unfinished_yet ps activity changes n r point serving_ s in
-    let unused : is_cloned c.state ≡ false → Uses c r.namespace → ⊥ = λ open_ uses. s.inv.operations.apart.one_operation r c s.there isin unfinished open_ uses in
-    let past : c.to < n = lt_of_lt_of_le h.past (le_of_lt s.before) in
-    let pairs : (p : TabletPair) → In p c.tablets → PairIn ps.master.slots ps.master.drawn ps.master.catalog.owners c p = λ p paired. (let g = h.pairs p paired in g) in
-    let sources : is_cloned c.state ≡ false → (p : TabletPair) → In p c.tablets → IsSource (turned ps.master r point serving_ n) c p = λ open_ p paired. (let k = h.sources open_ p paired in record {
-      interval = k.interval;
-      kept = other_stays m r point k.interval k.kept (not_mine m r.namespace c.source k.interval.table k.owned (λ e. unused open_ (inl e)));
-      tablet_is = k.tablet_is;
-      slot_is = k.slot_is;
-      low_is = k.low_is;
-      high_is = k.high_is;
-      active = k.active;
-      owned = k.owned;
-      pair = k.pair;
-      paired = k.paired;
-      source_is = k.source_is;
-      target_is = k.target_is;
-    }) in
-    let reserved : is_visible c.state ≡ false → (p : TabletPair) → In p c.tablets → IsReserved (turned ps.master r point serving_ n) p = λ unseen p paired. (let k = h.reserved unseen p paired in record {
-      free = λ j there at. (let o = origin m r point j there in k.free o.was o.kept (o.slot_is ∙ at));
-      unknown = λ j there e. (let o = origin m r point j there in k.unknown o.was o.kept (o.tablet_is ∙ e));
-      no_snapshot = k.no_snapshot;
-      no_restoration = λ q l there. in_mapped {A = RestorationRecord} {B = RestorationRecord} (entering r (Restoring point serving_) (listed_then m r point serving_)) (λ q. In l q.listed → l.tablet ≡ p.target → ⊥) m.restorations
-          (λ x x_in. by_record (λ x q. In l q.listed → l.tablet ≡ p.target → ⊥) m r (Restoring point serving_) (listed_then m r point serving_) x one s.there x_in
-          (λ lists e. (let z = line_is m r point serving_ l lists in k.unknown z.interval z.kept (ap (λ y. y.tablet) z.is ∙ e)))
-          (λ b lists e. k.no_restoration x l x_in lists e)) q there;
-    }) in
-    let no_tablet : is_visible c.state ≡ false → (i : Interval) → In i (activity_then ps.master r point) → owner_of ps.master.catalog.owners i.table ≡ Some c.target_id → ⊥ = λ unseen j there owner. (let o = origin m r point j there in h.no_tablet unseen o.was o.kept (ap (owner_of m.catalog.owners) o.table_is ∙ owner)) in
-    let no_table : is_visible c.state ≡ false → (r' : TableRecord) → In r' (restored_tables ps.master.catalog.tables r.namespace r.to point) → r'.namespace ≡ c.target_id → ⊥ = λ unseen t there named. h.no_table unseen t (table_was m r point c.target_id t (λ e. unused (visible_later c.state unseen) (inr e)) there named) named in
-    let unfixed : is_cloned c.state ≡ false → (to : ℕ) → is_fixed (after r point changes) c.target_id to ≡ true → ⊥ = λ open_ to fixed. elim (fixed_is r point changes c.target_id to fixed) [ inl k ↦ unused open_ (inr k.0) | inr old ↦ h.unfixed open_ to old ] in
-    let in_state : CloneStateGood c.state (turned ps.master r point serving_ n) c = clone_state_turned c.state m r point serving_ n c (le_of_lt s.before) (λ open_ e. unused open_ (inr e)) h.in_state in
-    assumption (past, pairs, sources, reserved, no_tablet, no_table, unfixed, in_state)
+    clone_goes (grounds m) (grounds (turned m r point serving_ n)) changes (after r point changes) (grounds_turned ps activity changes n r point serving_ s) m.restorations (turned m r point serving_ n).restorations c (λ open_.
+    let unused : Uses c r.namespace → ⊥ = λ uses. s.inv.operations.apart.one_operation r c s.there isin (unfinished_yet ps activity changes n r point serving_ s) open_ uses in
+    record {
+      space = space_turned m changes n r point serving_ c.target_id (λ e. unused (inr e));
+      lines = lines_turned m r point c.target_id c.listed (λ e. unused (inr e));
+      named = λ q there is. (q, (there, same_on q));
+      schedule = λ k there is. (k, (there, is));
+      source = λ p paired k. record {
+        interval = k.interval;
+        kept = other_stays m r point k.interval k.kept (not_mine m r.namespace c.source k.interval.table k.owned (λ e. unused (inl e)));
+        tablet_is = k.tablet_is;
+        slot_is = k.slot_is;
+        low_is = k.low_is;
+        high_is = k.high_is;
+        active = k.active;
+        owned = k.owned;
+        pair = k.pair;
+        paired = k.paired;
+        source_is = k.source_is;
+        target_is = k.target_is;
+      };
+      reserved = λ unseen p paired k. record {
+        free = λ j there at. (let o = origin m r point j there in k.free o.was o.kept (o.slot_is ∙ at));
+        unknown = λ j there e. (let o = origin m r point j there in k.unknown o.was o.kept (o.tablet_is ∙ e));
+        no_snapshot = k.no_snapshot;
+        no_restoration = λ q l there. in_mapped {A = RestorationRecord} {B = RestorationRecord} (entering r (Restoring point serving_) (listed_then m r point serving_)) (λ q. In l q.listed → l.tablet ≡ p.target → ⊥) m.restorations
+            (λ x x_in. by_record (λ x q. In l q.listed → l.tablet ≡ p.target → ⊥) m r (Restoring point serving_) (listed_then m r point serving_) x one s.there x_in
+            (λ lists e. (let z = line_is m r point serving_ l lists in k.unknown z.interval z.kept (ap (λ y. y.tablet) z.is ∙ e)))
+            (λ b lists e. k.no_restoration x l x_in lists e)) q there;
+      };
+      names = λ unseen q there free. free q there;
+      schedules = λ unseen k there is. (k, (there, is));
+    }) (s.inv.operations.clones c isin)
 
 -- All records
 

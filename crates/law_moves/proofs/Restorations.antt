@@ -2,24 +2,18 @@
 use Rattle.std.proofs.Common.{ℕ, ◌≡◌, ◌<◌, ◌+◌, List, [], ◌∷◌, Some, None, true, false, refl, sym, ap, subst, ◌∙◌, arith}
 use Rattle.std.specs.Option.{option_map, option_map_or, unwrap_or}
 use Rattle.std.proofs.lemmas.Bool.{true≢false}
-use Rattle.row_values.specs.Ids.{Restoration, Id}
-use Rattle.row_values.specs.Elements.{In}
-use Rattle.model.specs.Activity.{Interval}
+use Rattle.model.specs.Cluster.{RestorationKind as Restoration, Id, In, Interval, Listed, RestorationRecord, RestorationState, Fencing, Snapshotting, Switching, Restoring, Releasing, Restored, is_restored, unfinished_of, point_of, Advance, Master, Parts}
 use Rattle.model.specs.Journal.{Change as Made}
-use Rattle.model.specs.Records.{Listed, RestorationRecord, RestorationState, Fencing, Snapshotting, Switching, Restoring, Releasing, Restored, is_restored, unfinished_of, point_of}
 use Rattle.model.specs.Schedules.{serving}
 use Rattle.model.specs.Coordination.{unfinished_restoration, unfinished_clone}
-use Rattle.model.specs.Acts.{Advance}
 use Rattle.model.specs.Lists.{next_snapshot}
-use Rattle.model.specs.Parts.{Master, Parts}
 use Rattle.model.specs.Moves.{progress_of, restoration_progress, awaited_by_restoration, after_restoration, released, brought_back, restoration_moved, moved_of, advance}
 use Rattle.model.specs.History.{with_either, with_restoration}
 use Rattle.law_invariants.specs.Invariant.{Inv, Later}
 use Rattle.law_invariants.proofs.Ticking.{KeepsAll}
 use Rattle.law_invariants.proofs.Recording.{Records, recorded}
 use Rattle.law_invariants.proofs.Slots.{parts_with, records_keep}
-use Rattle.law_invariants.proofs.Acting.{alone_keeps}
-use Rattle.law_invariants.proofs.Advancing.{moves, advance_by, mapped_some}
+use Rattle.law_invariants.proofs.Advancing.{alone_keeps, moves, advance_by, mapped_some}
 use Rattle.law_invariants.proofs.Pending.{unfinished_restoration_is}
 use Rattle.law_invariants.proofs.Taking.{taken, MayTake, taken_onto}
 use Rattle.law_moves.proofs.Entering.{enters, entered_keeps}

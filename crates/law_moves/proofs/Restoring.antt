@@ -2,22 +2,14 @@
 use Rattle.std.proofs.Common.{ℕ, ◌≡◌, ◌≤◌, ◌<◌, ◌+◌, List, [], ◌∷◌, ◌++◌, Some, None, true, false, cond, ◌&&◌, ◌⊎◌, inl, inr, refl, sym, ap, subst, ◌∙◌, arith, not, le_trans, le_refl, le_of_lt}
 use Rattle.std.specs.Option.{option_or, option_map}
 use Rattle.std.proofs.lemmas.Bool.{true≢false, ltb-false, leb-false}
-use Rattle.row_values.specs.Ids.{Kind, Restoration, Id, same}
-use Rattle.row_values.specs.Elements.{In}
-use Rattle.row_values.specs.Slots.{same_slots}
-use Rattle.model.specs.Activity.{Interval}
-use Rattle.model.specs.Catalog.{owner_of}
+use Rattle.model.specs.Cluster.{Kind, RestorationKind as Restoration, Id, same, In, same_slots, Interval, owner_of, Fence, FenceKind, Mark, Listed, Schedule, RestorationRecord, Fencing, is_restored, point_of, schedule_with, Restore, Change, UnknownSchedule, Master, Parts, Drawn, BeginsRestoration}
 use Rattle.model.specs.Journal.{Change as Made}
-use Rattle.model.specs.Tablets.{Fence, FenceKind, Mark}
-use Rattle.model.specs.Records.{Listed, Schedule, RestorationRecord, Fencing, is_restored, point_of, schedule_with}
 use Rattle.model.specs.Schedules.{floor, low, least_with, least_low}
 use Rattle.model.specs.Stands.{awaited_in, awaited_of}
 use Rattle.model.specs.Drawn.{drawn_of}
-use Rattle.model.specs.Acts.{Restore, Change, UnknownSchedule}
 use Rattle.model.specs.Operations.{time_of_user, restoration_of, clone_with}
 use Rattle.model.specs.Cleanup.{floor_of}
 use Rattle.model.specs.Lists.{active_tablets, listing}
-use Rattle.model.specs.Parts.{Master, Parts, Drawn, BeginsRestoration}
 use Rattle.model.specs.Changes.{accepts, restore_checks, judge_restore, found_schedule, restore}
 use Rattle.model.specs.Changed.{next_restoration}
 use Rattle.law_store.proofs.Keys.{either_way}
@@ -27,13 +19,13 @@ use Rattle.law_invariants.proofs.Finding.{same_equal, in_append, in_added, in_fi
 use Rattle.law_invariants.proofs.Remembering.{has_low, floor_rises}
 use Rattle.law_invariants.proofs.Judging.{checked_is, found_is}
 use Rattle.law_invariants.proofs.Ticking.{refused_keeps, KeepsAll, by_judgement}
-use Rattle.law_invariants.proofs.Recording.{Records, recorded, RestorationCame, Onto}
+use Rattle.law_invariants.proofs.Recording.{same_on, Records, recorded, RestorationCame, Onto}
 use Rattle.law_invariants.proofs.Staying.{schedule_on, scheduled_on}
 use Rattle.law_invariants.proofs.Slots.{records_keep, done_mark}
-use Rattle.law_invariants.proofs.Acting.{alone_keeps}
+use Rattle.law_invariants.proofs.Advancing.{alone_keeps}
 use Rattle.law_invariants.proofs.Listing.{IsLineOf, listing_only, listing_has, active_only, active_has, one_place}
 use Rattle.law_invariants.proofs.Pending.{point_complete, pending_drawn, pending_unmoved, pending_stays, fence_stays, restoration_added}
-use Rattle.law_invariants.proofs.Using.{alone_added, same_on, schedule_with_is, NotUsed, not_used, none_restores, no_time}
+use Rattle.law_invariants.proofs.Using.{alone_added, schedule_with_is, NotUsed, not_used, none_restores, no_time}
 
 -- The restorations with one more
 

@@ -3,23 +3,17 @@ use Rattle.std.proofs.Common.{ℕ, ◌≡◌, ◌≤◌, ◌<◌, ◌+◌, List,
 use Rattle.std.specs.Prelude.{is_some}
 use Rattle.std.specs.List.{filter}
 use Rattle.std.proofs.lemmas.Bool.{true≢false}
-use Rattle.row_values.specs.Ids.{Kind, Schedule as ScheduleKind, Id, same}
-use Rattle.row_values.specs.Elements.{In}
-use Rattle.row_values.specs.Slots.{same_slots}
-use Rattle.model.specs.Activity.{Interval}
+use Rattle.model.specs.Cluster.{Kind, ScheduleKind, Id, same, In, same_slots, Interval, Schedule, schedule_of, unfinished_of, ScheduledNamespace, scheduled_in, CreateSchedule, DeleteSchedule, Change, Master, Parts, Drawn, MakesSchedule, DeletesSchedule}
 use Rattle.model.specs.Journal.{Change as Made}
-use Rattle.model.specs.Records.{Schedule, schedule_of, unfinished_of, ScheduledNamespace, scheduled_in}
 use Rattle.model.specs.Schedules.{floor, low, complete_to, least_low, least_with}
 use Rattle.model.specs.Drawn.{drawn_of}
-use Rattle.model.specs.Acts.{CreateSchedule, DeleteSchedule, Change}
 use Rattle.model.specs.Operations.{user, time_of_user}
 use Rattle.model.specs.Cleanup.{floor_of}
 use Rattle.model.specs.Looks.{found_namespace}
-use Rattle.model.specs.Parts.{Master, Parts, Drawn, MakesSchedule, DeletesSchedule}
 use Rattle.model.specs.Changes.{accepts, create_schedule_checks, judge_create_schedule, create_schedule, found_schedule, delete_schedule_checks, judge_delete_schedule, delete_schedule}
 use Rattle.model.specs.Changed.{next_schedule, without_schedule, begin_scheduled, still_scheduled}
 use Rattle.law_store.proofs.Keys.{either_way}
-use Rattle.law_invariants.specs.Operations.{ScheduleGood, OperationsGood, ScheduledGood}
+use Rattle.law_invariants.specs.Operations.{Alone, ScheduleGood, OperationsGood, ScheduledGood}
 use Rattle.law_invariants.specs.Invariant.{Inv, Later}
 use Rattle.law_invariants.proofs.Finding.{none_or_some, same_equal, same_self, in_append, in_added, in_first, filter_in, in_filter, in_second}
 use Rattle.law_invariants.proofs.Names.{named_is}
@@ -28,12 +22,12 @@ use Rattle.law_invariants.proofs.Remembering.{floor_rises, lows_left, lows_added
 use Rattle.law_invariants.proofs.Ticking.{by_judgement, refused_keeps, KeepsAll}
 use Rattle.law_invariants.proofs.Judging.{checked_is}
 use Rattle.law_invariants.proofs.Cataloguing.{namespace_is}
-use Rattle.law_invariants.proofs.Recording.{Records, recorded, WasSchedule, NewSchedule, Onto}
+use Rattle.law_invariants.proofs.Recording.{same_on, Records, recorded, WasSchedule, NewSchedule, Onto}
 use Rattle.law_invariants.proofs.Staying.{schedule_on, scheduled_on}
 use Rattle.law_invariants.proofs.Slots.{records_keep}
-use Rattle.law_invariants.proofs.Acting.{alone_keeps}
+use Rattle.law_invariants.proofs.Advancing.{alone_keeps}
 use Rattle.law_invariants.proofs.Pending.{point_complete, pending_drawn, pending_unmoved, pending_stays, fence_stays}
-use Rattle.law_invariants.proofs.Using.{alone_added, same_on, schedule_of_is, schedule_is, unfinished_none, neither_is, NotUsed, not_used, no_time, schedule_there}
+use Rattle.law_invariants.proofs.Using.{alone_added, schedule_of_is, schedule_is, unfinished_none, neither_is, NotUsed, not_used, no_time, schedule_there}
 
 abbrev made_schedule : Id → ℕ → ℕ → ℕ → Master → Schedule
 made_schedule ns interval retention n m = record { id = next_schedule m; namespace = ns; interval = interval; retention = retention; made = n; kept_low = n; last = None }
@@ -298,20 +292,10 @@ deleted_onto ps activity changes n s before there calm free inv =
       clock = le_of_lt before;
       drawn = λ kind. le_refl _;
       floors = floors;
-      apart = record {
-        schedule_ids = λ x y in_x in_y e. a.schedule_ids x y (old x in_x) (old y in_y) e;
-        one_scheduled = λ x y in_x in_y e. a.one_scheduled x y (was x in_x) (was y in_y) e;
-        snapshots_rise = a.snapshots_rise;
-        one_snapshot = a.one_snapshot;
-        restoration_ids = a.restoration_ids;
-        one_restoration = a.one_restoration;
-        clone_ids = a.clone_ids;
-        one_clone = a.one_clone;
-        one_operation = a.one_operation;
-        one_target = a.one_target;
-        one_made = a.one_made;
-        one_name = a.one_name;
-      };
+      apart = (
+          let ids : Alone (λ t. t.id) (filter test m.schedules) = λ x y in_x in_y e. a.schedule_ids x y (old x in_x) (old y in_y) e in
+          let one : Alone (λ k. k.namespace) (filter still m.scheduled) = λ x y in_x in_y e. a.one_scheduled x y (was x in_x) (was y in_y) e in
+          assumption (ids, one, a));
       complete = λ k isin. le_trans (inv.master.complete k (was k isin)) (le_of_lt before);
       schedule = λ t isin. schedule_on m w t (le_of_lt before) (λ kind. le_refl _)
           (λ k k_in is. (k, (in_filter m.scheduled still k k_in (schedule_in (filter test m.schedules) t k.namespace isin (sym is)), (refl, refl)))) (ops.schedules t (old t isin));

@@ -2,22 +2,17 @@
 use Rattle.std.proofs.Common.{ℕ, ◌≡◌, ◌<◌, List, [], ◌∷◌, true, refl, sym, ap}
 use Rattle.std.specs.Prelude.{is_some}
 use Rattle.std.proofs.lemmas.Bool.{true≢false}
-use Rattle.row_values.specs.Ids.{Id}
-use Rattle.row_values.specs.Slots.{same_slots}
-use Rattle.model.specs.Activity.{Interval}
+use Rattle.model.specs.Cluster.{Id, same_slots, Interval, unfinished_of, TakeSnapshot, Change, Parts, TakesSnapshot}
 use Rattle.model.specs.Journal.{Change as Made}
-use Rattle.model.specs.Records.{unfinished_of}
-use Rattle.model.specs.Acts.{TakeSnapshot, Change}
 use Rattle.model.specs.Operations.{user}
 use Rattle.model.specs.Lists.{next_snapshot}
-use Rattle.model.specs.Parts.{Parts, TakesSnapshot}
 use Rattle.model.specs.Changes.{accepts, found_schedule, take_snapshot_checks, judge_take_snapshot, take_snapshot}
 use Rattle.law_invariants.specs.Invariant.{Inv, Later}
 use Rattle.law_invariants.proofs.Ticking.{by_judgement, refused_keeps, KeepsAll}
 use Rattle.law_invariants.proofs.Judging.{checked_is}
 use Rattle.law_invariants.proofs.Recording.{recorded}
 use Rattle.law_invariants.proofs.Slots.{records_keep}
-use Rattle.law_invariants.proofs.Acting.{alone_keeps}
+use Rattle.law_invariants.proofs.Advancing.{alone_keeps}
 use Rattle.law_invariants.proofs.Using.{schedule_is, neither_is, not_used}
 use Rattle.law_invariants.proofs.Taking.{taken, MayTake, taken_onto}
 

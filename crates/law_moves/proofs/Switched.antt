@@ -3,20 +3,12 @@ use Rattle.std.proofs.Common.{ℕ, ◌≡◌, ◌≤◌, ◌<◌, List, [], ◌�
 use Rattle.std.specs.List.{filter}
 use Rattle.std.specs.Option.{option_map_or}
 use Rattle.std.proofs.lemmas.Bool.{true≢false}
-use Rattle.std.proofs.lemmas.Bool.Decides.{nat_tests}
-use Rattle.row_values.specs.Ids.{Restoration, Id}
-use Rattle.row_values.specs.Elements.{In}
-use Rattle.model.specs.Times.{ended, ended_by, before_end}
-use Rattle.model.specs.Activity.{Interval, active_at}
-use Rattle.model.specs.Catalog.{owner_of, owns}
+use Rattle.model.specs.Cluster.{RestorationKind as Restoration, Id, In, ended, ended_by, before_end, Interval, active_at, owner_of, owns, RestorationRecord, Switching, Advance, Master, Parts}
 use Rattle.model.specs.Restored.{begun_at, end_namespace_tablets}
 use Rattle.model.specs.Lists.{tablets_active_at}
 use Rattle.model.specs.Journal.{Change}
-use Rattle.model.specs.Records.{RestorationRecord, Switching}
 use Rattle.model.specs.Coordination.{unfinished_clone}
 use Rattle.model.specs.Cleanup.{floor_of}
-use Rattle.model.specs.Acts.{Advance}
-use Rattle.model.specs.Parts.{Master, Parts}
 use Rattle.model.specs.Moves.{restoration_moved, after_restoration, advance}
 use Rattle.model.specs.History.{with_either, with_restoration}
 use Rattle.law_invariants.specs.Remembered.{Remembered, IsForgotten}
@@ -24,8 +16,7 @@ use Rattle.law_invariants.specs.Invariant.{Inv, Later}
 use Rattle.law_invariants.proofs.Finding.{in_append, in_mapped, in_filter, filter_in, both_pass}
 use Rattle.law_invariants.proofs.Ticking.{KeepsAll}
 use Rattle.law_invariants.proofs.Undoing.{owned_is}
-use Rattle.law_invariants.proofs.Acting.{alone_keeps}
-use Rattle.law_invariants.proofs.Advancing.{moves}
+use Rattle.law_invariants.proofs.Advancing.{alone_keeps, moves}
 use Rattle.law_invariants.proofs.Serving.{floor_restores}
 use Rattle.law_moves.proofs.Counting.{ended_in, of_then, switched_covers}
 use Rattle.law_moves.proofs.Switching.{IsSwitch, activity_then, turned, after, unfinished_yet, good_yet, ended_there, begun_there, origin}
@@ -34,6 +25,7 @@ use Rattle.law_moves.proofs.Recorded.{floors_turned, operations_turned}
 use Rattle.law_moves.proofs.Ordered.{works_turned}
 use Rattle.law_moves.proofs.Restorations.{Moved, moved_is, advance_restoration_by}
 use Rattle.law_invariants.proofs.Parting.{part_append, part_mapped, part_filtered}
+use Rattle.law_invariants.proofs.Remembering.{ended_later, forgotten_later}
 
 -- the activity of all tablets after the switch
 abbrev all_then : Master → RestorationRecord → ℕ → List Interval → List Interval
@@ -57,26 +49,10 @@ all_is P m r point activity old begun j isin = elim (in_append (end_namespace_ta
 
 -- Forgotten intervals
 
-ended_later : (to : Option ℕ) (a b : ℕ) → a ≤ b → ended_by a to ≡ true → ended_by b to ≡ true
-ended_later None a b le h = absurd (true≢false (sym h))
-ended_later (Some e) a b le h = grind (arith, nat_tests)
-
 closed_stays : (b : Bool) (to : Option ℕ) (x point : ℕ) → ended_by x to ≡ true → cond b (ended point to) to ≡ to
 closed_stays b None x point h = absurd (true≢false (sym h))
 closed_stays true (Some e) x point h = refl
 closed_stays false (Some e) x point h = refl
-
-forgotten_stays : (ps : Parts) (activity : List Interval) (changes : List Change) (n : ℕ) (r : RestorationRecord) (point : ℕ) (serving_ : Id) (i : Interval) → IsSwitch ps activity changes n r point serving_ → IsForgotten ps.master i → IsForgotten (turned ps.master r point serving_ n) i
-forgotten_stays ps activity changes n r point serving_ i s h = record {
-  below = by_owner (owner_of ps.master.catalog.owners i.table) h.below;
-  over = ended_later i.to ps.master.clock n (le_of_lt s.before) h.over;
-  unknown = λ j there e. (let o = origin ps.master r point j there in h.unknown o.was o.kept (o.tablet_is ∙ e));
-}
-  where
-    by_owner : (owner : Option Id) → ended_by (option_map_or (λ ns. floor_of ps.master ns ps.master.clock) owner ps.master.clock) i.to ≡ true
-        → ended_by (option_map_or (λ ns. floor_of (turned ps.master r point serving_ n) ns n) owner n) i.to ≡ true
-    by_owner None k = ended_later i.to ps.master.clock n (le_of_lt s.before) k
-    by_owner (Some ns) k = ended_later i.to (floor_of ps.master ns ps.master.clock) (floor_of (turned ps.master r point serving_ n) ns n) (floors_turned ps activity changes n r point serving_ ns s) k
 
 -- a forgotten interval of the namespace had ended by the time
 forgotten_then : (ps : Parts) (activity : List Interval) (changes : List Change) (n : ℕ) (r : RestorationRecord) (point : ℕ) (serving_ : Id) (i : Interval) → IsSwitch ps activity changes n r point serving_ → owner_of ps.master.catalog.owners i.table ≡ Some r.namespace
@@ -111,7 +87,8 @@ remembered_turned ps activity changes n r point serving_ s =
             | inr gone ↦ (
                 let with_end : Option ℕ → Interval = λ to. record i { to = to } in
                 let is : ended_in m.catalog.owners r.namespace point i ≡ i = ap with_end (closed_stays (owns m.catalog.owners r.namespace i.table) i.to m.clock point gone.over) in
-                inr (subst (IsForgotten (turned m r point serving_ n)) (sym is) (forgotten_stays ps activity changes n r point serving_ i s gone)))
+                inr (subst (IsForgotten (turned m r point serving_ n)) (sym is) (forgotten_later m (turned m r point serving_ n) i (le_of_lt s.before) (λ ns. floors_turned ps activity changes n r point serving_ ns s) refl
+                (λ j known e. let o = origin m r point j known in gone.unknown o.was o.kept (o.tablet_is ∙ e)) gone)))
           ])
           (λ i there owner active. elim (h.each i there) [
             | inl here ↦ inl (begun_there m r point i here owner active)

@@ -3,24 +3,17 @@ use Rattle.std.specs.Option.{option_or}
 use Rattle.std.proofs.Common.{ℕ, ◌≡◌, ◌<◌, List, [], ◌∷◌, ◌++◌, map, Option, Some, None, Bool, true, false, cond, ◌&&◌, ◌||◌, ◌⊎◌, inl, inr, refl, sym, ap, subst, ◌∙◌, arith, not, le_trans, le_of_lt}
 use Rattle.std.specs.List.{list_any}
 use Rattle.std.proofs.lemmas.Bool.{true≢false}
-use Rattle.row_values.specs.Ids.{Id, same}
-use Rattle.row_values.specs.Elements.{In}
-use Rattle.model.specs.Times.{ended}
-use Rattle.model.specs.Activity.{Interval, active_at}
-use Rattle.model.specs.Catalog.{owner_of, owns, is_owned_by}
+use Rattle.model.specs.Cluster.{Id, same, In, ended, Interval, active_at, owner_of, owns, is_owned_by, RestoreFrom, Hide, RestoreFromKind, Mark, is_done, Listed, RestorationRecord, RestorationState, Switching, Restoring, is_restored, point_of, unsent, Master, Parts}
 use Rattle.model.specs.Restored.{begun_at, end_namespace_tablets, restored_activity, restored_tables, switch_list, concerned, version_of}
 use Rattle.model.specs.Journal.{Change}
 use Rattle.model.specs.Lists.{once, intervals_in, active_tablets, tablets_active_at}
-use Rattle.model.specs.Tablets.{RestoreFrom, Hide, RestoreFromKind, Mark, is_done}
-use Rattle.model.specs.Records.{Listed, RestorationRecord, RestorationState, Switching, Restoring, is_restored, point_of, unsent}
 use Rattle.model.specs.Stands.{awaited_in, awaited_of, is_restore}
-use Rattle.model.specs.Parts.{Master, Parts}
 use Rattle.law_store.proofs.Keys.{either_way}
 use Rattle.law_invariants.specs.Operations.{has_switched, is_switched, IsOpenOf, SwitchingGood, RestorationStateGood}
 use Rattle.law_invariants.specs.Orders.{stage_of_restoration, SwitchingSlot, RestorationSlot}
 use Rattle.law_invariants.specs.Invariant.{Inv}
 use Rattle.law_invariants.proofs.Finding.{in_append, in_first, in_second, in_mapped, map_in, in_filter, filter_in, same_equal, same_self, both_pass, passes_both, first_fails}
-use Rattle.law_invariants.proofs.Placing.{ordered_has, ordered_only}
+use Rattle.law_invariants.proofs.Parting.{ordered_has, ordered_only}
 use Rattle.law_invariants.proofs.Undoing.{owned_is}
 use Rattle.law_invariants.proofs.Listing.{once_only, once_has, namespace_only, namespace_has, active_only, active_has, one_place}
 use Rattle.law_invariants.proofs.Serving.{floor_restores}

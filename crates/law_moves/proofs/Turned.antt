@@ -3,19 +3,11 @@ use Rattle.std.proofs.Common.{ℕ, ◌≡◌, ◌≤◌, ◌<◌, List, map, Opt
 use Rattle.std.specs.Option.{is_some}
 use Rattle.std.proofs.lemmas.Bool.{true≢false}
 use Rattle.std.proofs.lemmas.Bool.Decides.{nat_tests}
-use Rattle.row_values.specs.declared.value.RowOp.{RowOp}
-use Rattle.row_values.specs.Ids.{Id, same}
-use Rattle.row_values.specs.Elements.{In}
-use Rattle.model.specs.Times.{ended, ended_by, is_open, before_end}
-use Rattle.model.specs.Activity.{Interval, active_at}
-use Rattle.model.specs.Catalog.{owner_of, owns}
+use Rattle.model.specs.Cluster.{RowOp, Id, same, In, ended, ended_by, is_open, before_end, Interval, active_at, owner_of, owns, Presence, HiddenPart, is_serving, FrozenSet, RestorationRecord, RestorationState, Fencing, Snapshotting, Switching, Restoring, Releasing, Restored, is_restored, point_of, Parts}
 use Rattle.model.specs.Restored.{begun_at}
 use Rattle.model.specs.Journal.{Change, NamespaceRestored, RowChanged, table_at, row_at}
-use Rattle.model.specs.Tablets.{Presence, HiddenPart, is_serving, FrozenSet}
-use Rattle.model.specs.Records.{RestorationRecord, RestorationState, Fencing, Snapshotting, Switching, Restoring, Releasing, Restored, is_restored, point_of}
 use Rattle.model.specs.Stands.{awaited_in, awaited_of, before_restore}
 use Rattle.model.specs.Right.{is_fixed}
-use Rattle.model.specs.Parts.{Parts}
 use Rattle.law_store.proofs.Keys.{either_way}
 use Rattle.law_invariants.specs.Operations.{is_switched, has_switched, IsSwitchedBy, AfterRowsOf, JournalGood}
 use Rattle.law_invariants.specs.Orders.{IsBehind, RowsPast}

@@ -2,10 +2,7 @@
 use Rattle.std.proofs.Common.{ℕ, ◌≡◌, ◌≤◌, ◌<◌, List, Option, Some, None, Bool, true, false, cond, ◌&&◌, refl, sym, ap, ◌∙◌, arith, leb, le-leb}
 use Rattle.std.specs.Option.{is_some}
 use Rattle.std.proofs.lemmas.Bool.Decides.{nat_tests}
-use Rattle.row_values.specs.Rows.{absent_row}
-use Rattle.row_values.specs.declared.rows.Row.{Row}
-use Rattle.row_values.specs.Ids.{Id, same}
-use Rattle.model.specs.Catalog.{Owner, owner_of, owns, is_owned_by}
+use Rattle.model.specs.Cluster.{absent_row, Row, Id, same, Owner, owner_of, owns, is_owned_by}
 use Rattle.model.specs.Journal.{Change, NamespaceRestored, TableView, is_in, restored_table, restored_row, table_at, row_at}
 use Rattle.model.specs.History.{with}
 use Rattle.law_store.proofs.Keys.{either_way}

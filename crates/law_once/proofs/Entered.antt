@@ -1,11 +1,7 @@
 -- What is told of the master's records goes on, whatever the master is told.
 use Rattle.std.proofs.Common.{◌≡◌, ◌≢◌, ℕ, ◌≤◌, ◌+◌, Bool, true, false, List, [], ◌∷◌, inl, inr, refl, sym, ap, subst, ◌∙◌, arith, not, le_trans, le_refl, if◌then◌else◌, ◌++◌, Option, Some, None}
-use Rattle.row_values.specs.Ids.{Id, Kind, Namespace, Table, Tablet, Schedule, Snapshot, Restoration, Clone, same}
-use Rattle.row_values.specs.Elements.{In}
+use Rattle.model.specs.Cluster.{Id, Kind, NamespaceKind as Namespace, TableKind as Table, TabletKind as Tablet, ScheduleKind as Schedule, Snapshot, RestorationKind as Restoration, CloneKind as Clone, same, In, Release, Listed, Schedule as ScheduleRecord, SnapshotRecord, RestorationRecord, RestorationState, CloneRecord, CloneState, State, IsCreating, IsFencing, IsAccepted, acked_at, point_of, restoration_state, Fencing, Snapshotting, Switching, Restoring, Releasing, Restored, Accepted, CloneSnapshot, Copying, CloneReleasing, CloneComplete, IsComplete, IsSnapshot, IsSwitching, IsRestoring, IsReleasing, IsRestored, IsCopying, TabletPair, schedule_of, Drawn, Master, BeginsRestoration, BeginsClone, Ticks, MakesNamespace, DropsNamespace, MakesTable, AddsColumn, DropsColumn, RenamesTable, DropsTable, SplitsTablet, MakesSchedule, EditsSchedule, DeletesSchedule, TakesSnapshot, Sends, Acks, Unsends, Moves, Removes, Prunes, Restarts, MasterAct}
 use Rattle.model.specs.Journal.{Change}
-use Rattle.model.specs.Tablets.{Release}
-use Rattle.model.specs.Records.{Listed, Schedule as ScheduleRecord, SnapshotRecord, RestorationRecord, RestorationState, CloneRecord, CloneState, State, IsCreating, IsFencing, IsAccepted, acked_at, point_of, restoration_state, Fencing, Snapshotting, Switching, Restoring, Releasing, Restored, Accepted, CloneSnapshot, Copying, CloneReleasing, CloneComplete, IsComplete, IsSnapshot, IsSwitching, IsRestoring, IsReleasing, IsRestored, IsCopying, TabletPair, schedule_of}
-use Rattle.model.specs.Parts.{Drawn, Master, BeginsRestoration, BeginsClone, Ticks, MakesNamespace, DropsNamespace, MakesTable, AddsColumn, DropsColumn, RenamesTable, DropsTable, SplitsTablet, MakesSchedule, EditsSchedule, DeletesSchedule, TakesSnapshot, Sends, Acks, Unsends, Moves, Removes, Prunes, Restarts, MasterAct}
 use Rattle.model.specs.Lists.{new_snapshot, next_snapshot, with_snapshot}
 use Rattle.model.specs.Changed.{new_clone, next_clone, next_restoration}
 use Rattle.model.specs.Cleanup.{removed_of}
@@ -92,12 +88,7 @@ removed_told Snapshot target n m es le h = record {
   restorations = h.restorations;
   clones = h.clones;
 }
-removed_told Namespace target n m es le h = quiet m _ es le (same_drawn m.drawn) refl refl refl h
-removed_told Table target n m es le h = quiet m _ es le (same_drawn m.drawn) refl refl refl h
-removed_told Tablet target n m es le h = quiet m _ es le (same_drawn m.drawn) refl refl refl h
-removed_told Schedule target n m es le h = quiet m _ es le (same_drawn m.drawn) refl refl refl h
-removed_told Restoration target n m es le h = quiet m _ es le (same_drawn m.drawn) refl refl refl h
-removed_told Clone target n m es le h = quiet m _ es le (same_drawn m.drawn) refl refl refl h
+removed_told _ target n m es le h = quiet m _ es le (same_drawn m.drawn) refl refl refl h
 
 -- A record more
 
@@ -370,10 +361,7 @@ moved_told : (kind : Kind) (operation : Id) (n : ℕ) (m : Master) (changes : Li
 moved_told Snapshot operation n m changes es le ops h = snapshot_found (unfinished_snapshot m.snapshots operation) operation n m changes es le refl ops h
 moved_told Restoration operation n m changes es le ops h = restoration_found (unfinished_restoration m.restorations operation) operation n m changes es le refl ops h
 moved_told Clone operation n m changes es le ops h = clone_found (unfinished_clone m.clones operation) operation n m changes es le refl ops h
-moved_told Namespace operation n m changes es le ops h = quiet m _ es le (same_drawn m.drawn) refl refl refl h
-moved_told Table operation n m changes es le ops h = quiet m _ es le (same_drawn m.drawn) refl refl refl h
-moved_told Tablet operation n m changes es le ops h = quiet m _ es le (same_drawn m.drawn) refl refl refl h
-moved_told Schedule operation n m changes es le ops h = quiet m _ es le (same_drawn m.drawn) refl refl refl h
+moved_told _ operation n m changes es le ops h = quiet m _ es le (same_drawn m.drawn) refl refl refl h
 
 -- Whatever the master is told
 
@@ -388,18 +376,7 @@ told_on (MakesNamespace name) n m changes es le ops h = quiet m _ es le (grown m
 told_on (MakesTable namespace name columns slots) n m changes es le ops h = quiet m _ es le (grown m.drawn _ (omega arith) (omega arith) (omega arith) (omega arith) (omega arith) (omega arith) (omega arith)) refl refl refl h
 told_on (SplitsTablet parent code low_slot high_slot) n m changes es le ops h = quiet m _ es le (grown m.drawn _ (omega arith) (omega arith) (omega arith) (omega arith) (omega arith) (omega arith) (omega arith)) refl refl refl h
 told_on (MakesSchedule namespace interval retention) n m changes es le ops h = quiet m _ es le (grown m.drawn _ (omega arith) (omega arith) (omega arith) (omega arith) (omega arith) (omega arith) (omega arith)) refl refl refl h
-told_on Ticks n m changes es le ops h = quiet m _ es le (same_drawn m.drawn) refl refl refl h
-told_on (DropsNamespace namespace) n m changes es le ops h = quiet m _ es le (same_drawn m.drawn) refl refl refl h
-told_on (AddsColumn table name kind) n m changes es le ops h = quiet m _ es le (same_drawn m.drawn) refl refl refl h
-told_on (DropsColumn table column) n m changes es le ops h = quiet m _ es le (same_drawn m.drawn) refl refl refl h
-told_on (RenamesTable table name) n m changes es le ops h = quiet m _ es le (same_drawn m.drawn) refl refl refl h
-told_on (DropsTable table) n m changes es le ops h = quiet m _ es le (same_drawn m.drawn) refl refl refl h
-told_on (EditsSchedule schedule interval retention) n m changes es le ops h = quiet m _ es le (same_drawn m.drawn) refl refl refl h
-told_on (DeletesSchedule schedule) n m changes es le ops h = quiet m _ es le (same_drawn m.drawn) refl refl refl h
-told_on (Sends operation slot) n m changes es le ops h = quiet m _ es le (same_drawn m.drawn) refl refl refl h
-told_on (Unsends operation slot) n m changes es le ops h = quiet m _ es le (same_drawn m.drawn) refl refl refl h
-told_on Prunes n m changes es le ops h = quiet m _ es le (same_drawn m.drawn) refl refl refl h
-told_on Restarts n m changes es le ops h = quiet m _ es le (same_drawn m.drawn) refl refl refl h
+told_on _ n m changes es le ops h = quiet m _ es le (same_drawn m.drawn) refl refl refl h
 
 -- and numbers only grow
 
@@ -434,10 +411,7 @@ moved_grows Clone operation n m of = found (unfinished_clone m.clones operation)
 
     state_grows : (state : CloneState) (c : CloneRecord) → drawn_of of m.drawn ≤ drawn_of of (clone_moved state c n m).drawn
     state_grows Accepted c = begun_grows (serving_clone m c) c
-    state_grows (CloneSnapshot own) c = le_refl _
-    state_grows (Copying serving at) c = le_refl _
-    state_grows (CloneReleasing serving at) c = le_refl _
-    state_grows (CloneComplete serving at) c = le_refl _
+    state_grows _ c = le_refl _
 
     found : (o : Option CloneRecord) → drawn_of of m.drawn ≤ drawn_of of (option_map_or (λ c. clone_moved c.state c n m) o (record m { clock = n })).drawn
     found None = le_refl _

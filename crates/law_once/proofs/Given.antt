@@ -1,14 +1,10 @@
 -- Where a command that a tablet was given comes from, and that the record of its operation entered the state that gives it.
-use Rattle.std.proofs.Common.{◌≡◌, ℕ, ◌<◌, map, eqb, lt_trans, Bool, true, false, List, [], ◌∷◌, ◌++◌, ◌||◌, ◌⊎◌, inl, inr, refl, sym, ap, subst, ◌∙◌, arith, if◌then◌else◌}
-use Rattle.std.proofs.lemmas.Bool.{cond_both, true≢false}
-use Rattle.row_values.specs.Ids.{Id, same}
-use Rattle.row_values.specs.Elements.{In}
-use Rattle.row_values.specs.declared.rows.KeyedRow.{KeyedRow}
+use Rattle.std.proofs.Common.{◌≡◌, ℕ, ◌<◌, lt_trans, Bool, true, false, List, [], ◌∷◌, ◌++◌, ◌||◌, ◌⊎◌, inl, inr, refl, sym, ap, subst, ◌∙◌, arith, if◌then◌else◌}
+use Rattle.std.proofs.lemmas.Bool.{true≢false}
+use Rattle.model.specs.Cluster.{Id, same, In, KeyedRow, Listed, RestorationRecord, RestorationState, Fencing, Snapshotting, Switching, Restoring, Releasing, Restored, CloneRecord, CloneState, Accepted, CloneSnapshot, Copying, CloneReleasing, CloneComplete, State, IsFencing, IsRestoring, IsReleasing, IsCopying, is_restored, is_cloned, Master}
 use Rattle.model.specs.Journal.{Change}
-use Rattle.model.specs.Tablets.{Told, act_for, Tablet, TabletAct, Clock, Make, Child, SetVersion, HideSince, Write, RaiseCutoff, Compact, Offer, Process, Clear, DropFrozen, Restart, Body, Fence, Freeze, RestoreFrom, Hide, Copy, Release, BodyKind, Command, Mark, kind_of, holds_command, is_done, effect, obeyed, processed}
-use Rattle.model.specs.Records.{Listed, RestorationRecord, RestorationState, Fencing, Snapshotting, Switching, Restoring, Releasing, Restored, CloneRecord, CloneState, Accepted, CloneSnapshot, Copying, CloneReleasing, CloneComplete, State, IsFencing, IsRestoring, IsReleasing, IsCopying, is_restored, is_cloned}
+use Rattle.model.specs.Tablets.{Tablet, TabletAct, Clock, Make, Child, SetVersion, HideSince, Write, RaiseCutoff, Compact, Offer, Process, Clear, DropFrozen, Restart, Body, Fence, Freeze, RestoreFrom, Hide, Copy, Release, BodyKind, Command, Mark, kind_of, holds_command, is_done, effect, obeyed, processed}
 use Rattle.model.specs.Stands.{was_given}
-use Rattle.model.specs.Parts.{Master}
 use Rattle.model.specs.Entering.{EnteredBefore, Entering, state_giving, states_of, states_to}
 use Rattle.law_store.proofs.Keys.{either_way}
 use Rattle.law_invariants.specs.Operations.{CloneStateGood, IsAfterSwitch, OperationsGood, RestorationStateGood}
@@ -29,13 +25,9 @@ given true b h = refl
 given false b (inl e) = absurd (true≢false (sym e))
 given false b (inr e) = e
 
-done_of_body : (b : Body) (operation tablet : Id) (rows : List KeyedRow) (t : Tablet) → (obeyed b operation tablet rows t).done ≡ t.done
+pub done_of_body : (b : Body) (operation tablet : Id) (rows : List KeyedRow) (t : Tablet) → (obeyed b operation tablet rows t).done ≡ t.done
 done_of_body Fence operation tablet rows t = refl
-done_of_body (Freeze snapshot at) operation tablet rows t = refl
-done_of_body (RestoreFrom snapshot to point version) operation tablet rows t = refl
-done_of_body (Hide ended) operation tablet rows t = refl
-done_of_body (Copy source snapshot to stamp table low high version) operation tablet rows t = refl
-done_of_body (Release cutoff) operation tablet rows t = refl
+done_of_body _ operation tablet rows t = refl
 
 processed_from : (inbox : List Command) (rows : List KeyedRow) (n : ℕ) (t : Tablet) (operation : Id) (kind : BodyKind) → t.inbox ≡ inbox → was_given (processed inbox rows n t) operation kind ≡ true → was_given t operation kind ≡ true
 processed_from [] rows n t operation kind is e = e
@@ -62,19 +54,13 @@ offered_from false c t operation kind e = either_is (holds_command (t.inbox ++ c
     (λ did. inl (given _ _ (inr did)))
 
 pub given_from : (a : TabletAct) (n : ℕ) (t : Tablet) (operation : Id) (kind : BodyKind) → was_given (effect a n t) operation kind ≡ true → GivenFrom a t operation kind
-given_from Clock n t operation kind e = inl e
 given_from (Make tablet table low high version) n t operation kind e = absurd (true≢false (sym e))
 given_from (Child tablet table low high version versions cutoff) n t operation kind e = absurd (true≢false (sym e))
-given_from (SetVersion version) n t operation kind e = inl e
-given_from (HideSince ended) n t operation kind e = inl e
-given_from (Write batch) n t operation kind e = inl e
-given_from (RaiseCutoff to) n t operation kind e = inl e
-given_from Compact n t operation kind e = inl e
 given_from (Offer c) n t operation kind e = offered_from (is_done t.done c.operation (kind_of c.body) || holds_command t.inbox c.operation (kind_of c.body)) c t operation kind e
 given_from (Process rows) n t operation kind e = inl (processed_from t.inbox rows n t operation kind refl e)
 given_from Clear n t operation kind e = absurd (true≢false (sym e))
-given_from (DropFrozen snapshot) n t operation kind e = inl e
 given_from Restart n t operation kind e = inl (given _ _ (inr e))
+given_from _ n t operation kind e = inl e
 
 -- The record
 
@@ -92,22 +78,18 @@ entered_at (x ∷ es) id state states e = either_way (same x.operation id)
 abbrev pub GivenAt : List Entering → Id → BodyKind → Type 0
 GivenAt es id kind = (at : ℕ) × In (enters id (state_giving kind) at) es
 
-after_switch : (b : Body) (r : RestorationRecord) (point : ℕ) (serving : Id) → IsAfterSwitch r point serving b → state_giving (kind_of b) ≡ IsRestoring
+after_switch : (b : Body) (r : RestorationRecord) (point : ℕ) (serving : Id) → IsAfterSwitch r.to point serving b → state_giving (kind_of b) ≡ IsRestoring
 after_switch (RestoreFrom snapshot to at version) r point serving h = refl
 after_switch (Hide ended) r point serving h = refl
-after_switch Fence r point serving h = absurd h
-after_switch (Freeze snapshot at) r point serving h = absurd h
-after_switch (Copy source snapshot to stamp table low high version) r point serving h = absurd h
-after_switch (Release cutoff) r point serving h = absurd h
+after_switch _ r point serving h = absurd h
 
 by_restoration : (state : RestorationState) (m : Master) (changes : List Change) (es : List Entering) (r : RestorationRecord) (l : Listed) → RestorationStateGood state m changes r → In l r.listed → states_of r.id es ≡ states_to state → is_restored state ≡ false → GivenAt es r.id (kind_of l.body)
 by_restoration Fencing m changes es r l h isin states open_ = subst (λ b. GivenAt es r.id (kind_of b)) (sym (h.bodies l isin)) (entered_at es r.id IsFencing _ states)
-by_restoration (Snapshotting point own) m changes es r l h isin states open_ = absurd (none_in r.listed l h.empty isin)
-by_restoration (Switching point serving) m changes es r l h isin states open_ = absurd (none_in r.listed l h.empty isin)
 by_restoration (Restoring point serving) m changes es r l h isin states open_ =
     let e = entered_at es r.id IsRestoring _ states in (e.0, subst (λ s. In (enters r.id s e.0) es) (sym (after_switch l.body r point serving (h.bodies l isin))) e.1)
 by_restoration (Releasing point serving) m changes es r l h isin states open_ = subst (λ b. GivenAt es r.id (kind_of b)) (sym (h.bodies l isin)) (entered_at es r.id IsReleasing _ states)
 by_restoration (Restored point serving) m changes es r l h isin states open_ = absurd (true≢false open_)
+by_restoration _ m changes es r l h isin states open_ = absurd (none_in r.listed l h.empty isin)
 
 by_clone : (state : CloneState) (m : Master) (es : List Entering) (c : CloneRecord) (l : Listed) → CloneStateGood state m c → In l c.listed → CloneStates (states_of c.id es) state → is_cloned state ≡ false → GivenAt es c.id (kind_of l.body)
 by_clone Accepted m es c l h isin states open_ = absurd (none_in c.listed l h isin)
@@ -127,32 +109,6 @@ pending_given m changes es operation slot l ops h (ByClone k) =
     subst (λ id. GivenAt es id (kind_of l.body)) k.id_is (by_clone k.clone.state m es k.clone l (ops.clones k.clone k.kept).in_state k.line.listed (h.clones k.clone k.kept).states k.unfinished)
 
 -- Offers
-
-abbrev pub is_offer : TabletAct → Bool
-is_offer (Offer c) = true
-is_offer Clock = false
-is_offer (Make tablet table low high version) = false
-is_offer (Child tablet table low high version versions cutoff) = false
-is_offer (SetVersion version) = false
-is_offer (HideSince ended) = false
-is_offer (Write batch) = false
-is_offer (RaiseCutoff to) = false
-is_offer Compact = false
-is_offer (Process rows) = false
-is_offer Clear = false
-is_offer (DropFrozen snapshot) = false
-is_offer Restart = false
-
--- no part is offered a command
-pub record NoOffers (tells : List Told) : Type 0 where
-  pub none : (slot : ℕ) → is_offer (act_for tells slot) ≡ false
-
-pub offers_added : (told : Told) (tells : List Told) → is_offer told.act ≡ false → NoOffers tells → NoOffers (told ∷ tells)
-offers_added told tells own rest = record { none = λ slot. cond_both (eqb told.slot slot) told.act (act_for tells slot) (λ a. is_offer a ≡ false) (λ _. own) (λ _. rest.none slot) }
-
-pub none_offered : {A : Type 0} (f : A → Told) (xs : List A) → ((x : A) → is_offer (f x).act ≡ false) → NoOffers (map f xs)
-none_offered f [] each = record { none = λ slot. refl }
-none_offered f (x ∷ xs) each = offers_added (f x) (map f xs) (each x) (none_offered f xs each)
 
 -- a clock comes after the entry of the state that gives what the tablet was given
 pub clock_after : (a : TabletAct) (n : ℕ) (t : Tablet) (m : Master) (es new : List Entering) (operation : Id) (kind : BodyKind) → t.clock < n → (was_given t operation kind ≡ true → EnteredBefore es operation kind t.clock)

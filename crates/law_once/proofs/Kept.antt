@@ -2,11 +2,8 @@
 use Rattle.std.proofs.Common.{◌≡◌, ℕ, true, false, List, Option, Some, None, refl, sym, subst, arith, map}
 use Rattle.std.specs.Option.{option_map_or}
 use Rattle.std.specs.List.{filter}
-use Rattle.row_values.specs.Ids.{Id, Kind, Namespace, Table, Tablet, Schedule, Snapshot, Restoration, Clone}
-use Rattle.row_values.specs.Elements.{In}
+use Rattle.model.specs.Cluster.{Id, Kind, NamespaceKind as Namespace, TableKind as Table, TabletKind as Tablet, ScheduleKind as Schedule, Snapshot, RestorationKind as Restoration, CloneKind as Clone, In, Listed, Schedule as ScheduleRecord, SnapshotRecord, RestorationRecord, RestorationState, Fencing, Snapshotting, Switching, Restoring, Releasing, Restored, CloneRecord, CloneState, Accepted, CloneSnapshot, Copying, CloneReleasing, CloneComplete, schedule_of, Master, MasterAct, Sends, Acks, Unsends, Moves, Removes, Prunes, Restarts}
 use Rattle.model.specs.Journal.{Change}
-use Rattle.model.specs.Records.{Listed, Schedule as ScheduleRecord, SnapshotRecord, RestorationRecord, RestorationState, Fencing, Snapshotting, Switching, Restoring, Releasing, Restored, CloneRecord, CloneState, Accepted, CloneSnapshot, Copying, CloneReleasing, CloneComplete, schedule_of}
-use Rattle.model.specs.Parts.{Master, MasterAct, Sends, Acks, Unsends, Moves, Removes, Prunes, Restarts}
 use Rattle.model.specs.Cleanup.{removed_of}
 use Rattle.model.specs.Coordination.{acked_by, unfinished_snapshot, unfinished_restoration, unfinished_clone}
 use Rattle.model.specs.Moves.{begins_clone, clone_goes, clone_moved, moved_of, restoration_moved, serving_clone, with_clones_snapshot}
@@ -89,28 +86,15 @@ edit_clones m after listed state restorations clones = record {
 acked_goes : (kind : Kind) (operation : Id) (slot n : ℕ) (m : Master) → GoOn m (acked_by kind operation slot n m)
 acked_goes Restoration operation slot n m = edit_restorations m _ _ (λ r. r.state) refl refl
 acked_goes Clone operation slot n m = edit_clones m _ _ (λ c. c.state) refl refl
-acked_goes Snapshot operation slot n m = stay m _ refl refl
-acked_goes Namespace operation slot n m = stay m _ refl refl
-acked_goes Table operation slot n m = stay m _ refl refl
-acked_goes Tablet operation slot n m = stay m _ refl refl
-acked_goes Schedule operation slot n m = stay m _ refl refl
+acked_goes _ operation slot n m = stay m _ refl refl
 
 removed_goes : (kind : Kind) (target : Id) (n : ℕ) (m : Master) → GoOn m (removed_of kind target n m)
 removed_goes Snapshot target n m = stay m _ refl refl
-removed_goes Tablet target n m = stay m _ refl refl
-removed_goes Namespace target n m = stay m _ refl refl
-removed_goes Table target n m = stay m _ refl refl
-removed_goes Schedule target n m = stay m _ refl refl
-removed_goes Restoration target n m = stay m _ refl refl
-removed_goes Clone target n m = stay m _ refl refl
+removed_goes _ target n m = stay m _ refl refl
 
 restoration_goes : (state : RestorationState) (r : RestorationRecord) (n : ℕ) (m : Master) → GoOn m (restoration_moved state r n m)
-restoration_goes Fencing r n m = edit_restorations m _ _ _ refl refl
-restoration_goes (Snapshotting point own) r n m = edit_restorations m _ _ _ refl refl
-restoration_goes (Switching point serving) r n m = edit_restorations m _ _ _ refl refl
-restoration_goes (Restoring point serving) r n m = edit_restorations m _ _ _ refl refl
-restoration_goes (Releasing point serving) r n m = edit_restorations m _ _ _ refl refl
 restoration_goes (Restored point serving) r n m = stay m _ refl refl
+restoration_goes _ r n m = edit_restorations m _ _ _ refl refl
 
 own_goes : (s : Option ScheduleRecord) (c : CloneRecord) (n : ℕ) (m : Master) → GoOn m (clone_goes Accepted None c n m (with_clones_snapshot s c n m))
 own_goes None c n m = edit_clones m _ _ _ refl refl
@@ -122,10 +106,8 @@ begun_goes None c n m = own_goes (schedule_of m.schedules c.source) c n m
 
 copies_go : (state : CloneState) (c : CloneRecord) (n : ℕ) (m : Master) → GoOn m (clone_moved state c n m)
 copies_go Accepted c n m = begun_goes (serving_clone m c) c n m
-copies_go (CloneSnapshot own) c n m = edit_clones m _ _ _ refl refl
-copies_go (Copying serving at) c n m = edit_clones m _ _ _ refl refl
-copies_go (CloneReleasing serving at) c n m = edit_clones m _ _ _ refl refl
 copies_go (CloneComplete serving at) c n m = stay m _ refl refl
+copies_go _ c n m = edit_clones m _ _ _ refl refl
 
 moved_goes : (kind : Kind) (operation : Id) (n : ℕ) (m : Master) → GoOn m (moved_of kind operation n m)
 moved_goes Restoration operation n m = by (unfinished_restoration m.restorations operation)
@@ -139,10 +121,7 @@ moved_goes Clone operation n m = by (unfinished_clone m.clones operation)
     by None = stay m _ refl refl
     by (Some c) = copies_go c.state c n m
 moved_goes Snapshot operation n m = let left = snapshot_leaves (unfinished_snapshot m.snapshots operation) n m in stay m _ left.0 left.1
-moved_goes Namespace operation n m = stay m _ refl refl
-moved_goes Table operation n m = stay m _ refl refl
-moved_goes Tablet operation n m = stay m _ refl refl
-moved_goes Schedule operation n m = stay m _ refl refl
+moved_goes _ operation n m = stay m _ refl refl
 
 -- what no command tells leaves no record out, and makes none
 pub told_goes : (a : MasterAct) (n : ℕ) (m : Master) → is_command a ≡ false → GoOn m (master_effect a n m)

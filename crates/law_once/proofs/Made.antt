@@ -1,10 +1,7 @@
 -- What the moves of records made goes on, whatever the master is told.
 use Rattle.std.proofs.Common.{◌≡◌, ◌≢◌, ℕ, ◌≤◌, ◌<◌, List, [], ◌∷◌, ◌++◌, Option, Some, None, inl, inr, refl, sym, ap, subst, ◌∙◌, arith, lt_of_le_of_lt, true, false, map, if◌then◌else◌}
-use Rattle.row_values.specs.Ids.{Id, Kind, Namespace, Table, Tablet, Schedule, Snapshot, Restoration, Clone, same}
-use Rattle.row_values.specs.Elements.{In}
+use Rattle.model.specs.Cluster.{Id, Kind, NamespaceKind as Namespace, TableKind as Table, TabletKind as Tablet, ScheduleKind as Schedule, Snapshot, RestorationKind as Restoration, CloneKind as Clone, same, In, Schedule as ScheduleRecord, RestorationRecord, CloneRecord, CloneState, Accepted, CloneSnapshot, Copying, CloneReleasing, CloneComplete, IsReleasing, Listed, SnapshotRecord, RestorationState, Fencing, Snapshotting, Switching, Restoring, Releasing, Restored, schedule_of, Master, BeginsRestoration, BeginsClone, Moves, MasterAct, Ticks, MakesNamespace, DropsNamespace, MakesTable, AddsColumn, DropsColumn, RenamesTable, DropsTable, SplitsTablet, MakesSchedule, EditsSchedule, DeletesSchedule, TakesSnapshot, Sends, Acks, Unsends, Removes, Prunes, Restarts}
 use Rattle.model.specs.Journal.{Change, NamespaceCloned}
-use Rattle.model.specs.Records.{Schedule as ScheduleRecord, RestorationRecord, CloneRecord, CloneState, Accepted, CloneSnapshot, Copying, CloneReleasing, CloneComplete, IsReleasing, Listed, SnapshotRecord, RestorationState, Fencing, Snapshotting, Switching, Restoring, Releasing, Restored, schedule_of}
-use Rattle.model.specs.Parts.{Master, BeginsRestoration, BeginsClone, Moves, MasterAct, Ticks, MakesNamespace, DropsNamespace, MakesTable, AddsColumn, DropsColumn, RenamesTable, DropsTable, SplitsTablet, MakesSchedule, EditsSchedule, DeletesSchedule, TakesSnapshot, Sends, Acks, Unsends, Removes, Prunes, Restarts}
 use Rattle.model.specs.Changed.{new_clone, next_clone, next_restoration}
 use Rattle.model.specs.Cleanup.{removed_of}
 use Rattle.model.specs.Coordination.{acked_by, unfinished_restoration, unfinished_clone, unfinished_snapshot}
@@ -34,11 +31,9 @@ one_clone_on c d es new made i s t g o b h = record {
 
 -- the record of a clone, with another list of tablets, goes on to have made what it did
 cloned_on : (state : CloneState) (c d : CloneRecord) (es new : List Entering) (made : List Change) → c.id ≡ d.id → c.source ≡ d.source → c.target_id ≡ d.target_id → c.target ≡ d.target → c.to ≡ d.to → c.tables ≡ d.tables → ClonedBy state c es made → ClonedBy state d (new ++ es) made
-cloned_on Accepted c d es new made i s t g o b h = h
-cloned_on (CloneSnapshot own) c d es new made i s t g o b h = h
-cloned_on (Copying serving at) c d es new made i s t g o b h = h
 cloned_on (CloneReleasing serving at) c d es new made i s t g o b h = one_clone_on c d es new made i s t g o b h
 cloned_on (CloneComplete serving at) c d es new made i s t g o b h = one_clone_on c d es new made i s t g o b h
+cloned_on _ c d es new made i s t g o b h = h
 
 -- What stays
 
@@ -63,20 +58,11 @@ acked_made Clone operation slot n m es made h = record {
   restorations = h.restorations;
   clones = in_mapped {A = CloneRecord} {B = CloneRecord} _ (λ c. ClonedBy c.state c es (made c.id)) m.clones (λ c isin. cloned_on c.state c _ es [] (made c.id) refl refl refl refl refl refl (h.clones c isin));
 }
-acked_made Snapshot operation slot n m es made h = record { fresh = h.fresh; restorations = h.restorations; clones = h.clones }
-acked_made Namespace operation slot n m es made h = record { fresh = h.fresh; restorations = h.restorations; clones = h.clones }
-acked_made Table operation slot n m es made h = record { fresh = h.fresh; restorations = h.restorations; clones = h.clones }
-acked_made Tablet operation slot n m es made h = record { fresh = h.fresh; restorations = h.restorations; clones = h.clones }
-acked_made Schedule operation slot n m es made h = record { fresh = h.fresh; restorations = h.restorations; clones = h.clones }
+acked_made _ operation slot n m es made h = record { fresh = h.fresh; restorations = h.restorations; clones = h.clones }
 
 removed_made : (kind : Kind) (target : Id) (n : ℕ) (m : Master) (es : List Entering) (made : Id → List Change) → AllMade m es made → AllMade (removed_of kind target n m) es made
 removed_made Snapshot target n m es made h = record { fresh = h.fresh; restorations = h.restorations; clones = h.clones }
-removed_made Namespace target n m es made h = record { fresh = h.fresh; restorations = h.restorations; clones = h.clones }
-removed_made Table target n m es made h = record { fresh = h.fresh; restorations = h.restorations; clones = h.clones }
-removed_made Tablet target n m es made h = record { fresh = h.fresh; restorations = h.restorations; clones = h.clones }
-removed_made Schedule target n m es made h = record { fresh = h.fresh; restorations = h.restorations; clones = h.clones }
-removed_made Restoration target n m es made h = record { fresh = h.fresh; restorations = h.restorations; clones = h.clones }
-removed_made Clone target n m es made h = record { fresh = h.fresh; restorations = h.restorations; clones = h.clones }
+removed_made _ target n m es made h = record { fresh = h.fresh; restorations = h.restorations; clones = h.clones }
 
 -- A record more
 
@@ -249,11 +235,7 @@ clone_found (Some c) operation n m changes es made kind found ops h q isin =
 
 clones_left : (state : RestorationState) (r : RestorationRecord) (n : ℕ) (m : Master) → (restoration_moved state r n m).clones ≡ m.clones
 clones_left Fencing r n m = refl
-clones_left (Snapshotting point own) r n m = refl
-clones_left (Switching point serving) r n m = refl
-clones_left (Restoring point serving) r n m = refl
-clones_left (Releasing point serving) r n m = refl
-clones_left (Restored point serving) r n m = refl
+clones_left _ r n m = refl
 
 pub found_clones_left : (found : Option RestorationRecord) (n : ℕ) (m : Master) → (option_map_or (λ r. restoration_moved r.state r n m) found (record m { clock = n })).clones ≡ m.clones
 found_clones_left None n m = refl
@@ -269,10 +251,7 @@ begun_left None c n m = own_left (schedule_of m.schedules c.source) c n m
 
 restorations_left : (state : CloneState) (c : CloneRecord) (n : ℕ) (m : Master) → (clone_moved state c n m).restorations ≡ m.restorations
 restorations_left Accepted c n m = begun_left (serving_clone m c) c n m
-restorations_left (CloneSnapshot own) c n m = refl
-restorations_left (Copying serving at) c n m = refl
-restorations_left (CloneReleasing serving at) c n m = refl
-restorations_left (CloneComplete serving at) c n m = refl
+restorations_left _ c n m = refl
 
 pub found_restorations_left : (found : Option CloneRecord) (n : ℕ) (m : Master) → (option_map_or (λ c. clone_moved c.state c n m) found (record m { clock = n })).restorations ≡ m.restorations
 found_restorations_left None n m = refl

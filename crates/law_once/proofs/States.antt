@@ -1,8 +1,6 @@
 -- The states that a record entered, as one more is entered.
 use Rattle.std.proofs.Common.{◌≡◌, ◌≢◌, ℕ, ◌≤◌, ◌<◌, Bool, List, [], ◌∷◌, Option, Some, None, inl, inr, refl, sym, ap, subst, ◌∙◌, arith}
-use Rattle.row_values.specs.Ids.{Id, Kind}
-use Rattle.row_values.specs.Elements.{In}
-use Rattle.model.specs.Records.{Listed, RestorationState, CloneState}
+use Rattle.model.specs.Cluster.{Id, Kind, In, Listed, RestorationState, CloneState}
 use Rattle.model.specs.Lists.{numbered_as}
 use Rattle.model.specs.Entering.{Entering, IsAfterOwn, states_of}
 use Rattle.law_invariants.proofs.Finding.{not_same, same_self}

@@ -11,7 +11,7 @@ use Rattle.model.specs.Journal.{Change}
 use Rattle.model.specs.Entries.{clock_at, slots_of}
 use Rattle.model.specs.History.{look, master_effect, told}
 use Rattle.model.specs.Parts.{Acks, Unsends, Outcome, Parts, answered, Master}
-use Rattle.model.specs.Records.{CloneRecord, Listed, RestorationRecord, Sent, SnapshotRecord, is_cloned, is_restored}
+use Rattle.model.specs.Records.{CloneRecord, Listed, RestorationRecord, Sent, SnapshotRecord, is_cloned, is_restored, unfinished}
 use Rattle.std.proofs.Common.{map}
 use Rattle.model.specs.Acts.{CutoffAt}
 use Rattle.model.specs.Tablets.{is_done, kind_of}
@@ -19,7 +19,6 @@ use Rattle.model.specs.RowActs.{write, read, cutoff, compact, restart, stats, al
 use Rattle.model.specs.Coordination.{ack, acked_by, acked_clone, acked_restoration, acked_snapshot, acknowledging, command_for, send, sending, pending}
 use Rattle.model.specs.Tablets.{Tablet, TabletAct, Clock, RaiseCutoff, Compact as CompactTablet, Offer, Restart as RestartTablet, Write as WriteRows, act_for, effect}
 use Rattle.model.specs.Taking.{TakesNothingNeeded, names_at, untimed}
-use Rattle.model.specs.Retained.{unfinished}
 use Rattle.model.specs.Schedules.{floor, least_low, serving}
 use Rattle.model.specs.Cleanup.{floor_of}
 use Rattle.model.specs.Operations.{clone_with, restoration_of}

@@ -1,6 +1,6 @@
 -- No move of a record takes anything that a time needs. The switch of a restoration puts other tables in place from its point on
 -- alone, and a snapshot that is complete serves times whose rows were had from the frozen sets of its own.
-use Rattle.std.proofs.Common.{◌&&◌, ◌≤◌, ◌≡◌, ◌∷◌, ◌∙◌, ◌<◌, ◌⊎◌, ℕ, List, [], Bool, true, false, cond, Option, Some, None, map, not, refl, sym, ap, subst, inl, inr, arith, le_of_lt, leb, ltb, ltb-true, lt_of_le_of_lt, unwrap_or}
+use Rattle.std.proofs.Common.{◌&&◌, ◌≤◌, ◌≡◌, ◌∷◌, ◌∙◌, ◌<◌, ◌⊎◌, ℕ, List, [], Bool, true, false, cond, Option, Some, None, map, not, refl, sym, ap, subst, inl, inr, arith, le_of_lt, leb, ltb, ltb-true, unwrap_or}
 use Rattle.std.proofs.lemmas.Bool.{cond_both, true≢false}
 use Rattle.std.specs.Option.{option_and_then, option_map, option_map_or}
 use Rattle.row_values.specs.Elements.{In}
@@ -18,12 +18,12 @@ use Rattle.model.specs.Looks.{place_of}
 use Rattle.model.specs.Moves.{Progress, advance, advancing, begins_clone, clone_goes, clone_moved, completed, moved_of, moving, progress_of, restoration_moved, serving_clone, snapshot_advanced, waits_for, with_clones_snapshot}
 use Rattle.model.specs.Operations.{restoration_of}
 use Rattle.model.specs.Parts.{Master, Moves, Outcome, Parts}
-use Rattle.model.specs.Records.{Accepted, CloneComplete, CloneRecord, CloneReleasing, CloneSnapshot, CloneState, Copying, Fencing, IdPair, Releasing, RestorationRecord, RestorationState, Restored, Restoring, Schedule, ScheduledNamespace, SnapshotRecord, Snapshotting, State, Switching, TabletPair, first_unacked, is_restored, is_visible, point_of, schedule_of}
+use Rattle.model.specs.Records.{Accepted, CloneComplete, CloneRecord, CloneReleasing, CloneSnapshot, CloneState, Copying, Fencing, IdPair, Releasing, RestorationRecord, RestorationState, Restored, Restoring, Schedule, ScheduledNamespace, SnapshotRecord, Snapshotting, State, Switching, TabletPair, first_unacked, is_restored, is_visible, schedule_of, unfinished}
 use Rattle.model.specs.Restored.{back_at, begun_at, cloned, cloned_activity, cloned_tables, record_at}
-use Rattle.model.specs.Retained.{IsTabletOf, ReachesBack, floor_now, from_set, live, source_at, unfinished}
+use Rattle.model.specs.Retained.{IsTabletOf, ReachesBack, floor_now, from_set, live, source_at}
 use Rattle.model.specs.Schedules.{complete_to, serving}
 use Rattle.model.specs.Tablets.{Clock, FrozenSet, Tablet, effect, set_of}
-use Rattle.model.specs.Taking.{StillServes, is_part_of, replaced_from, untimed}
+use Rattle.model.specs.Taking.{Unchanged, StillServes, replaced_by, replaced_from, switches_at, untimed}
 use Rattle.model.specs.Times.{before_end, holds_at}
 use Rattle.law_store.proofs.Keys.{either_way}
 use Rattle.law_invariants.specs.Invariant.{Inv, Later}
@@ -66,8 +66,8 @@ of_tables_at rs ns x t there =
 
 -- what is part of the namespace's own restoration may put tables and rows in place from its point on alone
 pub before_point : (act : Act) (ps : Parts) (activity : List Interval) (changes : List Made) (r : RestorationRecord) (point : ℕ) (ns : Id) (to : ℕ) → Inv ps activity changes → In r ps.master.restorations → is_restored r.state ≡ false
-    → is_part_of r.id act ps ≡ true → point_of r.state ≡ Some point → ns ≡ r.namespace → before_end to (replaced_from act ps ns) ≡ true → to < point
-before_point act ps activity changes r point ns to inv kept unfinished_ part point_is of before =
+    → replaced_by r act ps ≡ Some point → ns ≡ r.namespace → before_end to (replaced_from act ps ns) ≡ true → to < point
+before_point act ps activity changes r point ns to inv kept unfinished_ part of before =
     let rs = ps.master.restorations in
     let test : RestorationRecord → Bool = λ q. same q.namespace ns && not (is_restored q.state) in
     let passes : test r ≡ true = passes_both (same r.namespace ns) (not (is_restored r.state)) (ap (same r.namespace) of ∙ same_self r.namespace) (ap not unfinished_) in
@@ -78,8 +78,7 @@ before_point act ps activity changes r point ns to inv kept unfinished_ part poi
     let both = both_pass (same q.namespace ns) (not (is_restored q.state)) h.passes in
     let one : q ≡ r = inv.operations.apart.one_restoration q r h.listed kept (not_true_is (is_restored q.state) both.1) unfinished_ (same_equal q.namespace ns both.0 ∙ of) in
     some ∙ ap Some one) in
-    let from : replaced_from act ps ns ≡ Some point =
-    ap (option_and_then (λ q. cond (is_part_of q.id act ps) (point_of q.state) None)) mine ∙ ap (λ b. cond b (point_of r.state) None) part ∙ point_is in
+    let from : replaced_from act ps ns ≡ Some point = ap (option_and_then (λ q. replaced_by q act ps)) mine ∙ part in
     ltb-true to point (subst (λ o. before_end to o ≡ true) from before)
   where
     not_true_is : (b : Bool) → not b ≡ true → b ≡ false
@@ -125,20 +124,21 @@ restoration_untaken : (state : RestorationState) (ps : Parts) (activity : List I
 restoration_untaken Fencing ps activity changes n operation r found moves is =
     snapshot_untaken (Advance operation) ps activity changes (restoration_moved Fencing r n ps.master) r.namespace r.schedule n found.inv (le_of_lt found.before) refl refl refl refl
 restoration_untaken (Snapshotting point own) ps activity changes n operation r found moves is =
-    quiet_untaken (Advance operation) ps (restoration_moved (Snapshotting point own) r n ps.master) (le_of_lt found.before) refl refl refl (they_stay (Advance operation) ps.master)
+    quiet_untaken (Advance operation) ps (restoration_moved (Snapshotting point own) r n ps.master) (le_of_lt found.before) refl refl refl (they_stay (Advance operation) ps.master _ refl)
 restoration_untaken (Switching point serving_) ps activity changes n operation r found moves is = record {
   later = le_of_lt found.before;
   times = λ s to listed past before. switch_time ps.master r point serving_ n s.namespace to
-      (λ of. before_point (Advance operation) ps activity changes r point s.namespace to found.inv moves.kept moves.unfinished (ap (λ id. same id r.id) (sym moves.id_is) ∙ same_self r.id) (ap point_of is) of before);
-  sources = λ s to listed low past. same_sources ps.master (restoration_moved (Switching point serving_) r n ps.master) ps.tablet s.namespace to refl;
-  schedules = λ s there. inl (s, (there, refl));
+      (λ of. before_point (Advance operation) ps activity changes r point s.namespace to found.inv moves.kept moves.unfinished
+      (ap (λ b. cond b (switches_at r.state) None) (ap (λ id. same id r.id) (sym moves.id_is) ∙ same_self r.id) ∙ ap switches_at is) of before);
+  sources = λ s to listed low. same_sources ps.master (restoration_moved (Switching point serving_) r n ps.master) ps.tablet s.namespace to refl;
+  schedules = λ s there. Unchanged s there refl;
 }
 restoration_untaken (Restoring point serving_) ps activity changes n operation r found moves is =
-    quiet_untaken (Advance operation) ps (restoration_moved (Restoring point serving_) r n ps.master) (le_of_lt found.before) refl refl refl (they_stay (Advance operation) ps.master)
+    quiet_untaken (Advance operation) ps (restoration_moved (Restoring point serving_) r n ps.master) (le_of_lt found.before) refl refl refl (they_stay (Advance operation) ps.master _ refl)
 restoration_untaken (Releasing point serving_) ps activity changes n operation r found moves is =
-    quiet_untaken (Advance operation) ps (restoration_moved (Releasing point serving_) r n ps.master) (le_of_lt found.before) refl refl refl (they_stay (Advance operation) ps.master)
+    quiet_untaken (Advance operation) ps (restoration_moved (Releasing point serving_) r n ps.master) (le_of_lt found.before) refl refl refl (they_stay (Advance operation) ps.master _ refl)
 restoration_untaken (Restored point serving_) ps activity changes n operation r found moves is =
-    quiet_untaken (Advance operation) ps (restoration_moved (Restored point serving_) r n ps.master) (le_of_lt found.before) refl refl refl (they_stay (Advance operation) ps.master)
+    quiet_untaken (Advance operation) ps (restoration_moved (Restored point serving_) r n ps.master) (le_of_lt found.before) refl refl refl (they_stay (Advance operation) ps.master _ refl)
 
 -- A clone's moves
 
@@ -154,11 +154,10 @@ cloned_from (p ∷ ps) rs target to at q there = elim (in_append (option_map_or 
     one (Some r) here = elim here [ inl is ↦ ap (λ x. x.from) (sym is) | inr none ↦ absurd none ]
 
 target_time : (ps : Parts) (activity : List Interval) (changes : List Made) (n : ℕ) (c : CloneRecord) (serving_ : Id) (at : ℕ) (s : ScheduledNamespace) (to : ℕ) → IsFound ps activity changes n → In c ps.master.clones → c.state ≡ Copying serving_ at
-    → In s ps.master.scheduled → to ≤ ps.master.clock → TimeUntaken ps.master (clone_moved (Copying serving_ at) c n ps.master) s.namespace to
-target_time ps activity changes n c serving_ at s to found kept is listed past =
+    → In s ps.master.scheduled → to < n → TimeUntaken ps.master (clone_moved (Copying serving_ at) c n ps.master) s.namespace to
+target_time ps activity changes n c serving_ at s to found kept is listed late =
     let m = ps.master in
     let js = cloned_activity n c.tablets in
-    let late : to < n = lt_of_le_of_lt past found.before in
     let g = found.inv.operations.clones c kept in
     let has = (found.inv.operations.scheduled s listed).has in
     let other : same c.target_id s.namespace ≡ false = not_same c.target_id s.namespace (λ e. g.no_schedule (ap is_visible is) has.0 has.1.0 (has.1.1 ∙ sym e)) in
@@ -176,10 +175,10 @@ target_time ps activity changes n c serving_ at s to found kept is listed past =
 begins_untaken : (served : Option SnapshotRecord) (s : Option Schedule) (ps : Parts) (activity : List Interval) (changes : List Made) (n : ℕ) (operation : Id) (c : CloneRecord) → IsFound ps activity changes n → schedule_of ps.master.schedules c.source ≡ s
     → MasterUntaken (Advance operation) ps (begins_clone served c n ps.master)
 begins_untaken (Some q) s ps activity changes n operation c found e =
-    quiet_untaken (Advance operation) ps (begins_clone (Some q) c n ps.master) (le_of_lt found.before) refl refl refl (they_stay (Advance operation) ps.master)
+    quiet_untaken (Advance operation) ps (begins_clone (Some q) c n ps.master) (le_of_lt found.before) refl refl refl (they_stay (Advance operation) ps.master _ refl)
 begins_untaken None None ps activity changes n operation c found e =
     subst (λ o. MasterUntaken (Advance operation) ps (clone_goes Accepted None c n ps.master (with_clones_snapshot o c n ps.master))) (sym e)
-    (quiet_untaken (Advance operation) ps (clone_goes Accepted None c n ps.master (with_clones_snapshot None c n ps.master)) (le_of_lt found.before) refl refl refl (they_stay (Advance operation) ps.master))
+    (quiet_untaken (Advance operation) ps (clone_goes Accepted None c n ps.master (with_clones_snapshot None c n ps.master)) (le_of_lt found.before) refl refl refl (they_stay (Advance operation) ps.master _ refl))
 begins_untaken None (Some s) ps activity changes n operation c found e =
     subst (λ o. MasterUntaken (Advance operation) ps (clone_goes Accepted None c n ps.master (with_clones_snapshot o c n ps.master))) (sym e)
     (snapshot_untaken (Advance operation) ps activity changes (clone_goes Accepted None c n ps.master (with_clones_snapshot (Some s) c n ps.master)) c.source s.id n found.inv (le_of_lt found.before) refl refl refl refl)
@@ -188,17 +187,17 @@ clone_untaken : (state : CloneState) (ps : Parts) (activity : List Interval) (ch
     → MasterUntaken (Advance operation) ps (clone_moved state c n ps.master)
 clone_untaken Accepted ps activity changes n operation c found kept is = begins_untaken (serving_clone ps.master c) (schedule_of ps.master.schedules c.source) ps activity changes n operation c found refl
 clone_untaken (CloneSnapshot own) ps activity changes n operation c found kept is =
-    quiet_untaken (Advance operation) ps (clone_moved (CloneSnapshot own) c n ps.master) (le_of_lt found.before) refl refl refl (they_stay (Advance operation) ps.master)
+    quiet_untaken (Advance operation) ps (clone_moved (CloneSnapshot own) c n ps.master) (le_of_lt found.before) refl refl refl (they_stay (Advance operation) ps.master _ refl)
 clone_untaken (Copying serving_ at) ps activity changes n operation c found kept is = record {
   later = le_of_lt found.before;
-  times = λ s to listed past before. target_time ps activity changes n c serving_ at s to found kept is listed past;
-  sources = λ s to listed low past. same_sources ps.master (clone_moved (Copying serving_ at) c n ps.master) ps.tablet s.namespace to refl;
-  schedules = λ s there. inl (s, (there, refl));
+  times = λ s to listed past before. target_time ps activity changes n c serving_ at s to found kept is listed (ltb-true to n past);
+  sources = λ s to listed low. same_sources ps.master (clone_moved (Copying serving_ at) c n ps.master) ps.tablet s.namespace to refl;
+  schedules = λ s there. Unchanged s there refl;
 }
 clone_untaken (CloneReleasing serving_ at) ps activity changes n operation c found kept is =
-    quiet_untaken (Advance operation) ps (clone_moved (CloneReleasing serving_ at) c n ps.master) (le_of_lt found.before) refl refl refl (they_stay (Advance operation) ps.master)
+    quiet_untaken (Advance operation) ps (clone_moved (CloneReleasing serving_ at) c n ps.master) (le_of_lt found.before) refl refl refl (they_stay (Advance operation) ps.master _ refl)
 clone_untaken (CloneComplete serving_ at) ps activity changes n operation c found kept is =
-    quiet_untaken (Advance operation) ps (clone_moved (CloneComplete serving_ at) c n ps.master) (le_of_lt found.before) refl refl refl (they_stay (Advance operation) ps.master)
+    quiet_untaken (Advance operation) ps (clone_moved (CloneComplete serving_ at) c n ps.master) (le_of_lt found.before) refl refl refl (they_stay (Advance operation) ps.master _ refl)
 
 -- A snapshot is complete
 
@@ -394,10 +393,10 @@ completed_untaken : (operation : Id) (ps after : Parts) (activity later_activity
 completed_untaken operation ps after activity later_activity changes later_changes n r found c is inv_after facts_after = record {
   later = le_of_lt found.before;
   times = λ s to listed past before. same_time ps.master (completed r n ps.master) s.namespace to refl refl;
-  sources = λ s to listed low past. either_way (same r.namespace s.namespace)
+  sources = λ s to listed low. either_way (same r.namespace s.namespace)
       (λ b. own_sources ps after activity later_activity changes later_changes n r s to found c is inv_after facts_after listed (same_equal r.namespace s.namespace b) low)
       (λ b. other_sources ps after n r s.namespace to c b);
-  schedules = λ s there. inl (s, (there, refl));
+  schedules = λ s there. Unchanged s there refl;
 }
 
 -- The act
@@ -409,7 +408,7 @@ pub record IsAfter (ps after : Parts) (activity : List Interval) (changes : List
   pub frozen : (slot : ℕ) → (after.tablet slot).frozen ≡ (ps.tablet slot).frozen
 
 ticks_untaken : (operation : Id) (ps : Parts) (activity : List Interval) (changes : List Made) (n : ℕ) → IsFound ps activity changes n → MasterUntaken (Advance operation) ps (record ps.master { clock = n })
-ticks_untaken operation ps activity changes n found = quiet_untaken (Advance operation) ps (record ps.master { clock = n }) (le_of_lt found.before) refl refl refl (they_stay (Advance operation) ps.master)
+ticks_untaken operation ps activity changes n found = quiet_untaken (Advance operation) ps (record ps.master { clock = n }) (le_of_lt found.before) refl refl refl (they_stay (Advance operation) ps.master _ refl)
 
 snapshot_moves : (o : Option SnapshotRecord) (id : Id) (ps after : Parts) (activity later_activity : List Interval) (changes later_changes : List Made) (n : ℕ) → IsFound ps activity changes n → IsAfter ps after later_activity later_changes
     → unfinished_snapshot ps.master.snapshots id ≡ o → after.master ≡ option_map_or (λ r. completed r n ps.master) o (record ps.master { clock = n })

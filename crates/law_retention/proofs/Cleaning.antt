@@ -16,8 +16,7 @@ use Rattle.model.specs.Entries.{IsRemovable, slots_of}
 use Rattle.model.specs.History.{told}
 use Rattle.model.specs.Journal.{Change}
 use Rattle.model.specs.Parts.{Fault, If, Master, Outcome, Parts, Removes, refused}
-use Rattle.model.specs.Records.{SnapshotRecord, snapshot_with}
-use Rattle.model.specs.Retained.{unfinished}
+use Rattle.model.specs.Records.{SnapshotRecord, snapshot_with, unfinished}
 use Rattle.model.specs.Taking.{TakesNothingNeeded, names_at, untimed}
 use Rattle.law_store.proofs.Keys.{either_way}
 use Rattle.law_invariants.specs.Invariant.{Inv, Later}
@@ -33,7 +32,7 @@ use Rattle.law_retention.proofs.Staying.{staying_takes_nothing}
 use Rattle.law_retention.proofs.Acting.{answer_takes_nothing, Every, IsHarmless, TakesNothing, every_counts, same_stays, ticked_stays}
 use Rattle.law_invariants.proofs.Undoing.{owned_is}
 use Rattle.law_retention.specs.Facts.{Facts}
-use Rattle.law_retention.proofs.Retaining.{ended_over}
+use Rattle.law_invariants.proofs.Remembering.{active_ends}
 use Rattle.law_invariants.proofs.Unneeded.{removed_below, not_false, nothing_keeps, IsDiscarded, discarding, is_discarded, not_holding, prune_floor}
 
 -- Lists
@@ -144,7 +143,7 @@ forgotten_takes_nothing ps after activity later_activity changes later_changes n
           let over = below i inside (same_equal i.tablet target e) in
           let owner = owned_is (owner_of m.catalog.owners i.table) s.namespace owned in
           let floor : floor_of_table m i.table n ≡ floor_of m s.namespace n = ap (λ o. option_map_or (λ k. floor_of m k n) o n) owner in
-          ended_over i.to (floor_of m s.namespace n) to low (subst (λ f. ended_by f i.to ≡ true) floor over) (both_pass (leb i.from to) (before_end to i.to) active).1));
+          active_ends i.to to (floor_of m s.namespace n) low (both_pass (leb i.from to) (before_end to i.to) active).1 (subst (λ f. ended_by f i.to ≡ true) floor over)));
       tablets = λ i inside there. tablets i.slot there.held;
       cutoffs = λ slot. (inv.slots slot).good.cutoff;
     })

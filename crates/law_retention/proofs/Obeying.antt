@@ -17,12 +17,12 @@ use Rattle.model.specs.Entries.{slots_of}
 use Rattle.model.specs.History.{master_effect, told}
 use Rattle.model.specs.Journal.{Change}
 use Rattle.model.specs.Parts.{If, Master, Outcome, Parts, Ticks, refused}
-use Rattle.model.specs.Records.{Copying, Listed, ScheduledNamespace, SnapshotRecord, is_visible, point_of}
-use Rattle.model.specs.Retained.{IsTabletOf, floor_now, from_set, live, source_at, unfinished}
+use Rattle.model.specs.Records.{Copying, Listed, ScheduledNamespace, SnapshotRecord, is_visible, point_of, unfinished}
+use Rattle.model.specs.Retained.{IsTabletOf, floor_now, from_set, live, source_at}
 use Rattle.model.specs.Schedules.{complete_to, serving}
 use Rattle.model.specs.Tablets.{act_for, Body, Clock, Command, Copy, Fence, Freeze, FrozenSet, Hide, Mark, Release, RestoreFrom, Tablet, TabletAct, effect, kind_of, processed, set_of}
 use Rattle.model.specs.Tablets as tell
-use Rattle.model.specs.Taking.{SetKept, TakesNothingNeeded, is_first_of, read_from, replaced_from}
+use Rattle.model.specs.Taking.{Unchanged, SetKept, TakesNothingNeeded, read_from, replaced_from, takes_back}
 use Rattle.model.specs.Times.{before_end}
 use Rattle.law_store.proofs.Choosing.{frozen_reads}
 use Rattle.law_store.proofs.Keys.{either_way}
@@ -196,7 +196,8 @@ restore_leaves snapshot at point version ps activity changes slot other n operat
     let owner = inv.master.listed_of r l k.kept k.line.listed i time.inside (sym is ∙ home.tablet_is) in
     let one : s.namespace ≡ r.namespace = some_same (sym (owned_is (owner_of m.catalog.owners i.table) s.namespace time.owned) ∙ owner) in
     let part : same operation r.id ≡ true = ap (λ id. same id r.id) (sym k.id_is) ∙ same_self r.id in
-    let early : to < point = before_point (Process slot other) ps activity changes r point s.namespace to inv k.kept k.unfinished (ap (λ cs_. is_first_of cs_ r.id) e ∙ part) (ap point_of state) one time.before in
+    let early : to < point = before_point (Process slot other) ps activity changes r point s.namespace to inv k.kept k.unfinished
+    (ap (λ cs_. cond (takes_back cs_ r.id) (point_of r.state) None) e ∙ ap (λ b. cond (b && true) (point_of r.state) None) part ∙ ap point_of state) one time.before in
     let own : point ≤ complete_to s + 1 = facts.own r s point k.kept (ap own_point state) time.had one in
     none_or_some (serving m.snapshots s.namespace to)
     (λ none. absurd (let late = unserved_late m changes s to inv.operations time.had (facts.times s time.had) none time.low in omega (arith, early, own, late)))
@@ -278,7 +279,7 @@ tablets_leave slot other ps after activity later_activity changes later_changes 
               reads = λ key. ap (λ rs. read_from (source_at (serving rs s.namespace to) (unfinished rs s.namespace) (after.tablet i.slot) to) key (min to (ps.tablet i.slot).clock)) quiet.snapshots ∙ keeps.reads key;
             };
       };
-  schedules = λ s there. inl (s, (subst (In s) (sym quiet.schedules) there, refl));
+  schedules = λ s there. Unchanged s (subst (In s) (sym quiet.schedules) there) refl;
 }
 
 quiet_after : (act : Act) (o : Outcome) (n : ℕ) (ps : Parts) → o.master ≡ Ticks → Later (slots_of act) ps n → IsQuiet ps.master (told act o n ps).master

@@ -12,8 +12,8 @@ use Rattle.model.specs.Catalog.{owner_of, owns}
 use Rattle.model.specs.Cleanup.{floor_of}
 use Rattle.model.specs.Journal.{Change}
 use Rattle.model.specs.Parts.{Master, Parts}
-use Rattle.model.specs.Records.{Listed, ScheduledNamespace, SnapshotRecord, lists_tablet}
-use Rattle.model.specs.Retained.{IsTabletOf, ReachesBack, WillServe, floor_now, from_set, live, source_at, source_for, unfinished}
+use Rattle.model.specs.Records.{Listed, ScheduledNamespace, SnapshotRecord, lists_tablet, unfinished}
+use Rattle.model.specs.Retained.{IsTabletOf, ReachesBack, WillServe, floor_now, from_set, live, source_at, source_for}
 use Rattle.model.specs.Schedules.{complete_to, serving}
 use Rattle.model.specs.Tablets.{FrozenSet, Tablet, set_of}
 use Rattle.law_store.proofs.Keys.{either_way}

@@ -20,13 +20,13 @@ use Rattle.model.specs.Moves.{begins_clone, clone_goes, clone_moved, completed, 
 use Rattle.model.specs.Parts.{Acks, DeletesSchedule, MakesSchedule, Master, MasterAct, Moves, Outcome, Parts, Removes, TakesSnapshot}
 use Rattle.model.specs.Records.{Accepted, CloneComplete, CloneRecord, CloneReleasing, CloneSnapshot, CloneState, Copying, Fencing, Listed, Releasing, RestorationRecord, RestorationState, Restored, Restoring, Schedule, ScheduledNamespace, SnapshotRecord, Snapshotting, Switching, schedule_of, scheduled_in}
 use Rattle.model.specs.Retained.{TimesRise, before_next, last_time}
-use Rattle.model.specs.Schedules.{after_in, after_of, complete_to, or_before}
+use Rattle.model.specs.Schedules.{after_in, after_of, or_before}
 use Rattle.law_store.proofs.Keys.{either_way}
 use Rattle.law_invariants.specs.Invariant.{Inv, Later}
 use Rattle.law_invariants.specs.Operations.{OperationsGood}
-use Rattle.law_invariants.proofs.Finding.{filter_in, find_is, find_none, in_append, in_first, in_mapped, in_second, none_or_some, not_same, same_equal, same_self}
-use Rattle.law_retention.specs.Facts.{Facts, IsTaken, WasTaken}
-use Rattle.law_retention.proofs.Scheduling.{after_in_is, newly, unfinished_found}
+use Rattle.law_invariants.proofs.Finding.{filter_in, find_is, find_none, in_append, in_mapped, none_or_some, not_same, same_equal, same_self}
+use Rattle.law_retention.specs.Facts.{IsTaken}
+use Rattle.law_retention.proofs.Scheduling.{after_in_is, newly}
 
 last_past : (rs : List SnapshotRecord) (ns : Id) (last clock : ℕ) → ((r : SnapshotRecord) → In r rs → r.at ≤ clock) → last ≤ clock → last_time rs ns last ≤ clock
 last_past [] ns last clock past le = le
@@ -42,11 +42,9 @@ rise_added : (rs : List SnapshotRecord) (new : SnapshotRecord) (ns : Id) (since 
 rise_added [] new ns since last rise next = (next, tt)
 rise_added (r ∷ rs) new ns since last rise next = (rise.0, rise_added rs new ns since (cond (same r.namespace ns) r.at last) rise.1 next)
 
-pub none_taken : (m : Master) (since : Id → ℕ) → m.scheduled ≡ [] → m.snapshots ≡ [] → IsTaken [] since m
-none_taken m since none empty = record {
+pub none_taken : (m : Master) (since : Id → ℕ) → m.scheduled ≡ [] → IsTaken [] since m
+none_taken m since none = record {
   past = λ r there. absurd there;
-  kept = λ r there. absurd (subst (In r) empty there);
-  complete = λ s at listed is. absurd (subst (In s) none listed);
   since_is = λ s listed. absurd (subst (In s) none listed);
   rise = λ ns since late. tt;
   each = λ s listed. absurd (subst (In s) none listed);
@@ -55,11 +53,6 @@ none_taken m since none empty = record {
 
 -- What a step makes of snapshots and scheduled namespaces
 
--- the last complete snapshot of a scheduled namespace is the one that was, or one that becomes complete
-abbrev IsLater : Master → ScheduledNamespace → ScheduledNamespace → Type 0
-IsLater m was s = (s.complete ≡ was.complete)
-    ⊎ ((r : SnapshotRecord) × (In r m.snapshots × ((r.complete ≡ false) × ((r.namespace ≡ was.namespace) × (s.complete ≡ Some r.at)))))
-
 -- a scheduled namespace goes on, or is so from the stamp on
 pub record GoesOnAs (m : Master) (s : ScheduledNamespace) : Type 0 where
   pub was : ScheduledNamespace
@@ -67,18 +60,16 @@ pub record GoesOnAs (m : Master) (s : ScheduledNamespace) : Type 0 where
   pub namespace_is : was.namespace ≡ s.namespace
   pub since_is : was.since ≡ s.since
   pub last_is : was.last ≡ s.last
-  pub complete_is : IsLater m was s
 
 pub record IsFirst (m : Master) (n : ℕ) (s : ScheduledNamespace) : Type 0 where
   pub since : m.clock < s.since
   pub since_is : s.since ≡ n
   pub last_is : s.last ≡ None
-  pub complete_is : s.complete ≡ None
   pub unscheduled : scheduled_in m.scheduled s.namespace ≡ None
 
 -- a kept snapshot was kept before
 abbrev IsKnown : Master → SnapshotRecord → Type 0
-IsKnown m q = (r : SnapshotRecord) × (In r m.snapshots × ((r.id ≡ q.id) × ((r.namespace ≡ q.namespace) × (r.at ≡ q.at))))
+IsKnown m q = (r : SnapshotRecord) × (In r m.snapshots × (r.id ≡ q.id))
 
 -- no snapshot is made
 pub record NoneMade (m : Master) (n : ℕ) (k : Master) : Type 0 where
@@ -100,12 +91,12 @@ abbrev Makes : Master → ℕ → Master → Type 0
 Makes m n k = NoneMade m n k ⊎ OneMade m k
 
 they_go : (m : Master) (n : ℕ) (s : ScheduledNamespace) → In s m.scheduled → GoesOnAs m s ⊎ IsFirst m n s
-they_go m n s listed = inl (record { was = s; listed = listed; namespace_is = refl; since_is = refl; last_is = refl; complete_is = inl refl })
+they_go m n s listed = inl (record { was = s; listed = listed; namespace_is = refl; since_is = refl; last_is = refl })
 
 makes_none : (m : Master) (n : ℕ) (k : Master) → m.clock ≤ k.clock → k.snapshots ≡ m.snapshots → k.scheduled ≡ m.scheduled → Makes m n k
 makes_none m n k later snapshots scheduled = inl (record {
   later = later;
-  known = λ q there. (q, (subst (In q) snapshots there, (refl, (refl, refl))));
+  known = λ q there. (q, (subst (In q) snapshots there, refl));
   scheduled = λ s listed. they_go m n s (subst (In s) scheduled listed);
 })
 
@@ -113,26 +104,23 @@ begun_goes : (found : Option ScheduledNamespace) (m : Master) (ns : Id) (n : ℕ
 begun_goes (Some q) m ns n before e s listed = they_go m n s listed
 begun_goes None m ns n before e s listed = elim (in_append m.scheduled (newly ns n ∷ []) s listed) [
   | inl old ↦ they_go m n s old
-  | inr new ↦ elim new [ inl is ↦ inr (subst (IsFirst m n) is (record { since = before; since_is = refl; last_is = refl; complete_is = refl; unscheduled = e })) | inr none ↦ absurd none ]
+  | inr new ↦ elim new [ inl is ↦ inr (subst (IsFirst m n) is (record { since = before; since_is = refl; last_is = refl; unscheduled = e })) | inr none ↦ absurd none ]
 ]
 
--- a snapshot that becomes complete is the last complete one of its namespace
-reached_goes : (m : Master) (n : ℕ) (r : SnapshotRecord) → In r m.snapshots → r.complete ≡ false → (s : ScheduledNamespace)
+-- scheduled namespaces go on where a snapshot becomes complete
+reached_goes : (m : Master) (n : ℕ) (r : SnapshotRecord) (s : ScheduledNamespace)
     → In s (map {A = ScheduledNamespace} (λ k. record k { complete = cond (same k.namespace r.namespace) (Some r.at) k.complete }) m.scheduled) → GoesOnAs m s ⊎ IsFirst m n s
-reached_goes m n r there left = in_mapped {A = ScheduledNamespace} {B = ScheduledNamespace} _ (λ s. GoesOnAs m s ⊎ IsFirst m n s) m.scheduled
+reached_goes m n r = in_mapped {A = ScheduledNamespace} {B = ScheduledNamespace} _ (λ s. GoesOnAs m s ⊎ IsFirst m n s) m.scheduled
     (λ k listed. inl (record {
       was = k;
       listed = listed;
       namespace_is = refl;
       since_is = refl;
       last_is = refl;
-      complete_is = either_way (same k.namespace r.namespace)
-          (λ b. inr (r, (there, (left, (sym (same_equal k.namespace r.namespace b), ap (λ c. cond c (Some r.at) k.complete) b)))))
-          (λ b. inl (ap (λ c. cond c (Some r.at) k.complete) b));
     }))
 
 mapped_known : (m : Master) (complete : SnapshotRecord → Bool) (listed : SnapshotRecord → List Listed) (q : SnapshotRecord) → In q (map {A = SnapshotRecord} (λ x. record x { complete = complete x; listed = listed x }) m.snapshots) → IsKnown m q
-mapped_known m complete listed = in_mapped {A = SnapshotRecord} {B = SnapshotRecord} _ (IsKnown m) m.snapshots (λ x there. (x, (there, (refl, (refl, refl)))))
+mapped_known m complete listed = in_mapped {A = SnapshotRecord} {B = SnapshotRecord} _ (IsKnown m) m.snapshots (λ x there. (x, (there, refl)))
 
 restoration_makes : (state : RestorationState) (r : RestorationRecord) (n : ℕ) (m : Master) → m.clock < n → Makes m n (restoration_moved state r n m)
 restoration_makes Fencing r n m before = inr (record { namespace = r.namespace; schedule = r.schedule; at = n; later = before; clock_is = refl; snapshots_are = refl; scheduled_are = refl })
@@ -163,7 +151,7 @@ of_found m n move idle (Some a) each none = each a refl
 
 moved_makes : (kind : Kind) (id : Id) (n : ℕ) (m : Master) → m.clock < n → Makes m n (moved_of kind id n m)
 moved_makes Snapshot id n m before = of_found m n (λ r. completed r n m) (record m { clock = n }) (unfinished_snapshot m.snapshots id)
-    (λ r e. let found = unfinished_found m.snapshots id r e in inl (record { later = le_of_lt before; known = mapped_known m _ _; scheduled = reached_goes m n r found.kept found.open_is }))
+    (λ r e. inl (record { later = le_of_lt before; known = mapped_known m _ _; scheduled = reached_goes m n r }))
     (makes_none m n _ (le_of_lt before) refl refl)
 moved_makes Restoration id n m before = of_found m n (λ r. restoration_moved r.state r n m) (record m { clock = n }) (unfinished_restoration m.restorations id) (λ r e. restoration_makes r.state r n m before) (makes_none m n _ (le_of_lt before) refl refl)
 moved_makes Clone id n m before = of_found m n (λ c. clone_moved c.state c n m) (record m { clock = n }) (unfinished_clone m.clones id) (λ c e. clone_makes c.state c n m before) (makes_none m n _ (le_of_lt before) refl refl)
@@ -176,16 +164,16 @@ acked_makes _ operation slot n m before = makes_none m n _ (le_of_lt before) ref
 removed_makes : (kind : Kind) (target : Id) (n : ℕ) (m : Master) → m.clock < n → Makes m n (removed_of kind target n m)
 removed_makes Snapshot target n m before = inl (record {
   later = le_of_lt before;
-  known = λ q there. (q, ((filter_in m.snapshots (λ r. not (same r.id target)) q there).0, (refl, (refl, refl))));
+  known = λ q there. (q, ((filter_in m.snapshots (λ r. not (same r.id target)) q there).0, refl));
   scheduled = they_go m n;
 })
 removed_makes _ target n m before = makes_none m n _ (le_of_lt before) refl refl
 
 told_makes : (act : MasterAct) (n : ℕ) (m : Master) → m.clock < n → Makes m n (master_effect act n m)
 told_makes (MakesSchedule ns interval retention) n m before =
-    inl (record { later = le_of_lt before; known = λ q there. (q, (there, (refl, (refl, refl)))); scheduled = begun_goes (scheduled_in m.scheduled ns) m ns n before refl })
+    inl (record { later = le_of_lt before; known = λ q there. (q, (there, refl)); scheduled = begun_goes (scheduled_in m.scheduled ns) m ns n before refl })
 told_makes (DeletesSchedule schedule) n m before =
-    inl (record { later = le_of_lt before; known = λ q there. (q, (there, (refl, (refl, refl)))); scheduled = λ s listed. they_go m n s (filter_in m.scheduled _ s listed).0 })
+    inl (record { later = le_of_lt before; known = λ q there. (q, (there, refl)); scheduled = λ s listed. they_go m n s (filter_in m.scheduled _ s listed).0 })
 told_makes (TakesSnapshot s) n m before = inr (record { namespace = s.namespace; schedule = s.id; at = n; later = before; clock_is = refl; snapshots_are = refl; scheduled_are = refl })
 told_makes (Acks operation slot) n m before = acked_makes operation.kind operation slot n m before
 told_makes (Moves operation) n m before = moved_makes operation.kind operation n m before
@@ -254,57 +242,12 @@ since_begins m changes n since s ops first =
     let none : is_some (schedule_of m.schedules s.namespace) ≡ false = sym (scheduled_are m changes s.namespace ops) ∙ ap is_some first.unscheduled in
     first.since_is ∙ ap (λ b. cond b (since s.namespace) n) (sym none)
 
--- a snapshot that becomes complete was taken since its namespace has schedules
-complete_since : (ps : Parts) (activity : List Interval) (changes : List Change) (taken : List SnapshotRecord) (since : Id → ℕ) (s : ScheduledNamespace) (r : SnapshotRecord) → Inv ps activity changes → Facts ps → IsTaken taken since ps.master
-    → In s ps.master.scheduled → In r ps.master.snapshots → r.complete ≡ false → r.namespace ≡ s.namespace → s.since ≤ r.at
-complete_since ps activity changes taken since s r inv facts h listed kept left of =
-    let after : r.after ≡ complete_to s = (facts.times s listed).unfinished r kept of left in
-    let rises : r.after < r.at = (inv.operations.snapshots r kept).rises in
-    let from : s.since ≤ complete_to s + 1 = none_or_some s.complete
-    (λ none. subst (λ o. s.since ≤ or_before o s.since + 1) (sym none) (just s.since))
-    (λ at some. subst (λ o. s.since ≤ or_before o s.since + 1) (sym some) (le_trans (h.complete s at listed some).0 (next at))) in
-    omega (arith, after, rises, from)
-  where
-    just : (a : ℕ) → a ≤ a - 1 + 1
-    just a = omega arith
-
-    next : (a : ℕ) → a ≤ a + 1
-    next a = omega arith
-
-abbrev IsComplete : List SnapshotRecord → ScheduledNamespace → Type 0
-IsComplete taken s = (at : ℕ) → s.complete ≡ Some at → (s.since ≤ at) × WasTaken taken s.namespace at
-
-complete_goes : (ps : Parts) (activity : List Interval) (changes : List Change) (taken : List SnapshotRecord) (since : Id → ℕ) (s : ScheduledNamespace) (q : GoesOnAs ps.master s) → Inv ps activity changes → Facts ps → IsTaken taken since ps.master → IsComplete taken s
-complete_goes ps activity changes taken since s q inv facts h at is = elim q.complete_is [
-  | inl same_ ↦ (
-      let was = h.complete q.was at q.listed (sym same_ ∙ is) in (
-        subst (λ x. x ≤ at) q.since_is was.0,
-        subst (λ ns. WasTaken taken ns at) q.namespace_is was.1,
-      ))
-  | inr r ↦ (
-      let of : r.0.namespace ≡ q.was.namespace = r.1.1.1.0 in
-      let at_is : r.0.at ≡ at = some_same (sym r.1.1.1.1 ∙ is) in (
-        subst (λ x. x ≤ at) q.since_is (subst (λ x. q.was.since ≤ x) at_is (complete_since ps activity changes taken since q.was r.0 inv facts h q.listed r.1.0 r.1.1.0 of)),
-        subst (λ x. WasTaken taken s.namespace x) at_is (subst (λ ns. WasTaken taken ns r.0.at) (of ∙ q.namespace_is) (h.kept r.0 r.1.0)),
-      ))
-]
-  where
-    some_same : {a b : ℕ} → Some a ≡ Some b → a ≡ b
-    some_same e = cc
-
-none_goes : (ps : Parts) (activity : List Interval) (changes : List Change) (taken : List SnapshotRecord) (since : Id → ℕ) (n : ℕ) (k : Master) → Inv ps activity changes → Facts ps → IsTaken taken since ps.master → NoneMade ps.master n k
+none_goes : (ps : Parts) (activity : List Interval) (changes : List Change) (taken : List SnapshotRecord) (since : Id → ℕ) (n : ℕ) (k : Master) → Inv ps activity changes → IsTaken taken since ps.master → NoneMade ps.master n k
     → IsTaken taken (since_after ps.master n since) k
-none_goes ps activity changes taken since n k inv facts h none =
+none_goes ps activity changes taken since n k inv h none =
     let m = ps.master in
     record {
       past = λ r there. le_trans (h.past r there) none.later;
-      kept = λ r there. (
-          let was = none.known r there in
-          subst (WasTaken taken r.namespace) was.1.1.1.1 (subst (λ ns. WasTaken taken ns was.0.at) was.1.1.1.0 (h.kept was.0 was.1.0)));
-      complete = λ s at listed is. elim (none.scheduled s listed) [
-        | inl q ↦ complete_goes ps activity changes taken since s q inv facts h at is
-        | inr first ↦ absurd (none_some (sym first.complete_is ∙ is))
-      ];
       since_is = λ s listed. elim (none.scheduled s listed) [
         | inl q ↦ sym q.since_is ∙ since_stays m changes n since s q.was inv.operations q.listed q.namespace_is (h.since_is q.was q.listed)
         | inr first ↦ since_begins m changes n since s inv.operations first
@@ -320,9 +263,6 @@ none_goes ps activity changes taken since n k inv facts h none =
         | inr first ↦ first_last taken since m n s h first
       ];
     }
-  where
-    none_some : {A : Type 0} {a : A} → None ≡ Some a → ⊥
-    none_some e = cc
 
 -- a namespace is scheduled since before the clock
 since_past : (ps : Parts) (activity : List Interval) (changes : List Change) (s : ScheduledNamespace) → Inv ps activity changes → In s ps.master.scheduled → s.since ≤ ps.master.clock
@@ -364,13 +304,6 @@ one_goes taken since n ps activity changes k made inv h =
         | inl old ↦ (let le = h.past r old in omega (arith, le, at, clock))
         | inr here ↦ elim here [ inl is ↦ subst (λ x. x ≤ k.clock) (ap (λ x. x.at) is) (subst (λ c. made.at ≤ c) clock (le_refl made.at)) | inr none ↦ absurd none ]
       ];
-      kept = λ r there. elim (in_append m.snapshots (new ∷ []) r (subst (In r) made.snapshots_are there)) [
-        | inl old ↦ still_taken taken new r.namespace r.at (h.kept r old)
-        | inr here ↦ elim here [ inl is ↦ subst (λ q. WasTaken (taken ++ new ∷ []) q.namespace q.at) is (new, (in_second taken (new ∷ []) new (inl refl), (refl, refl))) | inr none ↦ absurd none ]
-      ];
-      complete = λ s listed_at listed. in_mapped {A = ScheduledNamespace} {B = ScheduledNamespace} _ (λ q. q.complete ≡ Some listed_at → (q.since ≤ listed_at) × WasTaken (taken ++ new ∷ []) q.namespace listed_at) m.scheduled
-          (λ q there is. let was = h.complete q listed_at there is in (was.0, still_taken taken new q.namespace listed_at was.1))
-          s (subst (In s) made.scheduled_are listed);
       since_is = λ s listed. in_mapped {A = ScheduledNamespace} {B = ScheduledNamespace} _ (λ q. q.since ≡ since_after m n since q.namespace) m.scheduled
           (λ q there. since_stays m changes n since q q inv.operations there refl (h.since_is q there))
           s (subst (In s) made.scheduled_are listed);
@@ -388,17 +321,14 @@ one_goes taken since n ps activity changes k made inv h =
           (λ q there. one_goes_last taken since ps activity changes k q made inv h there)
           s (subst (In s) made.scheduled_are listed);
     }
-  where
-    still_taken : (taken : List SnapshotRecord) (new : SnapshotRecord) (ns : Id) (at : ℕ) → WasTaken taken ns at → WasTaken (taken ++ new ∷ []) ns at
-    still_taken taken new ns at was = (was.0, (in_first taken (new ∷ []) was.0 was.1.0, was.1.1))
 
-makes_goes : (taken : List SnapshotRecord) (since : Id → ℕ) (n : ℕ) (ps : Parts) (activity : List Interval) (changes : List Change) (k : Master) → Inv ps activity changes → Facts ps → IsTaken taken since ps.master → Makes ps.master n k
+makes_goes : (taken : List SnapshotRecord) (since : Id → ℕ) (n : ℕ) (ps : Parts) (activity : List Interval) (changes : List Change) (k : Master) → Inv ps activity changes → IsTaken taken since ps.master → Makes ps.master n k
     → IsTaken (taken ++ snapshots_since ps.master k) (since_after ps.master n since) k
-makes_goes taken since n ps activity changes k inv facts h (inl none) =
+makes_goes taken since n ps activity changes k inv h (inl none) =
     let m = ps.master in
-    let by : (q : SnapshotRecord) → In q k.snapshots → q.id.number ≤ m.drawn.snapshots = λ q there. (let r = none.known q there in subst (λ id. id.number ≤ m.drawn.snapshots) r.1.1.0 (inv.operations.snapshots r.0 r.1.0).drawn) in
-    subst (λ rs. IsTaken rs (since_after m n since) k) (sym (ap (λ rs. taken ++ rs) (none_since k.snapshots m.drawn.snapshots by) ∙ behind taken)) (none_goes ps activity changes taken since n k inv facts h none)
-makes_goes taken since n ps activity changes k inv facts h (inr made) =
+    let by : (q : SnapshotRecord) → In q k.snapshots → q.id.number ≤ m.drawn.snapshots = λ q there. (let r = none.known q there in subst (λ id. id.number ≤ m.drawn.snapshots) r.1.1 (inv.operations.snapshots r.0 r.1.0).drawn) in
+    subst (λ rs. IsTaken rs (since_after m n since) k) (sym (ap (λ rs. taken ++ rs) (none_since k.snapshots m.drawn.snapshots by) ∙ behind taken)) (none_goes ps activity changes taken since n k inv h none)
+makes_goes taken since n ps activity changes k inv h (inr made) =
     let m = ps.master in
     let new = new_snapshot m made.namespace made.schedule made.at in
     let by : (q : SnapshotRecord) → In q m.snapshots → q.id.number ≤ m.drawn.snapshots = λ q there. (inv.operations.snapshots q there).drawn in
@@ -409,9 +339,9 @@ makes_goes taken since n ps activity changes k inv facts h (inr made) =
     next a = omega arith
 
 -- all snapshots that were ever taken follow each other after an act, too
-pub taken_go_on : (act : Act) (o : Outcome) (n : ℕ) (ps : Parts) (activity : List Interval) (changes : List Change) (taken : List SnapshotRecord) (since : Id → ℕ) → Later (slots_of act) ps n → Inv ps activity changes → Facts ps → IsTaken taken since ps.master
+pub taken_go_on : (act : Act) (o : Outcome) (n : ℕ) (ps : Parts) (activity : List Interval) (changes : List Change) (taken : List SnapshotRecord) (since : Id → ℕ) → Later (slots_of act) ps n → Inv ps activity changes → IsTaken taken since ps.master
     → IsTaken (taken ++ snapshots_since ps.master (told act o n ps).master) (since_after ps.master n since) (told act o n ps).master
-taken_go_on act o n ps activity changes taken since later inv facts h =
-    makes_goes taken since n ps activity changes (told act o n ps).master inv facts h
+taken_go_on act o n ps activity changes taken since later inv h =
+    makes_goes taken since n ps activity changes (told act o n ps).master inv h
     (cond_both (has (slots_of act) 0) (master_effect o.master n ps.master) ps.master (Makes ps.master n)
     (λ is. told_makes o.master n ps.master (later 0 is)) (λ is. makes_none ps.master n ps.master (le_refl _) refl refl))

@@ -1,43 +1,26 @@
 -- Retention holds where what holds after each entry does, and how far back tablets go, and how snapshots follow each other.
-use Rattle.std.proofs.Common.{◌<◌, ◌≤◌, ◌≡◌, ◌∷◌, ◌∙◌, ℕ, List, [], true, false, Option, Some, None, refl, sym, ap, subst, inl, inr, arith, leb, leb-true, ltb-true, ◌-◌, ◌*◌, max}
+use Rattle.std.proofs.Common.{◌&&◌, ◌≤◌, ◌≡◌, ◌∷◌, ◌∙◌, not, ℕ, List, [], true, false, None, refl, sym, ap, subst, inl, inr, arith, ◌-◌, ◌*◌, max}
 use Rattle.std.proofs.lemmas.Bool.{true≢false}
 use Rattle.std.specs.Option.{option_map_or}
-use Rattle.row_values.specs.Ids.{Id}
+use Rattle.row_values.specs.Ids.{Id, same}
 use Rattle.row_values.specs.Elements.{In}
-use Rattle.model.specs.Times.{before_end, ended_by, minute}
+use Rattle.model.specs.Times.{minute}
 use Rattle.model.specs.Activity.{Interval, active_at}
 use Rattle.model.specs.Catalog.{owner_of}
-use Rattle.model.specs.Cleanup.{floor_of, floor_of_table}
 use Rattle.model.specs.Journal.{Change}
 use Rattle.model.specs.Parts.{Master, Parts}
-use Rattle.model.specs.Records.{Schedule, ScheduledNamespace, SnapshotRecord}
-use Rattle.model.specs.Retained.{IsPresent, IsTabletOf, OneUnfinished, Retained, floor_now, unfinished}
-use Rattle.model.specs.Schedules.{low}
+use Rattle.model.specs.Records.{Schedule, ScheduledNamespace, SnapshotRecord, unfinished}
+use Rattle.model.specs.Retained.{IsPresent, IsTabletOf, OneUnfinished, Retained, floor_now}
+use Rattle.model.specs.Schedules.{after_of, complete_to, low}
 use Rattle.model.specs.Tablets.{is_empty}
 use Rattle.law_invariants.specs.Invariant.{Inv}
 use Rattle.law_invariants.specs.Operations.{OperationsGood, SnapshotsRise}
-use Rattle.law_invariants.specs.Remembered.{IsForgotten}
-use Rattle.law_invariants.proofs.Finding.{both_pass, none_or_some, same_equal}
+use Rattle.law_invariants.proofs.Remembering.{never_forgotten}
+use Rattle.law_invariants.proofs.Finding.{find_none, none_or_some, passes_both, same_equal, same_self}
 use Rattle.law_invariants.proofs.Undoing.{owned_is}
-use Rattle.law_retention.specs.Facts.{Facts, IsTaken}
+use Rattle.law_retention.specs.Facts.{Facts, IsTaken, TimesFollow}
 use Rattle.law_retention.proofs.Recounting.{scheduled_are}
 use Rattle.law_retention.proofs.Reaching.{rows_reached, unfinished_is}
-
--- a tablet that was removed wasn't active from the floor on
-
-pub ended_over : (end : Option ℕ) (floor x : ℕ) → floor ≤ x → ended_by floor end ≡ true → before_end x end ≡ true → ⊥
-ended_over None floor x le over active = true≢false (sym over)
-ended_over (Some to) floor x le over active =
-    let o : to ≤ floor = leb-true to floor over in
-    let l : x < to = ltb-true x to active in
-    omega (arith, le, o, l)
-
-never_forgotten : (m : Master) (ns : Id) (i : Interval) (x : ℕ) → IsForgotten m i → IsTabletOf m ns i → floor_now m ns ≤ x → active_at x i ≡ true → ⊥
-never_forgotten m ns i x gone owned low active =
-    let owner = owned_is (owner_of m.catalog.owners i.table) ns owned in
-    let floor : floor_of_table m i.table m.clock ≡ floor_now m ns = ap (λ o. option_map_or (λ k. floor_of m k m.clock) o m.clock) owner in
-    let over : ended_by (floor_now m ns) i.to ≡ true = subst (λ f. ended_by f i.to ≡ true) floor gone.below in
-    ended_over i.to (floor_now m ns) x low over (both_pass (leb i.from x) (before_end x i.to) active).1
 
 -- an interval that the master keeps is of a tablet that is there
 pub is_there : (ps : Parts) (activity : List Interval) (changes : List Change) (i : Interval) → Inv ps activity changes → In i ps.master.activity → IsPresent ps i.slot i.tablet
@@ -82,19 +65,26 @@ since_before ps changes s t ops listed inside is =
     most : (a b c : ℕ) → a ≤ b → a ≤ max b c
     most a b c le = omega arith
 
+-- the last complete snapshot is the one before the unfinished one, or the last one
+complete_after : (m : Master) (s : ScheduledNamespace) → TimesFollow m s → complete_to s ≡ option_map_or (λ r. r.after) (unfinished m.snapshots s.namespace) (after_of s)
+complete_after m s times = none_or_some (unfinished m.snapshots s.namespace)
+    (λ none. sym (times.last (λ r inside is left. true≢false (sym (passes_both (same r.namespace s.namespace) (not r.complete) (ap (λ id. same id s.namespace) is ∙ same_self s.namespace) (ap not left))
+    ∙ find_none (λ q. same q.namespace s.namespace && not q.complete) m.snapshots none r inside))) ∙ sym (ap (λ o. option_map_or (λ q. q.after) o (after_of s)) none))
+    (λ q some. let left = unfinished_is m.snapshots s.namespace q some in sym (times.unfinished q left.kept left.namespace_is left.open_is) ∙ sym (ap (λ o. option_map_or (λ q. q.after) o (after_of s)) some))
+
 pub facts_retain : (ps : Parts) (activity : List Interval) (changes : List Change) (taken : List SnapshotRecord) (since : Id → ℕ) → Inv ps activity changes → Facts ps → IsTaken taken since ps.master → Retained ps activity taken since
 facts_retain ps activity changes taken since inv facts h =
     let m = ps.master in
     let kept : (s : ScheduledNamespace) (i : Interval) (x : ℕ) → In i activity → IsTabletOf m s.namespace i → floor_now m s.namespace ≤ x → active_at x i ≡ true → In i m.activity = λ s i x ever owned low active.
-    elim (inv.remembered.each i ever) [ inl here ↦ here | inr gone ↦ absurd (never_forgotten m s.namespace i x gone owned low active) ] in
+    elim (inv.remembered.each i ever) [ inl here ↦ here | inr gone ↦ absurd (never_forgotten m s.namespace i x gone (owned_is (owner_of m.catalog.owners i.table) s.namespace owned) low active) ] in
     record {
       scheduled = λ s listed. record {
         active_present = λ i x ever owned low active. let k = kept s i x ever owned low active in (k, is_there ps activity changes i inv k);
         reaches = λ i to ever owned low past active. rows_reached ps changes activity s i to inv facts listed (kept s i to ever owned low active) owned low active;
-        cutoffs = λ slot i here last owned. let back = facts.tablets slot here in (back.live s i listed last owned, back.now);
+        cutoffs = λ slot i here last owned. (facts.tablets slot here).live s i listed last owned;
         times = h.each s listed;
         last = sym (h.last s listed);
-        complete = λ at is. h.complete s at listed is;
+        complete = complete_after m s (facts.times s listed);
         none_later = λ r kept_ of complete. (facts.times s listed).complete r kept_ of complete;
         unfinished_one = one_left m.snapshots s.namespace inv.operations.apart.snapshots_rise inv.operations.apart.one_snapshot;
         since_is = h.since_is s listed;

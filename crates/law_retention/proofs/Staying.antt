@@ -1,6 +1,6 @@
 -- Where what a time needs of the master is as before, and each tablet that is present keeps what it had, nothing that the
 -- time needs is taken.
-use Rattle.std.proofs.Common.{ap, arith, inl, le_trans, map, refl, subst, sym, ℕ, ◌≡◌, ◌≤◌, ◌∙◌, min, List, Option, Some, None, true}
+use Rattle.std.proofs.Common.{ap, arith, le_trans, map, refl, subst, sym, ℕ, ◌≡◌, ◌≤◌, ◌∙◌, min, List, Option, Some, None, true}
 use Rattle.std.specs.Option.{option_map}
 use Rattle.row_values.specs.Ids.{Id}
 use Rattle.row_values.specs.Elements.{In}
@@ -10,10 +10,10 @@ use Rattle.model.specs.Catalog.{owns, tables_at}
 use Rattle.model.specs.Cleanup.{floor_of}
 use Rattle.model.specs.Looks.{place_of}
 use Rattle.model.specs.Parts.{Parts}
-use Rattle.model.specs.Records.{ScheduledNamespace, SnapshotRecord}
+use Rattle.model.specs.Records.{ScheduledNamespace, SnapshotRecord, unfinished}
 use Rattle.model.specs.Schedules.{serving}
-use Rattle.model.specs.Retained.{IsPresent, IsTabletOf, ReachesBack, floor_now, source_at, source_for, unfinished}
-use Rattle.model.specs.Taking.{SetKept, StillServes, TabletKept, TakesNothingNeeded, names_at, read_from, untimed}
+use Rattle.model.specs.Retained.{IsPresent, IsTabletOf, ReachesBack, floor_now, source_at, source_for}
+use Rattle.model.specs.Taking.{Unchanged, SetKept, StillServes, TabletKept, TakesNothingNeeded, names_at, read_from, untimed}
 use Rattle.model.specs.Journal.{Change}
 use Rattle.law_invariants.specs.Invariant.{Inv}
 use Rattle.law_retention.specs.Facts.{Facts}
@@ -65,9 +65,9 @@ by_clock : (to clock : ℕ) → min to clock ≤ clock
 by_clock to clock = omega arith
 
 tablet_kept : (Counts : Id → Type 0) (before after : Parts) (activity : List Interval) (changes : List Change) (s : ScheduledNamespace) (to : ℕ) (i : Interval) → Inv after activity changes → Facts after
-    → Stays Counts before after → In s after.master.scheduled → floor_now after.master s.namespace ≤ to → to ≤ before.master.clock
+    → Stays Counts before after → In s after.master.scheduled → floor_now after.master s.namespace ≤ to
     → In i before.master.activity → IsTabletOf before.master s.namespace i → active_at to i ≡ true → TabletKept before after s.namespace to i
-tablet_kept Counts before after activity changes s to i inv facts stays listed from past inside owned active =
+tablet_kept Counts before after activity changes s to i inv facts stays listed from inside owned active =
     let m = before.master in
     let k = after.master in
     let t = before.tablet i.slot in
@@ -111,7 +111,7 @@ staying_takes_nothing Counts act before after activity changes inv facts stays =
             let owned_now : IsTabletOf after.master s.namespace i = subst (λ os. owns os s.namespace i.table ≡ true) (sym stays.owners) (subst (λ id. owns before.master.catalog.owners s.namespace id ≡ true) (sym is) owned) in
             stays.active s i to listed inside owned_now from active));
         serves = still_serves (serving after.master.snapshots s.namespace to) (serving before.master.snapshots s.namespace to) time.serving_like;
-        tablets = λ i inside owned active. tablet_kept Counts before after activity changes s to i inv facts stays listed from past inside owned active;
+        tablets = λ i inside owned active. tablet_kept Counts before after activity changes s to i inv facts stays listed from inside owned active;
       };
-  schedules = λ s inside. inl (s, (subst (In s) (sym stays.schedules) inside, refl));
+  schedules = λ s inside. Unchanged s (subst (In s) (sym stays.schedules) inside) refl;
 }

@@ -12,11 +12,11 @@ use Rattle.model.specs.Journal.{Change}
 use Rattle.model.specs.Lists.{new_snapshot}
 use Rattle.model.specs.Looks.{place_of}
 use Rattle.model.specs.Parts.{Master, Parts}
-use Rattle.model.specs.Records.{Schedule, ScheduledNamespace, SnapshotRecord}
-use Rattle.model.specs.Retained.{IsTabletOf, ReachesBack, floor_now, from_set, live, source_at, source_for, unfinished}
+use Rattle.model.specs.Records.{Schedule, ScheduledNamespace, SnapshotRecord, unfinished}
+use Rattle.model.specs.Retained.{IsTabletOf, ReachesBack, floor_now, from_set, live, source_at, source_for}
 use Rattle.model.specs.Schedules.{serving}
 use Rattle.model.specs.Tablets.{Tablet, set_of}
-use Rattle.model.specs.Taking.{ScheduleStays, SetKept, StillActive, StillServes, TakesNothingNeeded, names_at, read_from, replaced_from, untimed}
+use Rattle.model.specs.Taking.{ScheduleStays, SetKept, StillActive, StillServes, TakesNothingNeeded, changed_from, names_at, read_from, replaced_from, untimed}
 use Rattle.model.specs.Times.{before_end}
 use Rattle.law_store.proofs.Keys.{either_way}
 use Rattle.law_invariants.specs.Invariant.{Inv}
@@ -45,9 +45,9 @@ pub record SourcesStay (m k : Master) (tablet : ℕ → Tablet) (ns : Id) (to : 
 
 pub record MasterUntaken (act : Act) (ps : Parts) (k : Master) : Type 0 where
   pub later : ps.master.clock ≤ k.clock
-  pub times : (s : ScheduledNamespace) (to : ℕ) → In s ps.master.scheduled → to ≤ ps.master.clock → before_end to (replaced_from act ps s.namespace) ≡ true → TimeUntaken ps.master k s.namespace to
-  pub sources : (s : ScheduledNamespace) (to : ℕ) → In s ps.master.scheduled → floor_of ps.master s.namespace k.clock ≤ to → to ≤ ps.master.clock → SourcesStay ps.master k ps.tablet s.namespace to
-  pub schedules : (s : Schedule) → In s ps.master.schedules → ScheduleStays act s k
+  pub times : (s : ScheduledNamespace) (to : ℕ) → In s ps.master.scheduled → before_end to (changed_from act k) ≡ true → before_end to (replaced_from act ps s.namespace) ≡ true → TimeUntaken ps.master k s.namespace to
+  pub sources : (s : ScheduledNamespace) (to : ℕ) → In s ps.master.scheduled → floor_of ps.master s.namespace k.clock ≤ to → SourcesStay ps.master k ps.tablet s.namespace to
+  pub schedules : (s : Schedule) → In s ps.master.schedules → ScheduleStays act s ps.master k
 
 -- Tablets
 
@@ -82,7 +82,7 @@ untaken act ps after activity later_activity changes later_changes inv facts inv
   needed = λ s to had low past point.
       let m = ps.master in
       let time = master.times s to had past point in
-      let sources = master.sources s to had low past in
+      let sources = master.sources s to had low in
       let floor : floor_now m s.namespace ≤ to = le_trans (floor_up m s.namespace after.master.clock master.later) low in
       record {
         catalog = record {

@@ -64,15 +64,9 @@ pub record Facts (ps : Parts) : Type 0 where
 
 -- All snapshots that were ever taken
 
--- a snapshot of a namespace was taken at a stamp
-abbrev pub WasTaken : List SnapshotRecord → Id → ℕ → Type 0
-WasTaken taken ns at = (r : SnapshotRecord) × (In r taken × ((r.namespace ≡ ns) × (r.at ≡ at)))
-
 -- what holds of all snapshots that were ever taken, and of the stamps since which namespaces have schedules
 pub record IsTaken (taken : List SnapshotRecord) (since : Id → ℕ) (m : Master) : Type 0 where
   pub past : (r : SnapshotRecord) → In r taken → r.at ≤ m.clock
-  pub kept : (r : SnapshotRecord) → In r m.snapshots → WasTaken taken r.namespace r.at
-  pub complete : (s : ScheduledNamespace) (at : ℕ) → In s m.scheduled → s.complete ≡ Some at → (s.since ≤ at) × WasTaken taken s.namespace at
   pub since_is : (s : ScheduledNamespace) → In s m.scheduled → s.since ≡ since s.namespace
   -- for a namespace that is yet to be scheduled
   pub rise : (ns : Id) (since : ℕ) → m.clock < since → TimesRise taken ns since 0

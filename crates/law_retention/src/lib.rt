@@ -39,8 +39,8 @@ pub fn facts_are_kept()
 {}
 
 /// Where the invariants hold before an act and after it, and the facts before it, the act took nothing that a
-/// time needs, from the floor of a namespace with a schedule up to the master's clock: no version, no frozen set,
-/// no tablet, no record of the catalog. No act is left out.
+/// time needs, from the floor of a namespace with a schedule on, and before the act's stamp where the master takes part: no
+/// version, no frozen set, no tablet, no record of the catalog. No act is left out.
 pub fn acts_take_nothing()
     ensures needed { (act : Act) (slots n : ℕ) (ps : Parts) (activity : List Interval) (changes : List Change) (later_activity : List Interval) (later_changes : List Change) → ActAsked slots act → Later (slots_of act) ps n → Inv ps activity changes → Facts ps → Inv (told act (outcome act n ps) n ps) later_activity later_changes → TakesNothingNeeded act ps (told act (outcome act n ps) n ps) }
 {}

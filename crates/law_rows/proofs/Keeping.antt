@@ -1,19 +1,12 @@
 -- Counts, restarts, compactions and cutoffs keep what holds: they change no read.
 use Rattle.std.proofs.Common.{ℕ, ◌≡◌, ◌≤◌, ◌+◌, max, List, [], ◌∷◌, length, inl, inr, Option, Some, None, Bool, true, false, cond, ◌&&◌, ◌||◌, refl, sym, ap, subst, ◌∙◌, arith, not, eqb, eqb-true, le_trans, le_refl, le_of_lt}
 use Rattle.std.proofs.lemmas.Bool.Decides.{nat_tests}
-use Rattle.row_values.specs.Ids.{Id, same}
-use Rattle.row_values.specs.Elements.{In}
-use Rattle.row_values.specs.Slots.{has}
-use Rattle.row_values.specs.Ranges.{in_range}
-use Rattle.row_values.specs.Store.{kept}
-use Rattle.row_values.specs.Codes.{code_of}
+use Rattle.model.specs.Cluster.{Id, same, In, has, in_range, kept, code_of, Listed, RestorationRecord, Restoring, is_restored, ScheduledNamespace, scheduled_in, Master, Parts, If, Restarts, owner_of, Interval}
 use Rattle.law_store.proofs.Members.{keys_kept}
 use Rattle.model.specs.Journal.{Change}
 use Rattle.model.specs.Tablets.{is_empty, RaiseCutoff, Compact as CompactTablet, Restart as RestartTablet}
-use Rattle.model.specs.Records.{Listed, RestorationRecord, Restoring, is_restored, ScheduledNamespace, scheduled_in}
 use Rattle.model.specs.Schedules.{complete_to}
 use Rattle.model.specs.Acts.{Cutoff, Compact, Restart, Stats, Ok, CutoffAt, Compacted}
-use Rattle.model.specs.Parts.{Master, Parts, If, Restarts}
 use Rattle.model.specs.Coordination.{restarted_master}
 use Rattle.model.specs.Entries.{slots_of}
 use Rattle.model.specs.RowActs.{stats, restart, compact, cutoff, table_in, scheduled_at, has_moved, allowed_of}
@@ -21,10 +14,9 @@ use Rattle.law_store.proofs.Compaction.{compaction, sorted_kept, below_kept}
 use Rattle.law_store.proofs.Keys.{either_way}
 use Rattle.law_invariants.specs.Invariant.{Inv, Later}
 use Rattle.law_invariants.proofs.Ticking.{nothing_told, refused_keeps, by_checks, KeepsAll, below_later, master_before, master_ticked, slot_ticked, slots_ticked, tablet_before}
-use Rattle.law_invariants.proofs.Marked.{master_marked, inbox_changed}
+use Rattle.law_invariants.proofs.Frame.{master_marked, inbox_changed, one_told, rows_told, touched, tells}
 use Rattle.law_invariants.proofs.Remembering.{remembered_on, floor_rises}
 use Rattle.law_invariants.proofs.Operating.{Onward, operations_on}
-use Rattle.model.specs.Catalog.{owner_of}
 use Rattle.std.specs.Option.{option_and_then}
 use Rattle.law_store.proofs.Restoring.{kept_same}
 use Rattle.law_invariants.specs.Operations.{RestoringGood, RestorationStateGood}
@@ -33,10 +25,8 @@ use Rattle.std.proofs.lemmas.Bool.{true≢false}
 use Rattle.law_invariants.proofs.Undoing.{same_rows, journal_on}
 use Rattle.law_invariants.proofs.Ordering.{rows_same, orders_on, obeyed_on, orders_mild, orders_lost, obeyed_mild}
 use Rattle.law_invariants.proofs.Working.{tables_drawn, all_listed, same_fixed, onward_ticked, work_later_if}
-use Rattle.law_invariants.proofs.Frame.{one_told, rows_told, touched, tells}
 use Rattle.law_invariants.proofs.Hearing.{clocks_rise, rows_on}
-use Rattle.law_invariants.proofs.Rewriting.{rewriting_keeps}
-use Rattle.model.specs.Activity.{Interval}
+use Rattle.law_invariants.proofs.Holding.{rewriting_keeps}
 use Rattle.law_invariants.proofs.Told.{clock_before, has_it, has_second}
 
 pub stats_keeps : (ps : Parts) (activity : List Interval) (changes : List Change) (n slot : ℕ) → Later (slots_of (Stats slot)) ps n → Inv ps activity changes → KeepsAll (Stats slot) n ps activity changes (stats slot n ps)

@@ -2,17 +2,15 @@
 use Rattle.std.proofs.Common.{ℕ, List, Option}
 use Rattle.std.specs.Option.{option_to_list}
 use Rattle.std.specs.Prelude.{Result, Ok, Err}
-use Rattle.model.specs.Catalog.{TableRecord}
+use Rattle.model.specs.Cluster.{TableRecord, Parts, decided, answered, Interval}
 use Rattle.model.specs.Journal.{Change}
 use Rattle.model.specs.Acts.{Command, NamedItem, Act, Look, AskPlan, AskKeys, AskTable, AskWork, AskRemovable, AskPresent, Ask, Planned, Reply, Refused, Refusal}
-use Rattle.model.specs.Parts.{Parts, decided, answered}
 use Rattle.model.specs.Lists.{by_range}
 use Rattle.model.specs.Looks.{look_plan, look_keys, look_table, look_present, plan_of, found_at, judge_keys, placed, holding, first_code, active_in}
 use Rattle.model.specs.Entries.{slots_of}
 use Rattle.model.specs.History.{told, outcome}
 use Rattle.law_invariants.specs.Invariant.{Inv, Later}
 use Rattle.law_invariants.proofs.Ticking.{nothing_told, KeepsAll}
-use Rattle.model.specs.Activity.{Interval}
 use Rattle.law_invariants.specs.Remembered.{activity_after}
 
 -- a judgement that only answers, refused or not, keeps what holds

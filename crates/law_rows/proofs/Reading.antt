@@ -1,13 +1,8 @@
 -- A read changes nothing but clocks.
 use Rattle.std.proofs.Common.{ℕ, List, [], ◌∷◌, Option, refl}
 use Rattle.std.specs.Option.{option_map}
-use Rattle.row_values.specs.Elements.{in_order}
-use Rattle.row_values.specs.Store.{precedes}
-use Rattle.model.specs.Times.{time_of, is_future}
-use Rattle.model.specs.Activity.{Interval}
+use Rattle.model.specs.Cluster.{in_order, precedes, time_of, is_future, Interval, At, Read, Rows, Fenced, StaleSchema, Future, TooOld, Parts, If, Names, Fault, answered}
 use Rattle.model.specs.Journal.{Change}
-use Rattle.model.specs.Acts.{At, Read, Rows, Fenced, StaleSchema, Future, TooOld}
-use Rattle.model.specs.Parts.{Parts, If, Names, Fault, answered}
 use Rattle.model.specs.Entries.{slots_of}
 use Rattle.model.specs.RowActs.{read, first_moved, first_fence, stale, first_cutoff, rows_of_places, cut_rows}
 use Rattle.law_invariants.specs.Invariant.{Inv, Later}

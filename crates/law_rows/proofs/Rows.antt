@@ -2,15 +2,8 @@
 use Rattle.std.proofs.Common.{ℕ, ◌≡◌, ◌≤◌, ◌<◌, List, [], ◌∷◌, Bool, true, false, cond, ◌&&◌, ◌⊎◌, inl, inr, refl, sym, ap, subst, ◌∙◌, arith, leb, leb-true, le-leb, fold, is_some}
 use Rattle.std.specs.Str.{bytes_eq}
 use Rattle.std.specs.List.{list_all}
-use Rattle.row_values.specs.Rows.{applied}
-use Rattle.row_values.specs.Codes.{code_of}
-use Rattle.row_values.specs.declared.rows.Row.{Row}
-use Rattle.row_values.specs.declared.value.Item.{Item}
-use Rattle.row_values.specs.Ids.{Id, same}
-use Rattle.row_values.specs.Elements.{In}
-use Rattle.row_values.specs.Ranges.{in_range}
+use Rattle.model.specs.Cluster.{applied, code_of, Row, Item, Id, same, In, in_range, Tablet}
 use Rattle.model.specs.Journal.{Change, RowChanged, namespace_at, table_at, row_at}
-use Rattle.model.specs.Tablets.{Tablet}
 use Rattle.model.specs.Right.{is_fixed}
 use Rattle.model.specs.RowActs.{covers}
 use Rattle.law_invariants.specs.Operations.{is_switched}

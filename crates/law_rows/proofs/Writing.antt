@@ -4,21 +4,12 @@ use Rattle.std.proofs.Common.{ℕ, ◌≡◌, ◌≤◌, ◌<◌, ◌+◌, max, 
 use Rattle.std.proofs.lemmas.Bool.{true≢false}
 use Rattle.std.proofs.lemmas.Bool.Decides.{nat_tests}
 use Rattle.std.specs.List.{list_all}
-use Rattle.row_values.specs.Codes.{code_of}
-use Rattle.row_values.specs.declared.value.Item.{Item}
-use Rattle.row_values.specs.Ids.{Id, same}
-use Rattle.row_values.specs.Elements.{In}
-use Rattle.model.specs.Times.{before_end}
-use Rattle.row_values.specs.Ranges.{in_range}
+use Rattle.model.specs.Cluster.{code_of, Item, Id, same, In, before_end, in_range, owner_of, name_of, kept_from, Interval, active_at, Listed, RestorationRecord, RestorationState, Fencing, Restoring, Releasing, Restored, point_of, Master, Parts, If, Names, RowOp}
 use Rattle.row_values.specs.Store.{written}
-use Rattle.model.specs.Catalog.{owner_of, name_of, kept_from}
-use Rattle.model.specs.Activity.{Interval, active_at}
 use Rattle.model.specs.Journal.{Change, RowChanged, TableView, is_in, table_at, row_at, namespace_at}
-use Rattle.model.specs.Records.{Listed, RestorationRecord, RestorationState, Fencing, Restoring, Releasing, Restored, point_of}
 use Rattle.model.specs.Stands.{awaited_in, awaited_of}
 use Rattle.model.specs.Tablets.{Tablet, act_for, effect, is_serving, serves, wrote, Write as WriteRows, FrozenSet}
 use Rattle.model.specs.Acts.{At, Write, Ok, Fenced, StaleSchema}
-use Rattle.model.specs.Parts.{Master, Parts, If, Names}
 use Rattle.model.specs.Entries.{slots_of}
 use Rattle.model.specs.History.{rows_made, told}
 use Rattle.model.specs.RowActs.{write, serves_all, covers, has_moved}
@@ -29,7 +20,6 @@ use Rattle.law_store.proofs.Writing.{read_written, read_written_before, sorted_w
 use Rattle.law_invariants.specs.Invariant.{Inv, Later, SlotGood, SlotWorks, Covered, MasterGood, ComesFrom, StandsIn, is_awaited, SetStands, IsGoodIn, view_at}
 use Rattle.law_invariants.specs.Operations.{IsOpenOf, RestorationStateGood, is_switched, OperationsGood, JournalGood}
 use Rattle.law_invariants.proofs.Undoing.{before_none, owned_is}
-use Rattle.row_values.specs.declared.value.RowOp.{RowOp}
 use Rattle.law_invariants.specs.Orders.{RestorationSlot, FencingSlot, CopyingSlot, CloneSlot, RowsPast, directory}
 use Rattle.law_invariants.proofs.Hearing.{effect_clock}
 use Rattle.law_invariants.proofs.Ordering.{SourcesStay, orders_mild, obeyed_mild}

@@ -2,15 +2,10 @@
 use Rattle.std.proofs.Common.{ℕ, ◌≡◌, ◌≤◌, ◌<◌, ◌+◌, List, [], ◌∷◌, ◌++◌, Option, Some, None, Bool, true, false, cond, ◌&&◌, inl, inr, refl, sym, ap, subst, ◌∙◌, arith, leb, ltb, le_refl, le_of_lt, leb-true, ltb-true}
 use Rattle.std.proofs.lemmas.Bool.{cond_both, true≢false}
 use Rattle.std.proofs.lemmas.Bool.Decides.{nat_tests}
-use Rattle.row_values.specs.Ids.{Id, same}
-use Rattle.row_values.specs.Elements.{In}
-use Rattle.model.specs.Times.{before_end, ended, is_open}
-use Rattle.row_values.specs.Ranges.{in_range}
-use Rattle.model.specs.Activity.{Interval, end_tablet}
+use Rattle.model.specs.Cluster.{Id, same, In, before_end, ended, is_open, in_range, Interval, end_tablet, Master}
 use Rattle.model.specs.Journal.{Change}
 use Rattle.model.specs.Stands.{holders}
 use Rattle.model.specs.Changed.{begins, next_tablet}
-use Rattle.model.specs.Parts.{Master}
 use Rattle.model.specs.Stands.{HasRange}
 use Rattle.law_store.proofs.Keys.{either_way}
 use Rattle.law_invariants.specs.Invariant.{Covered}

@@ -1,18 +1,14 @@
 -- A tablet's activity ends: its open interval is closed, and all others stay.
 use Rattle.std.proofs.Common.{ℕ, ◌≡◌, ◌<◌, Option, Some, None, true, false, cond, inl, inr, sym, ap, ◌∙◌, leb, le_trans, le_of_lt}
 use Rattle.std.proofs.lemmas.Bool.{cond_both}
-use Rattle.row_values.specs.Ids.{Id, same}
-use Rattle.model.specs.Times.{before_end, ended}
-use Rattle.model.specs.Activity.{Interval, active_at}
-use Rattle.model.specs.Catalog.{owner_of}
-use Rattle.model.specs.Parts.{Master}
+use Rattle.model.specs.Cluster.{Id, same, before_end, ended, Interval, active_at, owner_of, Master}
 use Rattle.law_store.proofs.Keys.{either_way}
 use Rattle.law_invariants.specs.Invariant.{EndsBy, IsPast}
 use Rattle.law_invariants.proofs.Finding.{both_pass, passes_both, none_or_some, same_equal, same_self}
 use Rattle.law_invariants.proofs.Ticking.{ends_later}
 use Rattle.law_invariants.proofs.Holding.{end_weaker}
 use Rattle.law_invariants.proofs.Operating.{NotHeld, GoesOn}
-use Rattle.law_invariants.proofs.Ending.{ended_ends, closed}
+use Rattle.law_invariants.proofs.Covering.{ended_ends, closed}
 
 -- where an interval ends that may be one of the tablet's
 abbrev pub cut_end : Id → ℕ → Interval → Option ℕ

@@ -1,14 +1,9 @@
 -- The master after a split: operations go on, and what is remembered of all tablets.
 use Rattle.std.proofs.Common.{ℕ, ◌≡◌, ◌≤◌, ◌<◌, ◌+◌, List, [], ◌∷◌, Some, ◌⊎◌, inl, inr, refl, sym, ap, subst, ◌∙◌, arith, le_trans, le_refl, le_of_lt}
 use Rattle.std.proofs.lemmas.Bool.{true≢false}
-use Rattle.row_values.specs.Ids.{Kind, Tablet as TabletKind, Id, same}
-use Rattle.row_values.specs.Elements.{In}
-use Rattle.model.specs.Times.{ended_by}
-use Rattle.model.specs.Activity.{Interval, end_tablet}
-use Rattle.model.specs.Catalog.{owner_of}
+use Rattle.model.specs.Cluster.{Kind, TabletKind, Id, same, In, ended_by, Interval, end_tablet, owner_of, Master, Drawn}
 use Rattle.model.specs.Drawn.{drawn_of}
 use Rattle.model.specs.Journal.{Change}
-use Rattle.model.specs.Parts.{Master, Drawn}
 use Rattle.law_store.proofs.Keys.{either_way}
 use Rattle.law_invariants.specs.Remembered.{IsForgotten, Remembered}
 use Rattle.law_invariants.specs.Operations.{OperationsGood}

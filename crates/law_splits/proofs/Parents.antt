@@ -2,17 +2,10 @@
 use Rattle.std.proofs.Common.{ℕ, ◌≡◌, List, Option, Some, None, true, ◌&&◌, inl, inr, sym, ap, ◌∙◌, arith}
 use Rattle.std.specs.Option.{option_map}
 use Rattle.std.proofs.lemmas.Bool.{true≢false}
-use Rattle.row_values.specs.Ids.{Id, same}
-use Rattle.row_values.specs.Elements.{In}
-use Rattle.model.specs.Times.{ended_by, is_open}
-use Rattle.row_values.specs.Ranges.{in_range}
-use Rattle.model.specs.Activity.{Interval}
-use Rattle.model.specs.Parts.{Master}
+use Rattle.model.specs.Cluster.{Id, same, In, ended_by, is_open, in_range, Interval, Master, UnknownTable, TableRecord}
 use Rattle.model.specs.Looks.{holding, active_in, found_table, Parent, found_parent}
-use Rattle.model.specs.Acts.{UnknownTable}
 use Rattle.law_invariants.proofs.Judging.{and_found_is}
 use Rattle.std.specs.Prelude.{Ok}
-use Rattle.model.specs.Catalog.{TableRecord}
 use Rattle.law_invariants.specs.Remembered.{Remembered}
 use Rattle.law_invariants.proofs.Finding.{both_pass, same_equal, find_is, filter_in}
 use Rattle.law_splits.proofs.Counting.{opened_is}

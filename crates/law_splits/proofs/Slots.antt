@@ -2,18 +2,10 @@
 use Rattle.std.proofs.Common.{ℕ, ◌≡◌, ◌≢◌, ◌≤◌, ◌<◌, ◌+◌, List, [], ◌∷◌, ◌++◌, Some, None, true, inl, inr, refl, sym, ap, subst, ◌∙◌, arith, leb, leb-true, le-leb, le_trans, le_refl, le_of_lt}
 use Rattle.std.specs.Option.{is_some}
 use Rattle.std.proofs.lemmas.Bool.{true≢false}
-use Rattle.row_values.specs.Ids.{Id, same}
-use Rattle.row_values.specs.Elements.{In}
-use Rattle.model.specs.Times.{before_end, ended, ended_by, is_open}
-use Rattle.row_values.specs.Ranges.{in_range}
-use Rattle.row_values.specs.Store.{part_of}
-use Rattle.model.specs.Activity.{Interval, end_tablet}
-use Rattle.model.specs.Catalog.{owner_of}
+use Rattle.model.specs.Cluster.{Id, same, In, before_end, ended, ended_by, is_open, in_range, part_of, Interval, end_tablet, owner_of, Tablet, HiddenPart, HideSince, Child, effect, is_serving, Master}
 use Rattle.model.specs.Journal.{Change, table_at}
 use Rattle.model.specs.Stands.{awaited_in}
-use Rattle.model.specs.Tablets.{Tablet, HiddenPart, HideSince, Child, effect, is_serving}
 use Rattle.model.specs.Changed.{begins, next_tablet}
-use Rattle.model.specs.Parts.{Master}
 use Rattle.law_store.proofs.Choosing.{part_reads, sorted_part, below_part}
 use Rattle.law_store.proofs.Members.{keys_part}
 use Rattle.law_invariants.specs.Invariant.{OverBy, IsGood, SlotGood, MasterGood}
@@ -22,7 +14,7 @@ use Rattle.law_invariants.proofs.Finding.{both_pass, passes_both, second_fails, 
 use Rattle.law_invariants.proofs.Ticking.{below_later, tablet_ticked}
 use Rattle.law_invariants.proofs.Operating.{NotHeld}
 use Rattle.law_invariants.proofs.Awaiting.{AwaitNone, calm_here, awaited_none, new_unlisted, new_awaits}
-use Rattle.law_invariants.proofs.Ending.{ended_over, not_open, over_then, stamp_is}
+use Rattle.law_invariants.proofs.Covering.{ended_over, not_open, over_then, stamp_is}
 use Rattle.law_invariants.proofs.Free.{AreFree, rise_in}
 use Rattle.law_invariants.proofs.Quiet.{Carries, good_carried}
 use Rattle.law_splits.proofs.Cutting.{cut, cut_end, cut_mine, cut_other, cut_earlier, cut_active, cut_past, stays_same}

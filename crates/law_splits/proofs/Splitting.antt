@@ -4,17 +4,10 @@ use Rattle.std.specs.Prelude.{Ok}
 use Rattle.std.specs.Option.{is_some, ok_or}
 use Rattle.std.proofs.lemmas.Bool.{true≢false}
 use Rattle.std.proofs.lemmas.Bool.Decides.{nat_tests}
-use Rattle.row_values.specs.Ids.{Id}
-use Rattle.row_values.specs.Elements.{In}
-use Rattle.row_values.specs.Slots.{has, same_slots}
-use Rattle.row_values.specs.Store.{part_of}
-use Rattle.model.specs.Activity.{Interval}
-use Rattle.model.specs.Catalog.{owner_of}
+use Rattle.model.specs.Cluster.{Id, In, has, same_slots, part_of, Interval, owner_of, Tablet, TabletAct, Told, HideSince, Child, act_for, effect, Master, Parts, SplitsTablet, checked}
 use Rattle.model.specs.Journal.{Change as Made}
-use Rattle.model.specs.Tablets.{Tablet, TabletAct, Told, HideSince, Child, act_for, effect}
 use Rattle.model.specs.Entries.{CommandAsked, slots_of}
 use Rattle.model.specs.Acts.{Command, Split, Change, SlotsFull}
-use Rattle.model.specs.Parts.{Master, Parts, SplitsTablet, checked}
 use Rattle.model.specs.Operations.{holder}
 use Rattle.model.specs.Looks.{free_slots, Parent, found_parent, Family, family, found_family, slots_for, plan_of}
 use Rattle.model.specs.Changes.{accepts, tell_children, split_checks, judge_split, splitting, split}
@@ -25,14 +18,13 @@ use Rattle.law_invariants.specs.Invariant.{SlotGood, SlotWorks, Inv, Later}
 use Rattle.law_invariants.proofs.Finding.{either_is, both_pass}
 use Rattle.law_invariants.proofs.Ticking.{by_judgement, refused_keeps, KeepsAll, tablet_before}
 use Rattle.law_invariants.proofs.Cataloguing.{table_is}
-use Rattle.law_invariants.proofs.Judging.{and_found_is, checked_is}
+use Rattle.law_invariants.proofs.Judging.{and_found_is, checked_is, change_keeps}
 use Rattle.law_invariants.proofs.Hearing.{clocks_rise, rows_on}
 use Rattle.law_invariants.proofs.Undoing.{same_rows, journal_on}
 use Rattle.law_invariants.proofs.Operating.{not_held, operations_on}
 use Rattle.law_invariants.proofs.Ordering.{orders_on, obeyed_on, placed_works, hidden_works, not_fenced}
 use Rattle.law_invariants.proofs.Working.{tables_drawn, all_listed}
 use Rattle.law_invariants.proofs.Told.{slots_told, master_early, tablet_early, slots_equal}
-use Rattle.law_invariants.proofs.Stale.{change_keeps}
 use Rattle.law_invariants.proofs.Plans.{has_in}
 use Rattle.law_invariants.proofs.Free.{AreFree, least_free}
 use Rattle.law_invariants.proofs.Awaiting.{none_await}
@@ -218,17 +210,15 @@ split_inv ps activity changes n command code a b version p made below later s in
 -- what a split was found to be
 
 pub family_is : (p : Parent) (free : List ℕ) (f : Family) → family p free ≡ Some f → (f.parent ≡ p) × (take 2 free ≡ f.low_slot ∷ f.high_slot ∷ [])
-family_is p [] f e = cc
-family_is p (slot ∷ []) f e = cc
 family_is p (low ∷ high ∷ free) f e =
     let one : Family = record { parent = p; low_slot = low; high_slot = high } in
     let is : one ≡ f = cc in
     (ap (λ k. k.parent) (sym is), ap (λ k. k.low_slot ∷ k.high_slot ∷ []) is)
+family_is p _ f e = cc
 
 pub two_long : (free : List ℕ) (a b : ℕ) → take 2 free ≡ a ∷ b ∷ [] → 2 ≤ length free
-two_long [] a b e = cc
-two_long (x ∷ []) a b e = cc
 two_long (x ∷ y ∷ free) a b e = omega arith
+two_long _ a b e = cc
 
 planned_family : (m : Master) (namespace table : List ℕ) (code : ℕ) (p : Parent) (f : Family) → found_parent m namespace table code ≡ Ok p → family p (free_slots m) ≡ Some f
     → plan_of (Split namespace table code) m ≡ f.parent.tablet.slot ∷ f.low_slot ∷ f.high_slot ∷ []

@@ -1,15 +1,13 @@
 -- How looks at a table and reads are answered: each reply with its cause, by the views at the stamp and at the asked
--- time. What a journal doesn't have is the master's: how far the catalog of a namespace is kept, and which tablets are
--- active.
+-- time. Which tablets are active is that of all that ever were, and how far the catalog of a namespace is kept the
+-- master's.
 use Rattle.std.specs.Prelude.{◌≡◌, ℕ, ◌<◌, true, false, List, [], ◌∷◌, Option, Some, None, nat_le, if◌then◌else◌, ◌⊎◌, ◌≢◌}
 use Rattle.model.specs.Cluster.{code_of, KeyedRow, Id, In, AllOf, in_range, Column, time_of, is_future, is_below, KeptFrom, kept_from, Interval, active_at, Tablet, Standing, serves, standing, NamedItem, Place, At, Refusal, UnknownNamespace, UnknownTable, Future, TooOld, CrossTablet, Fenced, Moved, StaleSchema, Reply, Placed, Rows, Refused}
 use Rattle.model.specs.Looks.{batch_fault, first_code, code_outside, place_of}
-use Rattle.model.specs.Journal.{Change, table_at}
+use Rattle.model.specs.Journal.{Change, table_at, version_after}
 use Rattle.model.specs.Right.{NamespaceFound, TableFound, IsActivePlace, RowsRight}
-use Rattle.model.specs.Drawn.{version_after}
 
--- the version of a table's schema in the view at x: 1, the columns that were added and dropped, and the restores that
--- made the table current
+-- a table's version in the view at x: 1, the columns added and dropped, and the restores that made it current
 abbrev pub version_at : List Change → ℕ → Id → ℕ
 version_at [] x id = 0
 version_at (c ∷ earlier) x id =
@@ -18,7 +16,7 @@ version_at (c ∷ earlier) x id =
     else version_at earlier x id
 
 -- a look at the table of a name at a stamp, now or at an asked time, and what it goes by: the journal before it, how
--- far each namespace's catalog is kept, and the tablets' activity
+-- far each namespace's catalog is kept, and the activity of all tablets that ever were
 pub record TableLook : Type 0 where
   pub namespace : List ℕ
   pub table : List ℕ
@@ -114,8 +112,7 @@ pub record RowsRead : Type 0 where
   pub now : ℕ
   pub tablets : ℕ → Tablet
 
--- a part's range has the key; or a scan goes on there at the code that the places before it reach, up to the last code
--- where no place comes later
+-- a part's range has the key; or a scan goes on there at the code that those before it reach, the last one to the end
 abbrev pub HasAsked : Option (List ℕ) → Tablet → ℕ → List At → Type 0
 HasAsked (Some key) t from later = in_range t.low t.high (code_of key) ≡ true
 HasAsked None t from later = (t.low ≡ from) × (later ≡ [] → t.high ≡ 65536)
@@ -152,8 +149,7 @@ pub record MayReadThen (q : RowsRead) : Type 0 where
   pub fresh : q.at ≡ None → AllOf (λ p. (q.tablets p.slot).version ≡ q.version) q.places
   pub over : is_future q.at q.now ≡ false
 
--- how a read is answered: each refusal for the first place that has its cause, where no earlier one comes, and else the
--- rows of the view
+-- a read is refused for the first place that has the cause, where no earlier one comes, and else has the view's rows
 pub data ReadAnswer (q : RowsRead) (changes : List Change) : Reply → Type 0 where
   ReadMoved : (slot : ℕ) (stands : Standing) (place : At) (first : FirstMoved q 0 q.places place)
       (slot_is : slot ≡ place.slot) (stands_is : stands ≡ standing (q.tablets place.slot))

@@ -1,5 +1,4 @@
--- How commands are judged: the refusals of each in order, and else what the master and the tablets are told, and the
--- reply.
+-- How commands are judged: the refusals of each in order, and else what the parts are told, and the reply.
 use Rattle.std.specs.Prelude.{ℕ, ◌+◌, not, ◌&&◌, List, [], ◌∷◌, map, length, is_some, if◌then◌else◌, nat_lt, nat_le, ◌==◌, Option, Some, None, option_map, Result, Ok as Granted, Err as Denied, filter, ok_or, bytes_eq}
 use Rattle.model.specs.Cluster.{option_or, Id, same, same_slots, part_of, Column, ColumnKind, NewColumn, column_named, is_open, TableRecord, namespace_named, current_named, current_tables, by_id, Interval, Tablet, TabletAct, Make, Child, SetVersion, HideSince, Told, Schedule, CloneRecord, is_visible, schedule_with, schedule_of, unfinished_of, CreateNamespace, DropNamespace, CreateTable, AddColumn, DropColumn, RenameTable, DropTable, Split, CreateSchedule, EditSchedule, DeleteSchedule, TakeSnapshot, Restore, CloneNamespace, ListSchedules, ListSnapshots, ListRestorations, ListClones, ListTablets, Refusal, UnknownColumn, UnknownSchedule, BadPeriod, NameTaken, NotEmpty, UnderSchedule, NoSchedule, TooMany, SlotsFull, TooEarly, Future, Busy, StalePlan, TooNarrow, NotDue, Ok, Schedules, Snapshots, Restorations, Clones, Tablets, Master, Parts, MasterAct, MakesNamespace, DropsNamespace, MakesTable, AddsColumn, DropsColumn, RenamesTable, DropsTable, SplitsTablet, MakesSchedule, EditsSchedule, DeletesSchedule, TakesSnapshot, BeginsRestoration, BeginsClone, Outcome, Check, If, Names, checked, and_found, decided, judged, answered}
 use Rattle.model.specs.Acts.{Command}
@@ -75,8 +74,7 @@ tell_children is version parent = map {A = Interval} (λ i. record {
 abbrev pub accepts : MasterAct → List Told → List Id → Outcome
 accepts act tablets made = record { master = act; tablets = tablets; reply = Ok made }
 
--- Each command: its refusals in order, its judgement, which is what was found or the first refusal that comes, and what
--- it does once it is accepted
+-- Each command: its refusals in order, its judgement (what was found, or the first refusal), and what it does
 
 abbrev pub create_namespace_checks : List ℕ → Master → List Check
 create_namespace_checks name m =

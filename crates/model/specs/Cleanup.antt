@@ -14,8 +14,7 @@ floor_of m ns n = floor (least_low m.schedules ns n) (time_of_user m ns) n
 abbrev pub floor_of_table : Master → Id → ℕ → ℕ
 floor_of_table m table n = option_map_or (λ ns. floor_of m ns n) (owner_of m.catalog.owners table) n
 
--- the first unfinished record that lists a tablet: snapshots, then restorations, then clones. A clone lists its sources
--- too
+-- the first unfinished record that lists a tablet: snapshots, then restorations, then clones, with their sources
 
 abbrev pub listing_snapshot : List SnapshotRecord → Id → Option Id
 listing_snapshot [] tablet = None

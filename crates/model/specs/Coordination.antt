@@ -93,8 +93,7 @@ acknowledging (Some l) operation slot t =
     then record { master = Acks operation slot; tablets = []; reply = Acked }
     else record { master = Unsends operation slot; tablets = []; reply = Refused NotDone }
 
--- the master notes that the tablet did its command; where it didn't, the sent mark goes, so that the command is sent
--- again
+-- the master notes that the tablet did its command; where it didn't, the sent mark goes, so it is sent again
 unfoldable pub ack : Id → ℕ → ℕ → Parts → Outcome
 ack operation slot n ps = acknowledging (pending ps.master operation slot) operation slot (ps.tablet slot)
 

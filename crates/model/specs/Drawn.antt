@@ -1,15 +1,17 @@
 -- Numbers that are drawn once, over the whole history, whatever is restored: identifiers, the ids of a table's
 -- columns, and the versions of its schema.
-use Rattle.std.specs.Prelude.{◌≡◌, ℕ, ◌≤◌, ◌<◌, Bool, List, [], ◌∷◌, ◌++◌, Option, Some, None, ◌+◌, ◌*◌, ◌==◌, ◌||◌, ◌&&◌, nat_lt, max, fold, map, length, if◌then◌else◌, unwrap_or, ◌-◌, filter, option_to_list}
-use Rattle.model.specs.Words.{option_map_or, Id, Kind, Namespace, Table, Tablet, Schedule, Snapshot, Restoration, Clone, id_bound, same, In, in_order, Column, Schema}
+use Rattle.std.specs.Prelude.{◌≡◌, ℕ, ◌≤◌, ◌<◌, Bool, false, List, [], ◌∷◌, ◌++◌, Option, Some, None, ◌+◌, ◌*◌, ◌==◌, ◌||◌, ◌&&◌, ◌⊎◌, nat_lt, max, fold, map, length, if◌then◌else◌, unwrap_or, ◌-◌, filter, option_to_list}
+use Rattle.model.specs.Words.{option_map_or, Id, Kind, Namespace, Table, Tablet, Schedule, Snapshot, Restoration, Clone, id_bound, same, in_order, Column, Schema}
 use Rattle.model.specs.Cluster.{namespace_named, tables_at, latest, SnapshotRecord, CloneRecord, TabletPair, State, Act, Reply, Drawn, Master, none_drawn, deed_of, Commands, Advances, Obeys, NoDeed, success_of, Makes, Enters, Does, NoSuccess, making_of, Making, ANamespace, ATable, TwoTablets, ASchedule, ASnapshot, ARestoration, AClone, Nothing, is_snapshotting, named_by_restoration, named_by_clone}
 use Rattle.model.specs.Journal as made
 use Rattle.model.specs.Acts.{Command}
 use Rattle.model.specs.Lists.{by_table_and_range, numbered_as, tablets_active_at}
 use Rattle.model.specs.Coordination.{unfinished_restoration, unfinished_clone}
+use Rattle.model.specs.Moves.{anew}
 use Rattle.model.specs.Journal.{ChangeAct, NamespaceMade, NamespaceDropped, TableMade, TableRenamed, TableDropped, ColumnAdded, ColumnDropped, RowChanged, NamespaceRestored, NamespaceCloned, TableView, is_in, source_of, table_at}
 use Rattle.model.specs.Entries.{Entry}
 use Rattle.model.specs.History.{replay, held, snapshots_taken}
+pub use Rattle.model.specs.Journal.{first_version, version_after}
 
 -- How many
 
@@ -41,8 +43,7 @@ entered_by reply = elim (success_of reply) [
   | NoSuccess ↦ []
 ]
 
--- a clone draws one for the namespace that it makes, and one for each table and each tablet that its source had at the
--- time
+-- a clone draws one for the namespace that it makes, and one for each table and tablet that its source had then
 abbrev pub drawn_for_clone : ℕ → Master → Id → Drawn
 drawn_for_clone to m source = record none_drawn {
   namespaces = 1;
@@ -108,8 +109,7 @@ abbrev pub reserved_by : List CloneRecord → Kind → List Id
 reserved_by [] kind = []
 reserved_by (c ∷ cs) kind = reserved_in kind c ++ reserved_by cs kind
 
--- the identifiers of a kind that the master's records have beyond so many that were drawn. Tablets stand in order of
--- table, then of range
+-- the identifiers of a kind that records have beyond so many drawn ones. Tablets stand in order of table, then of range
 abbrev pub recorded_beyond : Kind → ℕ → Master → List Id
 recorded_beyond Namespace drawn m = beyond drawn (map (λ r. r.id) m.catalog.namespaces)
 recorded_beyond Table drawn m = beyond drawn (map (λ r. r.id) m.catalog.tables)
@@ -120,7 +120,7 @@ recorded_beyond Snapshot drawn m = beyond drawn (map (λ r. r.id) m.snapshots)
 recorded_beyond Restoration drawn m = beyond drawn (map (λ r. r.id) m.restorations)
 recorded_beyond Clone drawn m = beyond drawn (map (λ c. c.id) m.clones)
 
--- the identifiers of a kind that an event gave: those that the master has after it, in a record or reserved for a clone,
+-- the identifiers of a kind that an event gave: those that the master has after it, in a record or kept for a clone,
 -- beyond what was drawn before it
 abbrev pub new_ids : Master → Master → Kind → List Id
 new_ids before after kind =
@@ -204,19 +204,20 @@ DrawnWithin slots history =
 abbrev pub DrawnBelow : Master → Type 0
 DrawnBelow m = (kind : Kind) → drawn_of kind m.drawn < id_bound
 
--- a kept snapshot is as it was taken
-pub record IsAsTaken (taken : List SnapshotRecord) (r : SnapshotRecord) : Type 0 where
-  pub snapshot : SnapshotRecord
-  pub was_taken : In snapshot taken
-  pub id_is : snapshot.id ≡ r.id
-  pub schedule_is : snapshot.schedule ≡ r.schedule
-  pub namespace_is : snapshot.namespace ≡ r.namespace
-  pub after_is : snapshot.after ≡ r.after
-  pub at_is : snapshot.at ≡ r.at
+-- the elements of a list are some of another's, in its order and each with its count
+abbrev pub IsPartOf : {A : Type 0} → List A → List A → Type 0
+IsPartOf [] all = Unit {0}
+IsPartOf (x ∷ xs) [] = ⊥
+IsPartOf (x ∷ xs) (y ∷ ys) = ((x ≡ y) × IsPartOf xs ys) ⊎ IsPartOf (x ∷ xs) ys
 
+-- a snapshot but for what its coordination changes: its acks, and whether it is complete
+abbrev pub as_taken : SnapshotRecord → SnapshotRecord
+as_taken r = record r { complete = false; listed = anew r.listed }
+
+-- the kept snapshots are some of those that were taken, in their order, and list the tablets that they listed then
 abbrev pub SnapshotsAsTaken : ℕ → List Entry → Type 0
 SnapshotsAsTaken slots history =
-    (r : SnapshotRecord) → In r (replay slots history).master.snapshots → IsAsTaken (snapshots_taken slots history) r
+    IsPartOf (map as_taken (replay slots history).master.snapshots) (map as_taken (snapshots_taken slots history))
 
 -- Columns and versions of schemas
 
@@ -242,33 +243,12 @@ given_after (ColumnDropped table column) id before = before id
 given_after (RowChanged table key op) id before = before id
 given_after (NamespaceRestored namespace to) id before = before id
 
--- the greatest id that was ever given to a column of the table; a table of a clone goes on from its source's at that
--- moment
+-- the greatest id ever given to a column of the table; a clone's table goes on from its source's at that moment
 abbrev pub given_to : List made.Change → Id → ℕ
 given_to [] id = 0
 given_to (c ∷ earlier) id = given_after c.act id (given_to earlier)
 
--- a table that a clone makes begins at version 1
-abbrev pub first_version : Option Id → ℕ → ℕ
-first_version None own = own
-first_version (Some source) own = 1
-
-abbrev pub version_after : ChangeAct → Id → ℕ → (ℕ → Id → Option TableView) → ℕ
-version_after (TableMade table namespace name columns) id before then_ = if same table id then 1 else before
-version_after (ColumnAdded table column) id before then_ = if same table id then before + 1 else before
-version_after (ColumnDropped table column) id before then_ = if same table id then before + 1 else before
-version_after (NamespaceRestored namespace to) id before then_ =
-    if is_in namespace (then_ to id) then before + 1 else before
-version_after (NamespaceCloned source target name to tables) id before then_ =
-    first_version (source_of tables id) before
-version_after (NamespaceMade namespace name) id before then_ = before
-version_after (NamespaceDropped namespace) id before then_ = before
-version_after (TableRenamed table name) id before then_ = before
-version_after (TableDropped table) id before then_ = before
-version_after (RowChanged table key op) id before then_ = before
-
--- the version of a table's schema: 1, the columns that were added and dropped, and the restores that made the table
--- current
+-- a table's version: 1, the columns that were added and dropped, and the restores that made the table current
 abbrev pub version_by : List made.Change → Id → ℕ
 version_by [] id = 0
 version_by (c ∷ earlier) id = version_after c.act id (version_by earlier id) (table_at earlier)
@@ -278,8 +258,7 @@ abbrev pub NumberedFrom : ℕ → List Column → Type 0
 NumberedFrom id [] = Unit {0}
 NumberedFrom id (c ∷ cs) = (c.id ≡ id) × NumberedFrom (id + 1) cs
 
--- the columns of a new table are numbered from 1, and a column that is added gets one more than the greatest id that
--- its table gave
+-- a new table's columns are numbered from 1, and an added one gets one more than the greatest id that its table gave
 abbrev pub TakesNextColumn : ChangeAct → (Id → ℕ) → Type 0
 TakesNextColumn (TableMade table namespace name columns) given = NumberedFrom 1 columns
 TakesNextColumn (ColumnAdded table column) given = column.id ≡ given table + 1

@@ -104,8 +104,7 @@ pub record EnteredBefore (es : List Entering) (operation : Id) (kind : BodyKind)
   pub was_entered : In (record { operation = operation; state = state_giving kind; at = at }) es
   pub below : at < clock
 
--- a tablet whose inbox holds a command, or that has done it, has a clock above the stamp at which the record entered
--- the state that gives it
+-- a tablet that was given a command, or did it, has a clock above the stamp when its record entered the state for it
 abbrev pub ClocksAfter : Parts → List Entering → Type 0
 ClocksAfter ps es = (slot : ℕ) (operation : Id) (kind : BodyKind) → was_given (ps.tablet slot) operation kind ≡ true
     → EnteredBefore es operation kind (ps.tablet slot).clock

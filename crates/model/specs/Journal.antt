@@ -1,6 +1,6 @@
 -- The journal: the changes that a history made, the newest first, and the view of it at a time. The view is told
 -- pointwise: the name of a namespace, the namespace, name and columns of a table, the row of a key.
-use Rattle.std.specs.Prelude.{ℕ, Bool, false, List, [], ◌∷◌, ◌++◌, Option, Some, None, nat_le, ◌==◌, ◌&&◌, not, if◌then◌else◌, filter, is_some, bytes_eq}
+use Rattle.std.specs.Prelude.{ℕ, ◌+◌, Bool, false, List, [], ◌∷◌, ◌++◌, Option, Some, None, nat_le, ◌==◌, ◌&&◌, not, if◌then◌else◌, filter, is_some, bytes_eq}
 use Rattle.model.specs.Cluster.{option_or, applied, absent_row, Row, RowOp, Id, same, Column, IdPair}
 
 -- a change of the catalog, of a row, or of a whole namespace
@@ -135,8 +135,7 @@ row_after (NamespaceRestored namespace to) table key table_before table_then bef
 row_after (NamespaceCloned source target name to tables) table key table_before table_then before then_ =
     cloned_row (source_of tables table) key (then_ to) (before table key)
 
--- the row of a key in the view at x: the fold of the changes stamped at or before x, in the order in which they were
--- made
+-- the row of a key in the view at x: the fold of the changes stamped at or before x, in the order of their making
 abbrev pub row_at : List Change → ℕ → Id → List ℕ → Row
 row_at [] x table key = absent_row
 row_at (c ∷ earlier) x table key =
@@ -163,3 +162,24 @@ owner_by (NamespaceCloned source target name to tables) id = if is_some (source_
 abbrev pub owner_in : List Change → Id → Option Id
 owner_in [] id = None
 owner_in (c ∷ earlier) id = option_or (owner_by c.act id) (owner_in earlier id)
+
+-- Versions of schemas
+
+-- a table that a clone makes begins at version 1
+abbrev pub first_version : Option Id → ℕ → ℕ
+first_version None own = own
+first_version (Some source) own = 1
+
+abbrev pub version_after : ChangeAct → Id → ℕ → (ℕ → Id → Option TableView) → ℕ
+version_after (TableMade table namespace name columns) id before then_ = if same table id then 1 else before
+version_after (ColumnAdded table column) id before then_ = if same table id then before + 1 else before
+version_after (ColumnDropped table column) id before then_ = if same table id then before + 1 else before
+version_after (NamespaceRestored namespace to) id before then_ =
+    if is_in namespace (then_ to id) then before + 1 else before
+version_after (NamespaceCloned source target name to tables) id before then_ =
+    first_version (source_of tables id) before
+version_after (NamespaceMade namespace name) id before then_ = before
+version_after (NamespaceDropped namespace) id before then_ = before
+version_after (TableRenamed table name) id before then_ = before
+version_after (TableDropped table) id before then_ = before
+version_after (RowChanged table key op) id before then_ = before

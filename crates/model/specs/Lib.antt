@@ -6,7 +6,7 @@ pub mod Tablets
 pub mod Records
 pub mod Acts
 pub mod Parts
-mod Cluster
+pub mod Cluster
 pub mod Schedules
 pub mod Lists
 pub mod Operations
@@ -22,11 +22,13 @@ pub mod Work
 pub mod Cleanup
 pub mod Journal
 pub mod Right
+pub mod Journaling
+pub mod Answers
+pub mod Windows
+pub mod Rules
 pub mod Entries
 pub mod History
 pub mod Drawn
-pub mod Answers
-pub mod Windows
 pub mod Replies
 pub mod Stands
 pub mod Entering

@@ -1,24 +1,13 @@
 -- How the records of snapshots, restorations and clones move from state to state. A move waits for the listed tablets,
 -- and some for a snapshot. It clears the acks and the sent marks of its record.
 use Rattle.std.specs.Prelude.{ℕ, Bool, true, false, List, [], ◌++◌, Option, Some, None, ◌&&◌, ◌+◌, is_some, map, if◌then◌else◌, unwrap_or, option_map, filter}
-use Rattle.model.specs.Cluster.{same, Clone, Restoration, Snapshot, ScheduleKind, TabletKind as Tablet, Table, Namespace, Kind, Id, list_any, option_map_or, Body, Fence, Freeze, RestoreFrom, Hide, Copy, Release, Listed, Schedule, ScheduledNamespace, SnapshotRecord, RestorationRecord, CloneRecord, TabletPair, RestorationState, Fencing, Snapshotting, Switching, Restoring, Releasing, Restored, CloneState, Accepted, CloneSnapshot, Copying, CloneReleasing, CloneComplete, State, IsComplete, first_unacked, unacked, unsent, schedule_of, unfinished_of, NotPending, Waiting, Advanced, Master, Parts, Outcome, Moves, refused, restoration_state, clone_state}
-use Rattle.model.specs.Tablets.{Command}
+use Rattle.model.specs.Cluster.{same, Clone, Restoration, Snapshot, ScheduleKind, TabletKind as Tablet, Table, Namespace, Kind, Id, list_any, option_map_or, Body, Fence, Freeze, RestoreFrom, Hide, Copy, Release, Listed, Schedule, ScheduledNamespace, SnapshotRecord, RestorationRecord, CloneRecord, TabletPair, RestorationState, Fencing, Snapshotting, Switching, Restoring, Releasing, Restored, CloneState, Accepted, CloneSnapshot, Copying, CloneReleasing, CloneComplete, State, IsComplete, first_unacked, unsent, schedule_of, unfinished_of, NotPending, Waiting, Advanced, Master, Parts, Outcome, Moves, refused, restoration_state, clone_state}
 use Rattle.model.specs.Schedules.{serving}
 use Rattle.model.specs.Lists.{next_snapshot, with_snapshot}
-use Rattle.model.specs.Coordination.{command_for, unfinished_snapshot, unfinished_restoration, unfinished_clone}
-use Rattle.model.specs.Restored.{restored_tables, restored_activity, switch_list, with_clone, cloned_activity}
+use Rattle.model.specs.Coordination.{unfinished_snapshot, unfinished_restoration, unfinished_clone}
+use Rattle.model.specs.Restored.{restored_tables, restored_activity, switch_list, target_added, cloned_activity}
 
 -- What a record asks of its tablets, and waits for
-
--- a listed tablet's command, yet to be done
-pub record Pending : Type 0 where
-  pub slot : ℕ
-  pub command : Command
-
--- what is yet to be done for a record, in the order of its list
-abbrev pub needs : Id → List Listed → List Pending
-needs operation ls =
-    map {A = Listed} (λ l. record { slot = l.slot; command = command_for operation l }) (unacked ls)
 
 -- what a move waits for: the first listed tablet without ack, and else an unfinished snapshot
 abbrev pub waits_for : Option Listed → Option Id → Option Id
@@ -26,12 +15,10 @@ waits_for (Some l) awaited = Some l.tablet
 waits_for None awaited = awaited
 
 -- what the master found for the next move of a record: its stamp, the snapshot that serves the record's time, the
--- unfinished snapshot for which the move has to wait, the identifier of the snapshot that it may make, and the tablets
--- that are listed next
+-- identifier of the snapshot that it may make, and the tablets that are listed next
 pub record Given : Type 0 where
   pub stamp : ℕ
   pub serving : Option Id
-  pub unfinished : Option Id
   pub made : Id
   pub listed : List Listed
 
@@ -147,7 +134,6 @@ abbrev pub given_restoration : RestorationState → RestorationRecord → ℕ �
 given_restoration state r n m = record {
   stamp = n;
   serving = id_of_snapshot (serving_restoration m r);
-  unfinished = awaited_by_restoration state m r;
   made = next_snapshot m;
   listed = restoration_lists state r m;
 }
@@ -165,7 +151,6 @@ abbrev pub given_clone : CloneState → Option Id → CloneRecord → ℕ → Ma
 given_clone state serving r n m = record {
   stamp = n;
   serving = serving;
-  unfinished = awaited_by_clone state m r;
   made = next_snapshot m;
   listed = clone_lists state serving r n;
 }
@@ -294,8 +279,7 @@ restoration_moved (Restoring point serving) r n m = restoration_goes (Restoring 
 restoration_moved (Releasing point serving) r n m = restoration_goes (Releasing point serving) r n m m
 restoration_moved (Restored point serving) r n m = record m { clock = n }
 
--- the move of a clone's record, with the snapshot that serves its time where the move asks for it, beside what else
--- becomes of the master
+-- the move of a clone's record, with the snapshot that serves its time, beside what else becomes of the master
 abbrev pub clone_goes : CloneState → Option Id → CloneRecord → ℕ → Master → Master → Master
 clone_goes state serving r n m beside =
     let moved = clone_advanced state (given_clone state serving r n m) r in
@@ -315,7 +299,7 @@ begins_clone None r n m =
 -- the target becomes current, its tablets active
 abbrev pub with_target : CloneRecord → ℕ → Master → Master
 with_target r n m = record m {
-  catalog = with_clone r n m.catalog;
+  catalog = target_added r n m.catalog;
   activity = m.activity ++ cloned_activity n r.tablets;
 }
 

@@ -1,14 +1,13 @@
--- What comes once over a whole history, however often a coordinator repeats its steps and whatever a restart loses:
--- the restore of an accepted command to restore, the clone of an accepted command to clone, and each command of a
--- tablet.
+-- What comes once over a whole history, however often a coordinator repeats its steps and whatever a restart loses: the
+-- restore of an accepted command to restore, the clone of one to clone, and each command of a tablet.
 use Rattle.std.specs.Prelude.{◌≡◌, ℕ, ◌-◌, Bool, true, false, List, [], ◌∷◌, ◌++◌, Option, Some, map, unwrap_or, if◌then◌else◌, option_map, filter}
-use Rattle.model.specs.Cluster.{list_any, Id, same, In, namespace_named, BodyKind, Schedule, RestorationRecord, RestorationState, Fencing, Snapshotting, Switching, Restoring, Releasing, Restored, CloneRecord, CloneState, Accepted, CloneSnapshot, Copying, CloneReleasing, CloneComplete, IdPair, IsReleasing, point_of, schedule_with, Act, Reply, Master, Parts, deed_of, Commands, Advances, Obeys, NoDeed, success_of, Makes, Enters, Does, NoSuccess, making_of, ANamespace, ATable, TwoTablets, ASchedule, ASnapshot, ARestoration, AClone, Nothing, Making}
+use Rattle.model.specs.Cluster.{list_any, Id, same, In, namespace_named, BodyKind, Schedule, RestorationRecord, RestorationState, Fencing, Snapshotting, Switching, Restoring, Releasing, Restored, CloneRecord, CloneState, Accepted, CloneSnapshot, Copying, CloneReleasing, CloneComplete, IdPair, IsReleasing, schedule_with, Act, Reply, Master, Parts, deed_of, Commands, Advances, Obeys, NoDeed, success_of, Makes, Enters, Does, NoSuccess, making_of, ANamespace, ATable, TwoTablets, ASchedule, ASnapshot, ARestoration, AClone, Nothing, Making}
 use Rattle.model.specs.Journal as made
 use Rattle.model.specs.Journal.{ChangeAct, NamespaceMade, NamespaceDropped, TableMade, TableRenamed, TableDropped, ColumnAdded, ColumnDropped, RowChanged, NamespaceRestored, NamespaceCloned, is_in, table_at}
 use Rattle.model.specs.Entries.{Entry}
 use Rattle.model.specs.History.{replay, journal_of, with_changes_of}
 use Rattle.model.specs.Drawn.{ids_made}
-use Rattle.model.specs.Entering.{Entering, IsAfterOwn, entered}
+use Rattle.model.specs.Entering.{Entering, entered}
 
 -- Accepted commands
 
@@ -21,8 +20,7 @@ asked_by act = elim (deed_of act) [
   | NoDeed ↦ Nothing
 ]
 
--- a command to restore that was accepted: the restoration that it made, its schedule and that schedule's namespace,
--- and the time that it named
+-- an accepted command to restore: the restoration that it made, its schedule, the schedule's namespace, and its time
 pub record RestoreAsked : Type 0 where
   pub operation : Id
   pub schedule : Id
@@ -132,7 +130,6 @@ pub record RestoresOnce (slots : ℕ) (history : List Entry) (asked : RestoreAsk
   pub schedule_is : restoration.schedule ≡ asked.schedule
   pub namespace_is : asked.namespace ≡ Some restoration.namespace
   pub to_is : restoration.to ≡ asked.to
-  pub point_is : IsAfterOwn (entered slots history) asked.operation (point_of restoration.state)
   pub restored : changes_by slots asked.operation history ≡ restored_by restoration.state restoration.namespace asked.to
 
 -- Clones
@@ -147,8 +144,7 @@ pub record IsOneClone (c : CloneRecord) (es : List Entering) (changes : List mad
   pub current : In (record { operation = c.id; state = IsReleasing; at = at }) es
   pub alone : changes ≡ record { stamp = at; act = NamespaceCloned c.source c.target_id c.target c.to c.tables } ∷ []
 
--- what a clone in a state has cloned: nothing before its target is current, and then the source once, at the stamp at
--- which it became so
+-- what a clone in a state has cloned: nothing before its target is current, then the source once, at that stamp
 abbrev pub ClonedBy : CloneState → CloneRecord → List Entering → List made.Change → Type 0
 ClonedBy Accepted c es changes = changes ≡ []
 ClonedBy (CloneSnapshot own) c es changes = changes ≡ []
@@ -240,6 +236,6 @@ NoneAgain (o ∷ os) = NoneAgain os × (In o os → ⊥)
 pub record Once (slots : ℕ) (history : List Entry) : Type 0 where
   pub restores : (asked : RestoreAsked) → In asked (restores_asked slots history) → RestoresOnce slots history asked
   pub clones : (asked : CloneAsked) → In asked (clones_asked slots history) → ClonesOnce slots history asked
-  -- the restores and clones of the journal are just those of accepted commands, in the order of the moves that made them
+  -- the restores and clones of the journal are just those of accepted commands, in the order of their moves
   pub journal : filter (λ c. is_whole c.act) (journal_of slots history) ≡ changes_asked slots history
   pub commands : NoneAgain (commands_done slots history)

@@ -90,8 +90,7 @@ pub data MasterAct : Type 0 where
   Prunes : MasterAct
   Restarts : MasterAct
 
--- what the master and the touched tablets' parts are told, and the reply. A touched part that isn't named sets its
--- clock
+-- what the master and the tablets are told, and the reply. A touched part that isn't named sets its clock
 pub record Outcome : Type 0 where
   pub master : MasterAct
   pub tablets : List Told

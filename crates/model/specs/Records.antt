@@ -1,6 +1,6 @@
 -- The master's records of snapshots, restorations and clones, and of schedules. Each record lists the tablets that are
 -- yet to do a command of its state.
-use Rattle.std.specs.Prelude.{ℕ, Bool, true, false, List, [], ◌∷◌, Option, Some, None, ◌==◌, ◌&&◌, ◌||◌, not, map, if◌then◌else◌, filter, find}
+use Rattle.std.specs.Prelude.{ℕ, Bool, true, false, List, [], ◌∷◌, Option, Some, None, ◌==◌, ◌&&◌, ◌||◌, not, map, filter, find, option_map}
 use Rattle.model.specs.Words.{list_any, Id, same}
 use Rattle.model.specs.Tablets.{Body}
 
@@ -39,8 +39,7 @@ pub record SnapshotRecord : Type 0 where
   pub after : ℕ
   pub at : ℕ
 
--- a restoration knows its point from its own snapshot on, and that snapshot; from the switch's state on the one that
--- serves
+-- a restoration knows its point and its own snapshot from there on; from the switch's state on the one that serves
 pub data RestorationState : Type 0 where
   Fencing : RestorationState
   Snapshotting : (point : ℕ) (own : Id) → RestorationState
@@ -235,6 +234,8 @@ abbrev pub snapshot_with : List SnapshotRecord → Id → Option SnapshotRecord
 snapshot_with rs id = find (λ r. same r.id id) rs
 
 -- the unfinished snapshot of a namespace
+abbrev pub unfinished : List SnapshotRecord → Id → Option SnapshotRecord
+unfinished rs ns = find (λ r. same r.namespace ns && not r.complete) rs
+
 abbrev pub unfinished_of : List SnapshotRecord → Id → Option Id
-unfinished_of [] ns = None
-unfinished_of (r ∷ rs) ns = if same r.namespace ns && not r.complete then Some r.id else unfinished_of rs ns
+unfinished_of rs ns = option_map (λ r. r.id) (unfinished rs ns)

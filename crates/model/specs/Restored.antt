@@ -59,8 +59,7 @@ switch_list owners activity ns to point serving tables = map {A = Interval} (λ 
   acked = false;
 }) (concerned owners activity ns to)
 
--- what a clone takes over of a namespace at a time: its tables in order of id, and their tablets in order of table and
--- range
+-- what a clone takes over of a namespace at a time: its tables by id, and their tablets by table and range
 pub record CloneMap : Type 0 where
   pub tables : List TableRecord
   pub places : List Interval
@@ -94,8 +93,8 @@ cloned_tables (p ∷ ps) rs target to at =
     ++ cloned_tables ps rs target to at
 
 -- the target of a clone becomes current
-abbrev pub with_clone : CloneRecord → ℕ → Catalog → Catalog
-with_clone r at c = record c {
+abbrev pub target_added : CloneRecord → ℕ → Catalog → Catalog
+target_added r at c = record c {
   namespaces = c.namespaces ++ record { id = r.target_id; name = r.target; from = at; to = None } ∷ [];
   tables = c.tables ++ cloned_tables r.tables c.tables r.target_id r.to at;
   kept_from = set_kept_from c.kept_from r.target_id at;

@@ -1,7 +1,6 @@
--- What retention keeps: while a time is retained, nothing removes a version, a frozen set, a tablet or a catalog record
--- that it needs.
-use Rattle.std.specs.Prelude.{nat_lt, ◌-◌, ◌<◌, ◌≡◌, ℕ, ◌≤◌, true, false, List, [], ◌∷◌, Option, Some, None, ◌&&◌, ◌+◌, max, not, nat_le, unwrap_or, if◌then◌else◌, is_some, option_map, find}
-use Rattle.model.specs.Cluster.{Id, same, In, Version, owns, kept_from, Interval, active_at, last_of, Tablet, FrozenSet, Body, Fence, Freeze, RestoreFrom, Hide, Copy, Release, set_of, is_empty, Schedule, ScheduledNamespace, schedule_of, scheduled_in, Listed, SnapshotRecord, RestorationRecord, CloneRecord, TabletPair, is_restored, is_cloned, lists_tablet, Master, Parts}
+-- What retention keeps: nothing that a retained time needs is removed: version, frozen set, tablet or catalog record.
+use Rattle.std.specs.Prelude.{nat_lt, ◌-◌, ◌<◌, ◌≡◌, ℕ, ◌≤◌, true, false, List, [], ◌∷◌, Option, Some, None, ◌+◌, max, nat_le, unwrap_or, if◌then◌else◌, is_some, option_map}
+use Rattle.model.specs.Cluster.{option_map_or, Id, same, In, Version, owns, kept_from, Interval, active_at, last_of, Tablet, FrozenSet, Body, Fence, Freeze, RestoreFrom, Hide, Copy, Release, set_of, is_empty, Schedule, ScheduledNamespace, schedule_of, scheduled_in, Listed, SnapshotRecord, RestorationRecord, CloneRecord, TabletPair, is_restored, is_cloned, lists_tablet, unfinished, Master, Parts}
 use Rattle.model.specs.Schedules.{low, after_of, complete_to, serving}
 use Rattle.model.specs.Cleanup.{floor_of}
 use Rattle.model.specs.Coordination.{source_slot}
@@ -12,10 +11,6 @@ pub record IsPresent (ps : Parts) (slot : ℕ) (tablet : Id) : Type 0 where
   pub held : is_empty (ps.tablet slot).presence ≡ false
   pub tablet_is : (ps.tablet slot).tablet ≡ tablet
   pub known : (i : Interval) × (In i ps.master.activity × ((i.slot ≡ slot) × (i.tablet ≡ tablet)))
-
--- the namespace's unfinished snapshot
-abbrev pub unfinished : List SnapshotRecord → Id → Option SnapshotRecord
-unfinished rs ns = find (λ r. same r.namespace ns && not r.complete) rs
 
 -- a store from which a tablet's rows are had, and how far back it goes
 pub record Source : Type 0 where
@@ -119,17 +114,17 @@ pub record RetainedFor (ps : Parts) (activity : List Interval) (taken : List Sna
       (unfinished ps.master.snapshots k.namespace)
       i.tablet
       to
-  -- a cutoff passes neither what is complete, or the start of its tablet's last activity, nor the master's clock
+  -- a cutoff goes at most just past what is complete, or to the start of its tablet's last activity
   pub cutoffs : (slot : ℕ) (i : Interval) → is_empty (ps.tablet slot).presence ≡ false
       → last_of ps.master.activity (ps.tablet slot).tablet ≡ Some i → IsTabletOf ps.master k.namespace i
-      → ((ps.tablet slot).cutoff ≤ max (complete_to k + 1) i.from)
-      × ((ps.tablet slot).cutoff ≤ ps.master.clock)
+      → (ps.tablet slot).cutoff ≤ max (complete_to k + 1) i.from
   pub times : TimesRise taken k.namespace k.since 0
   -- the time before the next snapshot is that of the last one
   pub last : after_of k ≡ before_next k.since (last_time taken k.namespace 0)
-  -- that of the last complete one is that of a snapshot, and no kept one that is complete is later
-  pub complete : (at : ℕ) → k.complete ≡ Some at → (k.since ≤ at)
-      × ((r : SnapshotRecord) × (In r taken × ((r.namespace ≡ k.namespace) × (r.at ≡ at))))
+  -- that of the last complete one is that of the one before the unfinished one, or of the last one where none is
+  -- unfinished, and no kept one that is complete is later
+  pub complete : complete_to k
+      ≡ option_map_or (λ r. r.after) (unfinished ps.master.snapshots k.namespace) (after_of k)
   pub none_later : (r : SnapshotRecord) → In r ps.master.snapshots → r.namespace ≡ k.namespace → r.complete ≡ true
       → r.at ≤ complete_to k
   pub unfinished_one : OneUnfinished ps.master.snapshots k.namespace
@@ -149,11 +144,13 @@ pub record ListedPresent (ps : Parts) : Type 0 where
       → In p c.tablets → IsPresent ps p.source_slot p.source
 
 -- what retention keeps at each moment
-pub record Retained (ps : Parts) (activity : List Interval) (taken : List SnapshotRecord) (since : Id → ℕ) : Type 0 where
+pub record Retained (ps : Parts) (activity : List Interval) (taken : List SnapshotRecord)
+    (since : Id → ℕ) : Type 0 where
   pub scheduled : (k : ScheduledNamespace) → In k ps.master.scheduled
       → RetainedFor ps activity taken (since k.namespace) k
   -- these are the namespaces that have schedules
-  pub have_schedules : (ns : Id) → is_some (scheduled_in ps.master.scheduled ns) ≡ is_some (schedule_of ps.master.schedules ns)
+  pub have_schedules : (ns : Id)
+      → is_some (scheduled_in ps.master.scheduled ns) ≡ is_some (schedule_of ps.master.schedules ns)
   pub listed : ListedPresent ps
   -- also without a schedule no cutoff, and no mark of the catalog, passes the master's clock
   pub cutoffs : (slot : ℕ) → is_empty (ps.tablet slot).presence ≡ false → (ps.tablet slot).cutoff ≤ ps.master.clock

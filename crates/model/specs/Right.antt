@@ -12,8 +12,7 @@ abbrev pub is_asked : Option (List ℕ) → List ℕ → Bool
 is_asked None key = true
 is_asked (Some asked) key = bytes_eq asked key
 
--- the row of a key that a place is to give: that of the view at x, where it is present, asked, and its code is in the
--- place's range
+-- the row of a key that a place is to give: the view's at x, where it is present, asked, and in the place's range
 abbrev pub row_wanted : List Change → ℕ → Option (List ℕ) → List ℕ → Tablet → List ℕ → List KeyedRow
 row_wanted changes x asked columns t key =
     if is_asked asked key && in_range t.low t.high (code_of key)
@@ -91,8 +90,7 @@ abbrev pub is_fixed : List Change → Id → ℕ → Bool
 is_fixed [] ns t = false
 is_fixed (c ∷ earlier) ns t = if fixes c.act ns t then true else is_fixed earlier ns t
 
--- no change of a namespace is stamped at or before the time of a restore of it, or of a clone, that the journal has
--- before it
+-- no change of a namespace is stamped at or before the time of an earlier restore, or clone, of it
 abbrev pub NoneLate : List Change → Type 0
 NoneLate [] = Unit {0}
 NoneLate (c ∷ earlier) = NoneLate earlier

@@ -72,7 +72,6 @@ abbrev pub floor : Option ℕ → Option ℕ → ℕ → ℕ
 floor None unfinished_to now = now
 floor (Some least) unfinished_to now = least_with unfinished_to least
 
--- the snapshot that serves a time: the namespace's first complete, kept one at or after it. Records stand in order of
--- time
+-- the snapshot that serves a time: the namespace's first complete, kept one at or after it, in order of time
 abbrev pub serving : List SnapshotRecord → Id → ℕ → Option SnapshotRecord
 serving rs ns to = find (λ r. (same r.namespace ns && r.complete) && nat_le to r.at) rs

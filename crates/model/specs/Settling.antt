@@ -22,8 +22,7 @@ abbrev pub taken_slots : Master → ℕ
 taken_slots m = m.slots - length (free_slots m)
 
 -- each listed tablet costs at most an ack too early, a send, a process and an ack. A snapshot has one round over its
--- tablets and one move; a restoration four rounds and six moves, a clone three rounds and five moves, where a snapshot
--- of their own is counted
+-- tablets and one move; with a snapshot of its own a restoration has four rounds and six moves, a clone three and five
 abbrev pub left : Master → ℕ
 left m =
     4 * taken_slots m * (unfinished_snapshots m + 4 * unfinished_restorations m + 3 * unfinished_clones m)

@@ -1,10 +1,10 @@
 -- What holds of the parts of a cluster against its journal after each entry: tablets stand for the journal, ranges
 -- cover the codes, and a record's state says what its tablets have done.
 use Rattle.std.specs.Prelude.{◌≡◌, ◌≢◌, ℕ, ◌≤◌, ◌<◌, Bool, true, false, List, [], ◌∷◌, Option, Some, None, ◌==◌, ◌&&◌, ◌||◌, ◌⊎◌, ◌+◌, not, nat_lt, if◌then◌else◌, filter, is_some, option_map}
-use Rattle.model.specs.Cluster.{option_or, list_any, code_of, Id, same, In, Version, read_of, AreRows, IsRange, in_range, RowOp, before_end, is_open, owns, Interval, active_at, last_of, current_table, Tablet, Release, BodyKind, FenceKind, FreezeKind, RestoreFromKind, HideKind, CopyKind, ReleaseKind, kind_of, Mark, FrozenSet, is_empty, is_serving, is_done, holds_command, set_of, Listed, SnapshotRecord, RestorationRecord, RestorationState, Fencing, Snapshotting, Switching, Restoring, Releasing, Restored, CloneRecord, CloneState, Accepted, CloneSnapshot, Copying, CloneReleasing, CloneComplete, is_restored, is_cloned, point_of, TabletPair, Parts}
+use Rattle.model.specs.Cluster.{option_or, list_any, code_of, Id, same, In, Version, read_of, AreRows, IsRange, in_range, RowOp, before_end, ended_by, is_open, owner_of, owns, Interval, active_at, last_of, current_table, Tablet, HiddenPart, BodyKind, FenceKind, FreezeKind, RestoreFromKind, HideKind, CopyKind, ReleaseKind, kind_of, Mark, FrozenSet, is_empty, is_serving, is_done, holds_command, set_of, Listed, SnapshotRecord, RestorationRecord, RestorationState, Fencing, Snapshotting, Switching, Restoring, Releasing, Restored, CloneRecord, CloneState, Accepted, CloneSnapshot, Copying, CloneReleasing, CloneComplete, IdPair, is_restored, is_cloned, point_of, TabletPair, Parts}
 use Rattle.model.specs.Tablets.{Command}
 pub use Rattle.model.specs.Moves.{is_restore}
-use Rattle.model.specs.Journal.{Change, NamespaceMade, NamespaceDropped, TableMade, TableRenamed, TableDropped, ColumnAdded, ColumnDropped, RowChanged, NamespaceRestored, NamespaceCloned, source_of, table_at, row_at}
+use Rattle.model.specs.Journal.{Change, NamespaceMade, NamespaceDropped, TableMade, TableRenamed, TableDropped, ColumnAdded, ColumnDropped, RowChanged, NamespaceRestored, NamespaceCloned, table_at, row_at, owner_in}
 
 -- Tablets stand for the journal
 
@@ -63,6 +63,25 @@ pub record HoldsTablet (i : Interval) (t : Tablet) : Type 0 where
   pub low_is : t.low ≡ i.low
   pub high_is : t.high ≡ i.high
 
+-- the master knows the tablet in a slot
+pub record IsHomeIn (activity : List Interval) (slot : ℕ) (tablet : Id) : Type 0 where
+  pub interval : Interval
+  pub kept : In interval activity
+  pub slot_is : interval.slot ≡ slot
+  pub tablet_is : interval.tablet ≡ tablet
+
+-- or it is the target of a clone that copies
+pub record IsTargetIn (clones : List CloneRecord) (slot : ℕ) (tablet : Id) : Type 0 where
+  pub clone : CloneRecord
+  pub kept : In clone clones
+  pub serving : Id
+  pub at : ℕ
+  pub state_is : clone.state ≡ Copying serving at
+  pub pair : TabletPair
+  pub paired : In pair clone.tablets
+  pub slot_is : pair.slot ≡ slot
+  pub tablet_is : pair.target ≡ tablet
+
 -- each tablet that the master knows is in its slot, and a serving or hidden one stands for the journal
 pub record Stands (ps : Parts) (changes : List Change) : Type 0 where
   pub held : (i : Interval) → In i ps.master.activity → HoldsTablet i (ps.tablet i.slot)
@@ -71,6 +90,14 @@ pub record Stands (ps : Parts) (changes : List Change) : Type 0 where
       → is_serving (ps.tablet i.slot).presence ≡ true
   pub active : (slot : ℕ) → is_serving (ps.tablet slot).presence ≡ true → (ps.tablet slot).fence ≡ None
       → (i : Interval) × (In i ps.master.activity × ((i.slot ≡ slot) × (i.to ≡ None)))
+  -- its tablet is one that the master knows there, or a target; what a hidden one was active for had ended by then
+  pub home : (slot : ℕ) → is_empty (ps.tablet slot).presence ≡ false
+      → IsHomeIn ps.master.activity slot (ps.tablet slot).tablet
+      ⊎ IsTargetIn ps.master.clones slot (ps.tablet slot).tablet
+  pub hidden : (i : Interval) (at : ℕ) → In i ps.master.activity → (ps.tablet i.slot).presence ≡ HiddenPart at
+      → (is_open i.to && is_some (awaited ps (ps.tablet i.slot))) ≡ false → ended_by at i.to ≡ true
+  -- the catalog has each table of the journal in the namespace in which it was made
+  pub owners : (table ns : Id) → owner_in changes table ≡ Some ns → owner_of ps.master.catalog.owners table ≡ Some ns
   pub live : (slot : ℕ) → is_empty (ps.tablet slot).presence ≡ false → LiveStands ps changes slot
   pub frozen : (slot : ℕ) (f : FrozenSet) → is_empty (ps.tablet slot).presence ≡ false → In f (ps.tablet slot).frozen
       → FrozenStands ps changes slot f
@@ -178,13 +205,34 @@ RestorationStateFacts (Releasing point serving) r ps changes =
     (l : Listed) → In l r.listed → l.acked ≡ true → (ps.tablet l.slot).fence ≢ Some r.id
 RestorationStateFacts (Restored point serving) r ps changes = NoneFenced r.id ps
 
+-- a target that has copied serves its table in its range, fenced, with the rows of its source at the clone's time
+pub record IsCopy (changes : List Change) (c : CloneRecord) (at : ℕ) (p : TabletPair) (t : Tablet) : Type 0 where
+  pub serves : is_serving t.presence ≡ true
+  pub fenced : t.fence ≡ Some c.id
+  pub tablet_is : t.tablet ≡ p.target
+  pub table_is : t.table ≡ p.table
+  pub low_is : t.low ≡ p.low
+  pub high_is : t.high ≡ p.high
+  pub cutoff : at ≤ t.cutoff
+  pub rows : (d : IdPair) → In d c.tables → d.target ≡ p.table
+      → AreRowsAt t.versions p.low p.high at changes c.to d.source
+
+-- a listed tablet that is acked is the target of one of the clone's pairs, for a table that it clones, and has copied
+pub record HasCopied (changes : List Change) (c : CloneRecord) (at : ℕ) (l : Listed) (t : Tablet) : Type 0 where
+  pub pair : TabletPair
+  pub paired : In pair c.tablets
+  pub target_is : pair.target ≡ l.tablet
+  pub slot_is : pair.slot ≡ l.slot
+  pub tables : IdPair
+  pub cloned : In tables c.tables
+  pub table_is : tables.target ≡ pair.table
+  pub copy : IsCopy changes c at pair t
+
 abbrev pub CloneStateFacts : CloneState → CloneRecord → Parts → List Change → Type 0
 CloneStateFacts Accepted c ps changes = Unit {0}
 CloneStateFacts (CloneSnapshot own) c ps changes = Unit {0}
-CloneStateFacts (Copying serving copied_at) c ps changes = (l : Listed) (p : TabletPair) (source : Id)
-    → In l c.listed → In p c.tablets → p.target ≡ l.tablet → source_of c.tables p.table ≡ Some source → l.acked ≡ true
-    → ((ps.tablet l.slot).fence ≡ Some c.id)
-    × AreRowsAt (ps.tablet l.slot).versions p.low p.high copied_at changes c.to source
+CloneStateFacts (Copying serving copied_at) c ps changes = (l : Listed) → In l c.listed → l.acked ≡ true
+    → HasCopied changes c copied_at l (ps.tablet l.slot)
 CloneStateFacts (CloneReleasing serving copied_at) c ps changes =
     (l : Listed) → In l c.listed → l.acked ≡ true → (ps.tablet l.slot).fence ≢ Some c.id
 CloneStateFacts (CloneComplete serving copied_at) c ps changes = NoneFenced c.id ps
@@ -233,23 +281,13 @@ pub record RecordFacts (ps : Parts) (changes : List Change) : Type 0 where
   -- a restoration's point comes after the rows that it undoes
   pub after_rows : (r : RestorationRecord) (point : ℕ) → In r ps.master.restorations → point_of r.state ≡ Some point
       → AfterRows r.namespace point ps changes
-  -- a tablet that was sent a command, or did it, has a clock above the times that the record remembers of it: a
-  -- snapshot's time, the time that a restoration goes to, its point from the switch on, the stamp of a clone's copies,
-  -- and the stamp at which its target became current. `ClocksAfter` says it of the stamp at which the record entered
-  -- the state that gives the command
-  pub after_freeze : (slot : ℕ) (r : SnapshotRecord) → In r ps.master.snapshots
-      → was_given (ps.tablet slot) r.id FreezeKind ≡ true → r.at < (ps.tablet slot).clock
+  -- a tablet that was sent a command, or did it, has a clock above the time that a restoration goes to, and above its
+  -- point from the switch on. `ClocksAfter` says it of the stamp at which the record entered the state that gives it
   pub after_fence : (slot : ℕ) (r : RestorationRecord) → In r ps.master.restorations
       → was_given (ps.tablet slot) r.id FenceKind ≡ true → r.to < (ps.tablet slot).clock
   pub after_point : (slot : ℕ) (r : RestorationRecord) (point : ℕ) (kind : BodyKind) → In r ps.master.restorations
       → point_of r.state ≡ Some point
       → is_after_switch kind ≡ true → was_given (ps.tablet slot) r.id kind ≡ true → point < (ps.tablet slot).clock
-  pub after_copy : (slot : ℕ) (c : CloneRecord) (at : ℕ) (kind : BodyKind) → In c ps.master.clones
-      → copied_at c.state ≡ Some at
-      → was_given (ps.tablet slot) c.id kind ≡ true → at < (ps.tablet slot).clock
-  pub after_release : (c : CloneRecord) (l : Listed) (cutoff : ℕ) → In c ps.master.clones → In l c.listed
-      → l.body ≡ Release cutoff
-      → was_given (ps.tablet l.slot) c.id ReleaseKind ≡ true → cutoff < (ps.tablet l.slot).clock
   pub fences : (slot : ℕ) (operation : Id) → (ps.tablet slot).fence ≡ Some operation → FenceFacts ps slot operation
   pub once : (slot : ℕ) → NoneTwice (ps.tablet slot).inbox
   pub fresh : (slot : ℕ) (c : Command) → In c (ps.tablet slot).inbox

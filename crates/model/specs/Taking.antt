@@ -1,10 +1,12 @@
 -- What an act may take away: nothing that a time needs, from the floor of its namespace on. It is said of the parts
 -- before and after any act, a step at a time.
-use Rattle.std.specs.Prelude.{◌≡◌, ℕ, ◌≤◌, Bool, true, false, List, [], ◌∷◌, Option, Some, None, ◌&&◌, ◌⊎◌, ◌-◌, max, min, map, if◌then◌else◌, option_map, option_and_then, filter}
-use Rattle.model.specs.Cluster.{Id, same, In, absent_row, read_of, Row, holds_at, before_end, NamespaceRecord, TableRecord, Catalog, tables_at, kept_from, owns, Interval, active_at, route, set_of, Schedule, ScheduledNamespace, SnapshotRecord, point_of, Act, Change, DeleteSchedule, EditSchedule, Master, Parts, deed_of, Commands, Advances, Obeys, NoDeed}
+use Rattle.std.specs.Prelude.{◌≡◌, ℕ, ◌≤◌, Bool, true, false, List, [], ◌∷◌, Option, Some, None, ◌&&◌, ◌-◌, max, min, map, if◌then◌else◌, option_map, option_and_then, filter}
+use Rattle.model.specs.Cluster.{Id, same, In, has, absent_row, read_of, Row, holds_at, before_end, NamespaceRecord, TableRecord, Catalog, tables_at, kept_from, owns, Interval, active_at, route, set_of, Schedule, ScheduledNamespace, SnapshotRecord, RestorationRecord, RestorationState, Fencing, Snapshotting, Switching, Restoring, Releasing, Restored, point_of, unfinished, Act, Change, DeleteSchedule, EditSchedule, Master, Parts, deed_of, Commands, Advances, Obeys, NoDeed}
 use Rattle.model.specs.Tablets.{Command}
-use Rattle.model.specs.Schedules.{history_retention, serving}
-use Rattle.model.specs.Operations.{restoration_of}
+use Rattle.model.specs.Schedules.{edited, history_retention, is_period, serving}
+use Rattle.model.specs.Moves.{is_restore}
+use Rattle.model.specs.Operations.{restoration_of, user}
+use Rattle.model.specs.Entries.{slots_of}
 use Rattle.model.specs.Looks.{place_of}
 use Rattle.model.specs.Cleanup.{floor_of}
 use Rattle.model.specs.Retained.{IsPresent, IsTabletOf, Source, source_for, ReachesBack}
@@ -50,8 +52,7 @@ abbrev pub read_from : Option Source → List ℕ → ℕ → Row
 read_from None key x = absent_row
 read_from (Some source) key x = read_of source.versions key x
 
--- a tablet that was active at a time stays, and its rows of then are had as before. What it writes later than its clock
--- isn't of then
+-- a tablet that was active at a time stays, and its rows of then, which its clock has passed, are had as before
 pub record TabletKept (before after : Parts) (ns : Id) (to : ℕ) (i : Interval) : Type 0 where
   pub present : IsPresent after i.slot i.tablet
   pub active : StillActive after.master.activity i to
@@ -71,42 +72,59 @@ pub record NeededKept (before after : Parts) (ns : Id) (to : ℕ) : Type 0 where
   pub tablets : (i : Interval) → In i before.master.activity → IsTabletOf before.master ns i
       → active_at to i ≡ true → TabletKept before after ns to i
 
--- whether the operation's command is the first of an inbox
-abbrev pub is_first_of : List Command → Id → Bool
-is_first_of [] operation = false
-is_first_of (c ∷ cs) operation = same c.operation operation
+-- the point of a restoration whose next move is the switch
+abbrev pub switches_at : RestorationState → Option ℕ
+switches_at (Switching point serving) = Some point
+switches_at Fencing = None
+switches_at (Snapshotting point own) = None
+switches_at (Restoring point serving) = None
+switches_at (Releasing point serving) = None
+switches_at (Restored point serving) = None
 
--- whether an act moves the operation's record, or has a tablet do its command
-abbrev pub is_part_of : Id → Act → Parts → Bool
-is_part_of operation act ps = elim (deed_of act) [
-  | Advances moved ↦ same moved operation
-  | Obeys slot ↦ is_first_of (ps.tablet slot).inbox operation
-  | Commands command ↦ false
-  | NoDeed ↦ false
+-- whether the first command of an inbox is the operation's to take back rows
+abbrev pub takes_back : List Command → Id → Bool
+takes_back [] operation = false
+takes_back (c ∷ cs) operation = same c.operation operation && is_restore c.body
+
+-- from when on an act may put other tables and rows in place: a switch, and a tablet that takes back its rows, from the
+-- point on. No other act does at any time
+abbrev pub replaced_by : RestorationRecord → Act → Parts → Option ℕ
+replaced_by r act ps = elim (deed_of act) [
+  | Advances moved ↦ if same moved r.id then switches_at r.state else None
+  | Obeys slot ↦ if takes_back (ps.tablet slot).inbox r.id then point_of r.state else None
+  | Commands command ↦ None
+  | NoDeed ↦ None
 ]
 
--- from when on an act may put other tables and rows in place: one that is part of the namespace's unfinished
--- restoration, from its point on. No other act does at any time
 abbrev pub replaced_from : Act → Parts → Id → Option ℕ
-replaced_from act ps ns =
-    option_and_then (λ r. if is_part_of r.id act ps then point_of r.state else None)
-    (restoration_of ps.master.restorations ns)
+replaced_from act ps ns = option_and_then (λ r. replaced_by r act ps) (restoration_of ps.master.restorations ns)
 
--- a schedule stays, with its window, unless the act is its deletion or edit
-abbrev pub ScheduleStays : Act → Schedule → Master → Type 0
-ScheduleStays act s after =
-    ((t : Schedule) × (In t after.schedules × (record t { last = s.last } ≡ s)))
-    ⊎ ((slots : List ℕ) × ((act ≡ Change (DeleteSchedule s.id) slots)
-    ⊎ ((interval : ℕ) × ((retention : ℕ) × (act ≡ Change (EditSchedule s.id interval retention) slots)))))
+-- a schedule stays, with its window; or the act is its deletion, where no operation uses its namespace, and no snapshot
+-- of it is unfinished; or its edit: it has the new periods, and what was out of its window stays out
+pub data ScheduleStays (act : Act) (s : Schedule) (before after : Master) : Type 0 where
+  Unchanged : (t : Schedule) (there : In t after.schedules) (alike : record t { last = s.last } ≡ s)
+      → ScheduleStays act s before after
+  Deleted : (slots : List ℕ) (act_is : act ≡ Change (DeleteSchedule s.id) slots)
+      (unused : user before s.namespace ≡ None) (complete : unfinished before.snapshots s.namespace ≡ None)
+      → ScheduleStays act s before after
+  Edited : (interval retention : ℕ) (slots : List ℕ) (periods : is_period interval retention ≡ true)
+      (act_is : act ≡ Change (EditSchedule s.id interval retention) slots)
+      (there : In (edited interval retention after.clock s) after.schedules) → ScheduleStays act s before after
 
--- an act takes nothing that a time needs: from the floor of a scheduled namespace, by the schedules and the operation
--- that it had, up to the master's clock
+-- from when on an act may change the catalog: its stamp, where the master takes part
+abbrev pub changed_from : Act → Master → Option ℕ
+changed_from act after = if has (slots_of act) 0 then Some after.clock else None
+
+-- an act takes nothing that a time needs: no time from the floor of a scheduled namespace on, by the schedules and the
+-- operation that it had, and before the act's stamp where the master takes part
 pub record TakesNothingNeeded (act : Act) (before after : Parts) : Type 0 where
   pub needed : (k : ScheduledNamespace) (to : ℕ) → In k before.master.scheduled
-      → floor_of before.master k.namespace after.master.clock ≤ to → to ≤ before.master.clock
+      → floor_of before.master k.namespace after.master.clock ≤ to
+      → before_end to (changed_from act after.master) ≡ true
       → before_end to (replaced_from act before k.namespace) ≡ true
       → NeededKept before after k.namespace to
-  pub schedules : (s : Schedule) → In s before.master.schedules → ScheduleStays act s after.master
+  pub schedules : (s : Schedule) → In s before.master.schedules
+      → ScheduleStays act s before.master after.master
 
 -- The mark of a namespace's catalog
 

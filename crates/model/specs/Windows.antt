@@ -1,11 +1,11 @@
 -- How restores by a schedule and clones are answered: each refusal exactly where its cause holds and no earlier one
--- does, with its values, and else acceptance. What a journal doesn't have is the master's: schedules, unfinished
--- operations, and free slots.
-use Rattle.std.specs.Prelude.{◌≡◌, ◌≢◌, ℕ, ◌≤◌, ◌<◌, ◌+◌, ◌-◌, true, false, not, ◌&&◌, ◌⊎◌, List, [], ◌∷◌, Option, Some, None, is_some, length, unwrap_or, filter}
+-- does, with its values. What a journal doesn't have is the master's: schedules, unfinished operations, free slots.
+use Rattle.std.specs.Prelude.{◌≡◌, ◌≢◌, ℕ, ◌≤◌, ◌<◌, ◌+◌, true, false, not, ◌&&◌, ◌⊎◌, List, [], ◌∷◌, Option, Some, None, is_some, length, filter}
 use Rattle.model.specs.Cluster.{Id, same, In, AllOf, Interval, active_at, Schedule, CloneRecord, is_visible, schedule_with, UnknownNamespace, UnknownSchedule, NameTaken, NoSchedule, TooMany, SlotsFull, TooEarly, Future, Busy, Reply, Ok, Refused, Master}
 use Rattle.model.specs.Schedules.{low, least_low, IsInWindow}
 use Rattle.model.specs.Operations.{user}
 use Rattle.model.specs.Looks.{free_slots}
+use Rattle.model.specs.Changed.{clone_time}
 use Rattle.model.specs.Changes.{most_namespaces}
 use Rattle.model.specs.Journal.{Change, is_in, namespace_at, table_at}
 use Rattle.model.specs.Right.{NamespaceFound}
@@ -75,10 +75,8 @@ pub record CloneLook : Type 0 where
   pub at : Option ℕ
   pub now : ℕ
   pub changes : List Change
+  pub activity : List Interval
   pub master : Master
-
-abbrev pub time_to_clone : CloneLook → ℕ
-time_to_clone q = unwrap_or q.at (q.now - 1)
 
 -- the source is current
 abbrev pub HasSource : CloneLook → Type 0
@@ -101,7 +99,7 @@ pub record MayClone (q : CloneLook) : Type 0 where
 
 -- how many slots a clone needs: one for each tablet of the source that was active at its time
 abbrev pub slots_needed : (q : CloneLook) → HasSource q → ℕ
-slots_needed q source = count_active q.changes q.master.activity source.id (time_to_clone q)
+slots_needed q source = count_active q.changes q.activity source.id (clone_time q.at q.now)
 
 -- how a clone is answered under its plan
 pub data CloneAnswer (q : CloneLook) : Reply → Type 0 where
@@ -118,13 +116,13 @@ pub data CloneAnswer (q : CloneLook) : Reply → Type 0 where
       (full : AreSoMany q.changes q.now q.master.clones limit) (limit_is : limit ≡ most_namespaces)
       → CloneAnswer q (Refused (TooMany limit))
   CloneEarly : (low_end : ℕ) (may : MayClone q) (low_is : low_end ≡ may.from.least)
-      (below : time_to_clone q < may.from.least)
+      (below : clone_time q.at q.now < may.from.least)
       → CloneAnswer q (Refused (TooEarly low_end))
-  CloneLate : (end : ℕ) (may : MayClone q) (end_is : end ≡ q.now) (reached : may.from.least ≤ time_to_clone q)
-      (beyond : q.now ≤ time_to_clone q) → CloneAnswer q (Refused (Future end))
-  CloneFull : (free needed : ℕ) (may : MayClone q) (inside : IsInWindow may.from.least q.now (time_to_clone q))
+  CloneLate : (end : ℕ) (may : MayClone q) (end_is : end ≡ q.now) (reached : may.from.least ≤ clone_time q.at q.now)
+      (beyond : q.now ≤ clone_time q.at q.now) → CloneAnswer q (Refused (Future end))
+  CloneFull : (free needed : ℕ) (may : MayClone q) (inside : IsInWindow may.from.least q.now (clone_time q.at q.now))
       (free_is : free ≡ length (free_slots q.master)) (needed_is : needed ≡ slots_needed q may.from.source)
       (less : free < needed)
       → CloneAnswer q (Refused (SlotsFull free needed))
-  CloneAccepted : (made : Id) (may : MayClone q) (inside : IsInWindow may.from.least q.now (time_to_clone q))
+  CloneAccepted : (made : Id) (may : MayClone q) (inside : IsInWindow may.from.least q.now (clone_time q.at q.now))
       (fits : slots_needed q may.from.source ≤ length (free_slots q.master)) → CloneAnswer q (Ok (made ∷ []))

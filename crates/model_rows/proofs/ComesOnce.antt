@@ -88,7 +88,6 @@ first_once = record {
   schedule_is = refl;
   namespace_is = refl;
   to_is = refl;
-  point_is = first_point;
   restored = first_restored;
 }
 
@@ -100,7 +99,6 @@ second_once = record {
   schedule_is = refl;
   namespace_is = refl;
   to_is = refl;
-  point_is = second_point;
   restored = second_restored;
 }
 

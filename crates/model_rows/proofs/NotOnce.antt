@@ -1,15 +1,16 @@
 -- What doesn't come once, and numbers that are not drawn in turn: answers and parts that are refused.
-use Rattle.std.proofs.Common.{◌≡◌, ◌<◌, ℕ, true, false, List, [], ◌∷◌, Some, None, if◌then◌else◌, inl, inr, refl, sym, ap, subst, arith, map, ◌∙◌}
+use Rattle.std.proofs.Common.{◌≡◌, ◌<◌, ℕ, true, false, List, [], ◌∷◌, Some, None, if◌then◌else◌, inl, inr, refl, sym, ap, subst, arith, length, map, ◌∙◌}
 use Rattle.std.proofs.lemmas.Bool.{true≢false}
 use Rattle.row_values.specs.Ids.{Id, Namespace, Tablet, same}
 use Rattle.std.specs.List.{filter}
 use Rattle.model.specs.Catalog.{NamespaceRecord}
 use Rattle.row_values.specs.Elements.{In}
-use Rattle.model.specs.Acts.{Act, Advance, Advanced, Change, CreateNamespace, CreateTable, Split, Done, Ok, Process, Refused, TooMany}
+use Rattle.model.specs.Acts.{Act, Advance, Advanced, Change, CreateNamespace, CreateTable, Split, Done, NotDone, Ok, Process, Refused, TooMany}
 use Rattle.model.specs.Activity.{Interval}
-use Rattle.model.specs.Drawn.{ColumnsNew, DrawsInTurn, DrawsNext, IsAsTaken}
+use Rattle.model.specs.Drawn.{ColumnsNew, DrawsInTurn, DrawsNext, IsPartOf, as_taken}
 use Rattle.model.specs.Entering.{ClocksAfter, Entering, EntersAt, entered, states_of, states_to}
-use Rattle.model.specs.History.{replay}
+use Rattle.model.specs.Entries.{Entry}
+use Rattle.model.specs.History.{RefusedTicks, replay}
 use Rattle.model.specs.Journal as made
 use Rattle.model.specs.Journal.{ColumnAdded, ColumnDropped, NamespaceCloned, is_in}
 use Rattle.model.specs.Once.{CloneAsked, ClonesOnce, NoneAgain, Obeyed, RestoresOnce, changes_asked, commands_done, is_paired, is_whole}
@@ -51,6 +52,16 @@ made_one = after (create_namespace c) ready
 refused_and_drawn : DrawsInTurn 64 (answered (Refused (TooMany 64)) made_one.entries) → ⊥
 unfolding the_book
 refused_and_drawn turn = let e : ◌≡◌ {A = ℕ} 2 1 = turn.1.count Namespace in omega arith
+
+-- nor are all but clocks as they were
+abbrev made_refused : Entry
+made_refused = record { number = 9; event = record { caller = 1; reading = 0; act = Change (CreateNamespace c) [] }; stamp = early 9; reply = Refused (TooMany 64) }
+
+refused_and_made : RefusedTicks made_refused ready.parts → ⊥
+unfolding the_book
+refused_and_made ticks =
+    let h = (ticks (TooMany 64) refl (λ e. let q : TooMany 64 ≡ NotDone = e in grind arith)).master in
+    let e : ◌≡◌ {A = ℕ} 2 1 = ap (λ m. m.drawn.namespaces) h in omega arith
 
 -- a reply that gives the number after the next
 skipped_in_reply : DrawsInTurn 64 (answered (Ok (N 3 ∷ [])) made_one.entries) → ⊥
@@ -161,13 +172,26 @@ id_of_source new = let e : ◌≡◌ {A = ℕ} 2 3 = new.1 in omega arith
 
 -- Snapshots
 
--- a kept snapshot that names another one before it than the one that was taken
-other_before : IsAsTaken (own 1 (early 2) 10 ∷ []) (own 1 (early 3) 10) → ⊥
-other_before as_taken = let e : early 2 ≡ early 3 = by as_taken.snapshot as_taken.was_taken as_taken.after_is in omega arith
-  where
-    by : (q : SnapshotRecord) → In q (own 1 (early 2) 10 ∷ []) → q.after ≡ early 3 → early 2 ≡ early 3
-    by q (inl e) is = ap (λ r. r.after) e ∙ is
-    by q (inr h) is = absurd h
+-- a kept snapshot that names another one before it than the one that was taken, and one that lists a tablet less
+
+is_taken : SnapshotRecord → SnapshotRecord → Type 0
+is_taken r taken = IsPartOf (as_taken r ∷ []) (as_taken taken ∷ [])
+
+other_before : is_taken (own 1 (early 3) 10) (own 1 (early 2) 10) → ⊥
+unfolding is_taken
+other_before (inl e) = let q : early 3 ≡ early 2 = ap (λ r. r.after) e.0 in omega arith
+other_before (inr none) = none
+
+lists_less : is_taken (record (own 1 (early 2) 10) { listed = [] }) (own 1 (early 2) 10) → ⊥
+unfolding is_taken
+lists_less (inl e) = let q = ap (λ r. length r.listed) e.0 in let is : ◌≡◌ {A = ℕ} 0 1 = q in omega arith
+lists_less (inr none) = none
+
+-- kept ones in another order
+turned_round : IsPartOf (as_taken (own 2 (early 10) 31) ∷ as_taken (own 1 (early 2) 10) ∷ []) (as_taken (own 1 (early 2) 10) ∷ as_taken (own 2 (early 10) 31) ∷ []) → ⊥
+turned_round (inl e) = let q : early 31 ≡ early 10 = ap (λ r. r.at) e.0 in omega arith
+turned_round (inr (inl e)) = e.1
+turned_round (inr (inr none)) = none
 
 -- States
 

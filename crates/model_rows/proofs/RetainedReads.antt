@@ -43,11 +43,10 @@ ready_retained_for = record {
       subst (λ j. ((ready.parts.tablet j.slot).cutoff ≤ to) × Unit {0}) (only_one i (since 2) listed) (low, tt);
   cutoffs = λ slot i here last owned.
       let low : early 2 ≤ max (early 3) i.from = omega arith in
-      subst (λ at. ((ready.parts.tablet at).cutoff ≤ max (early 3) i.from) × ((ready.parts.tablet at).cutoff ≤ early 3))
-      (sym (only_slot slot here)) (low, leb-true _ _ refl);
+      subst (λ at. (ready.parts.tablet at).cutoff ≤ max (early 3) i.from) (sym (only_slot slot here)) low;
   times = tt;
   last = refl;
-  complete = λ at is. cc;
+  complete = refl;
   none_later = λ r kept. absurd kept;
   unfinished_one = tt;
   since_is = refl;
@@ -97,7 +96,19 @@ never_taken = record scheduled { complete = Some (early 3) }
 
 not_complete : Retained (record ready.parts { master = record ready.parts.master { scheduled = never_taken ∷ [] } }) (since 2 ∷ []) [] (scheduled_since 64 ready.entries) → ⊥
 unfolding the_book
-not_complete retained = ((retained.scheduled never_taken (inl refl)).complete (early 3) refl).1.1.0
+not_complete retained =
+    let is : early 3 ≡ early 2 = (retained.scheduled never_taken (inl refl)).complete in
+    omega (arith, is)
+
+-- it has forgotten that the last snapshot is complete, which is kept no more
+abbrev forgetful : ScheduledNamespace
+forgetful = record scheduled { last = Some (early 3) }
+
+not_forgotten : Retained (record ready.parts { master = record ready.parts.master { scheduled = forgetful ∷ [] } }) (since 2 ∷ []) [] (scheduled_since 64 ready.entries) → ⊥
+unfolding the_book
+not_forgotten retained =
+    let is : early 2 ≡ early 3 = (retained.scheduled forgetful (inl refl)).complete in
+    omega (arith, is)
 
 -- the namespace of a schedule is not among the scheduled ones, and so nothing is kept for it
 not_listed : Retained (record ready.parts { master = record ready.parts.master { scheduled = [] } }) (since 2 ∷ []) [] (scheduled_since 64 ready.entries) → ⊥

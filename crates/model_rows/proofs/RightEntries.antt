@@ -13,7 +13,7 @@ use Rattle.row_values.specs.Store.{present, of_key}
 use Rattle.model.specs.Acts.{At, Act, NamedCell, Placed, Rows}
 use Rattle.model.specs.Entries.{Entry}
 use Rattle.model.specs.Replies.{AnswerRight, Right}
-use Rattle.model.specs.History.{replay, journal_of}
+use Rattle.model.specs.History.{activity_of, replay, journal_of}
 use Rattle.model.specs.Looks.{batch_fault, place_of, code_outside}
 use Rattle.model.specs.Activity.{Interval, active_at}
 use Rattle.row_values.specs.Schema.{Column}
@@ -116,7 +116,7 @@ pub look_right : (slots : ℕ) (run : Run) (namespace : List ℕ) (owner table :
     ≡ Some (record { namespace = owner; name = t; columns = columns })
     → version ≡ version_at (journal_of slots run.entries) (newest (asking namespace key cells) run).stamp table
     → batch_fault columns (asked key cells) ≡ None
-    → In home (replay slots run.entries).master.activity → home.table ≡ table → active_at (newest (asking namespace key cells) run).stamp home ≡ true
+    → In home (activity_of slots run.entries) → home.table ≡ table → active_at (newest (asking namespace key cells) run).stamp home ≡ true
     → in_range home.low home.high (code_of key) ≡ true → code_outside home (asked key cells) ≡ None
     → FixedStays (journal_of slots run.entries)
     → Right slots (done (asking namespace key cells) run).entries
@@ -127,7 +127,7 @@ look_right slots run namespace owner table key cells home version columns right 
     let ps = replay slots run.entries in (
       right,
       (
-        subst (λ r. AnswerRight (asking namespace key cells) r n ps changes) (sym reply)
+        subst (λ r. AnswerRight (asking namespace key cells) r n ps (activity_of slots run.entries) changes) (sym reply)
             (KeysPlaced (place_of home ∷ []) version columns
             (record { found = table_found changes n namespace owner table columns named found; reach = record { over = refl; kept = refl } })
             judged
@@ -155,7 +155,7 @@ read_right slots run p version key columns cells right reply served inside unfen
     let changes = journal_of slots run.entries in (
       right,
       (
-        subst (λ r. AnswerRight (reading p version key columns) r n ps changes) (sym reply)
+        subst (λ r. AnswerRight (reading p version key columns) r n ps (activity_of slots run.entries) changes) (sym reply)
             (GivesRows (row key cells ∷ [])
             (record { may = record { served = ((served, inside), tt); unfenced = (unfenced, tt) }; fresh = λ now. (fresh, tt); over = refl })
             (refl, tt)

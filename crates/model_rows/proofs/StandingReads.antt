@@ -1,21 +1,23 @@
 -- The parts after a first write stand for its journal, and wouldn't without the version that it wrote, nor without the tablet.
 use Rattle.std.specs.Option.{option_map}
-use Rattle.std.proofs.Common.{◌≡◌, ℕ, true, false, Some, [], ◌∷◌, List, ◌≤◌, inl, inr, refl, arith, ap, sym, subst}
+use Rattle.std.proofs.Common.{◌≡◌, ℕ, true, false, Some, [], ◌∷◌, List, ◌≤◌, ◌+◌, ◌∙◌, inl, inr, refl, arith, ap, sym, subst}
 use Rattle.std.proofs.lemmas.Bool.{true≢false, leb-true, ltb-true}
 use Rattle.std.proofs.lemmas.Bool.Decides.{nat_tests}
 use Rattle.row_values.specs.Elements.{In}
-use Rattle.model.specs.Journal.{row_at}
+use Rattle.row_values.specs.Ids.{Id}
+use Rattle.model.specs.Journal.{owner_in, row_at}
+use Rattle.model.specs.Records.{CloneRecord, Copying, Listed}
 use Rattle.model.specs.Parts.{Parts}
 use Rattle.row_values.specs.Store.{read_of}
-use Rattle.model.specs.Stands.{Stands, LiveStands, Cover, HoldsTablet, VersionsStand}
+use Rattle.model.specs.Stands.{Stands, LiveStands, Cover, CloneStateFacts, HoldsTablet, IsHomeIn, VersionsStand}
 use Rattle.model.specs.Activity.{Interval}
 use Rattle.model.specs.Stands.{Divides, HasRange}
-use Rattle.model.specs.Catalog.{current_table}
-use Rattle.model.specs.Tablets.{Tablet, HiddenPart, FrozenSet, emptied, is_empty, is_serving}
+use Rattle.model.specs.Catalog.{current_table, owner_of}
+use Rattle.model.specs.Tablets.{Tablet, Fence, HiddenPart, ServingPart, FrozenSet, emptied, is_empty, is_serving}
 use Rattle.model_rows.proofs.Numbers.{none_is_not_one}
 use Rattle.model_rows.specs.Computed.{the_book}
 use Rattle.model_rows.specs.FirstRead.{changes, written}
-use Rattle.model_rows.specs.Scripts.{since, B, T, early, x}
+use Rattle.model_rows.specs.Scripts.{since, B, K, N, P, T, a, b, early, x}
 
 written_stands_at_one : LiveStands written.parts changes 1
 unfolding the_book
@@ -53,11 +55,26 @@ serving_slot : (slot : ℕ) → is_serving (written.parts.tablet slot).presence 
 unfolding the_book
 serving_slot slot here = grind (arith, nat_tests)
 
+written_home : IsHomeIn written.parts.master.activity 1 (written.parts.tablet 1).tablet
+unfolding the_book
+written_home = record { interval = since 2; kept = inl refl; slot_is = refl; tablet_is = refl }
+
+not_hidden : (at : ℕ) → (written.parts.tablet 1).presence ≡ HiddenPart at → ⊥
+unfolding the_book
+not_hidden at e = let q : ServingPart ≡ HiddenPart at = e in grind arith
+
+written_owners : (table ns : Id) → owner_in changes table ≡ Some ns → owner_of written.parts.master.catalog.owners table ≡ Some ns
+unfolding the_book
+written_owners table ns e = grind (arith, nat_tests)
+
 written_stands : Stands written.parts changes
 written_stands = record {
   held = λ i listed. subst (λ i. HoldsTablet i (written.parts.tablet i.slot)) (its_one i listed) written_held;
   serves = λ i listed opened came. subst (λ i. is_serving (written.parts.tablet i.slot).presence ≡ true) (its_one i listed) written_serves;
   active = λ slot serving unfenced. (since 2, (subst (In (since 2)) (sym its_activity) (inl refl), (sym (serving_slot slot serving), refl)));
+  home = λ slot here. inl (subst (λ s. IsHomeIn written.parts.master.activity s (written.parts.tablet s).tablet) (sym (only_slot slot here)) written_home);
+  hidden = λ i at listed hides came. absurd (not_hidden at (subst (λ i. (written.parts.tablet i.slot).presence ≡ HiddenPart at) (sym (its_one i listed)) hides));
+  owners = written_owners;
   live = λ slot here. subst (λ s. LiveStands written.parts changes s) (sym (only_slot slot here)) written_stands_at_one;
   frozen = λ slot f here inside. absurd (nothing_frozen slot f (only_slot slot here) inside);
 }
@@ -97,6 +114,52 @@ forgotten = record written.parts { master = record written.parts.master { activi
 never_active : Stands forgotten changes → ⊥
 unfolding the_book
 never_active stands = (stands.active 1 refl refl).1.0
+
+-- nor does a slot whose tablet the master doesn't know, and a catalog that has the table in another namespace
+
+abbrev of_nobody : Parts
+of_nobody = record written.parts { tablet = λ slot. record (written.parts.tablet slot) { tablet = B (slot + 1); fence = Some (N 9) } }
+
+unknown_tablet : Stands of_nobody changes → ⊥
+unfolding the_book
+unknown_tablet stands = elim (stands.home 1 refl) [ inl h ↦ by h.interval h.kept h.tablet_is | inr h ↦ h.kept ]
+  where
+    by : (i : Interval) → In i (since 2 ∷ []) → i.tablet ≡ B 2 → ⊥
+    by i (inl e) is = let q : B 1 ≡ B 2 = ap (λ i. i.tablet) e ∙ is in grind arith
+    by i (inr none) is = none
+
+abbrev owned_wrongly : Parts
+owned_wrongly = record written.parts {
+  master = record written.parts.master {
+    catalog = record written.parts.master.catalog { owners = record { table = T 1; namespace = N 2 } ∷ [] };
+  };
+}
+
+wrong_owner : Stands owned_wrongly changes → ⊥
+unfolding the_book
+wrong_owner stands = let e = stands.owners (T 1) (N 1) refl in grind arith
+
+-- nor is a clone's target that is acked, and none of its pairs
+
+abbrev target : Listed
+target = record { tablet = B 2; slot = 2; body = Fence; acked = true }
+
+abbrev of_no_pair : CloneRecord
+of_no_pair = record {
+  id = K 1;
+  source = N 1;
+  source_name = a;
+  target = b;
+  target_id = N 2;
+  tables = [];
+  tablets = [];
+  to = early 3;
+  listed = target ∷ [];
+  state = Copying (P 1) (early 5);
+}
+
+copied_nothing : CloneStateFacts of_no_pair.state of_no_pair written.parts changes → ⊥
+copied_nothing facts = (facts target (inl refl) refl).paired
 
 -- a part's version is that of its table's current schema, and no other
 

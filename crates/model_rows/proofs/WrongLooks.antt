@@ -1,6 +1,6 @@
 -- Answers to looks and to reads that are not right.
-use Rattle.std.proofs.Common.{◌≡◌, ◌<◌, ◌++◌, ℕ, [], List, Some, None, arith, Option, ◌∷◌, true≢false, sym, ap, length}
-use Rattle.model.specs.Acts.{At, Look, AskTable, CreateTable, Rows, Reply, Future, Refused, Refusal, TooOld, CrossTablet, Place, Placed, UnknownTable}
+use Rattle.std.proofs.Common.{inl, inr, refl, ◌≡◌, ◌<◌, ◌++◌, ℕ, [], List, Some, None, arith, Option, ◌∷◌, true≢false, sym, ap, length}
+use Rattle.model.specs.Acts.{At, Look, AskTable, CreateTable, Rows, Reply, Future, Refused, Refusal, TooOld, CrossTablet, Place, ListSchedules, Placed, Present, Schedules, UnknownTable}
 use Rattle.model.specs.Answers.{NotYet, KeysRefused, Faulty, NotKept, Apart, NoTable, KeysPlaced, TablePlaced, GivesRows}
 use Rattle.model.specs.Entries.{Entry}
 use Rattle.model.specs.Replies.{Right}
@@ -10,7 +10,7 @@ use Rattle.model.specs.Looks.{place_of}
 use Rattle.model_rows.specs.Computed.{the_book}
 use Rattle.model_rows.specs.FirstRead.{written}
 use Rattle.model_rows.specs.Runs.{Run, Do, after, answered, begun, done}
-use Rattle.model_rows.specs.Scripts.{create_namespace, kept_v, new_int, planned_change, reading, row, tick, v, a, t, x, early, look_for, u, asked, place, v_alone, B, since}
+use Rattle.model_rows.specs.Scripts.{create_namespace, kept_v, new_int, planned_change, reading, row, tick, v, a, t, x, early, look_for, u, asked, place, v_alone, B, change, look_present, ready, since}
 
 -- Looks for the tablet of a key
 
@@ -129,3 +129,13 @@ reading_another = answered (Rows (row x (kept_v 1) ∷ [])) (done (reading anoth
 tablet_elsewhere : Right 64 reading_another → ⊥
 unfolding the_book
 tablet_elsewhere right = elim (right.1.0) [ GivesRows rows may reached right ↦ true≢false (sym may.may.served.0.0) ]
+
+-- a look for the present slots leaves none out, and lists show each record
+
+none_present : Right 64 (answered (Present []) (after look_present written).entries) → ⊥
+unfolding the_book
+none_present right = (let e = right.1.0 in cc)
+
+none_listed : Right 64 (answered (Schedules []) (after (change ListSchedules) ready).entries) → ⊥
+unfolding the_book
+none_listed right = elim right.1.0 [ inl stale ↦ stale.0 refl | inr exact ↦ (let e = exact.1 in cc) ]

@@ -2,7 +2,7 @@
 use Rattle.law.proofs.Drawing.{drawn_within, drawn_below}
 use Rattle.law.proofs.InTurn.{drawn_in_turn}
 use Rattle.law.proofs.Numbering.{schemas_drawn}
-use Rattle.law.proofs.Taking.{as_taken}
+use Rattle.law.proofs.Taking.{all_as_taken}
 use Rattle.law.proofs.numbers_are_drawn.Goals as goal
 
 pub returns : goal.returns
@@ -10,6 +10,6 @@ returns c = record {
   drawn = λ slots history legal. drawn_in_turn history slots legal;
   within = λ slots history legal most. drawn_within history slots legal most;
   below = λ slots history legal most. drawn_below history slots legal most;
-  taken = λ slots history. as_taken history slots;
+  taken = λ slots history. all_as_taken history slots;
   schemas = λ slots history legal. schemas_drawn history slots legal;
 }

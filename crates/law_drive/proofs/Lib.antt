@@ -1,0 +1,13 @@
+pub mod Choosing
+pub mod Going
+pub mod Totals
+pub mod Steps
+pub mod Falling
+pub mod Acting
+pub mod Moving
+pub mod Taken
+pub mod Coming
+pub mod Settled
+pub mod Kept
+pub mod Back
+pub mod Window

@@ -5,16 +5,7 @@ use Rattle.std.proofs.lemmas.List.{length-map}
 use Rattle.newest_index.specs.Newest.{last_place}
 use Rattle.newest_index.proofs.Opens.{last_place-at, mapped_at}
 use Rattle.newest_index.proofs.Walks.{last_none, last_some}
-
-take_all : {A : Type 0} (xs : List A) → take (length xs) xs ≡ xs
-take_all [] = refl
-take_all (x ∷ xs) = ap (λ ys. x ∷ ys) (take_all xs)
-
-take_within : {A : Type 0} (n : ℕ) (xs : List A) (i : ℕ) (x : A) → slice_get (take n xs) i ≡ Some x → (i < n) × (slice_get xs i ≡ Some x)
-take_within zero xs i x is = absurd (cc)
-take_within (suc n) [] i x is = absurd (cc)
-take_within (suc n) (y ∷ ys) zero x is = (omega arith, is)
-take_within (suc n) (y ∷ ys) (suc i) x is = let t = take_within n ys i x is in (omega (arith, t.0), t.1)
+use Rattle.newest_index.proofs.Gathering.{take_all, take_within}
 
 -- at a place of the walk stands a record with the number, and the place is before the end
 pub record Stop {R : Type 0} (code : R → ℕ) (c n p : ℕ) (rs : List R) : Type 0 where

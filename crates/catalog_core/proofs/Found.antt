@@ -1,5 +1,5 @@
 -- Records of tables: the book's look-ups by the last place of a name or of an identifier, and one more or one that ends.
-use Rattle.std.proofs.Common.{ℕ, zero, suc, slice_set, ◌≡◌, ◌<◌, ◌+◌, Bool, true, false, ◌&&◌, cond, List, [], ◌∷◌, ◌++◌, map, Option, Some, None, if◌then◌else◌, length, filter, slice_get, nat_eq, nat_le, ◌%◌, ◌^◌, refl, sym, ap, ◌∙◌, arith}
+use Rattle.std.proofs.Common.{ℕ, zero, suc, slice_set, ◌≡◌, ◌<◌, ◌+◌, Bool, true, false, ◌&&◌, cond, List, [], ◌∷◌, ◌++◌, map, Option, Some, None, if◌then◌else◌, length, filter, slice_get, get_or, take, nat_eq, nat_le, ◌%◌, ◌^◌, refl, sym, ap, ◌∙◌, arith}
 use Rattle.std.proofs.lemmas.Grind.{common_steps}
 use Rattle.std.specs.List.{find}
 use Rattle.std.specs.Option.{option_map, option_or}
@@ -9,11 +9,15 @@ use Rattle.row_values.specs.Ids.{Id, same}
 use Rattle.row_values.specs.Schema.{Schema}
 use Rattle.model.specs.Times.{is_open, ended, ended_by, before_end, holds_at}
 use Rattle.model.specs.Catalog.{TableRecord, current_named, current_table, current_tables, table_named, latest, latest_from, end_table}
+use Rattle.model.specs.Restored.{record_at}
+use Rattle.newest_index.proofs.Walks.{last_none, last_some}
+use Rattle.newest_index.proofs.Places.{got}
+use Rattle.newest_index.proofs.Gathering.{place_within}
 use Rattle.newest_index.specs.Newest.{last_place, if_open, record_of, open_at, changed_at, changed_here, InTurn}
 use Rattle.newest_index.proofs.Opens.{last_place-at, last_place-same, none_at, keys_kept}
 use Rattle.newest_index.proofs.Turns.{next_of, last_place-cons, last_place-map, find_last, changes_last, turns_last, in_turn-next, in_turn-map}
 use Rattle.catalog_core.specs.Codes.{table_code, code_in}
-use Rattle.catalog_core.specs.Kept.{table_id, is_current_table, same_table_name, same_table_id, table_over, table_closed, begun_by, is_sought, stood_at, over_or_open, ends_by, namespace_of, is_named, one_if}
+use Rattle.catalog_core.specs.Kept.{table_id, is_begun, table_space, is_current_table, same_table_name, same_table_id, table_over, table_closed, begun_by, is_sought, stood_at, over_or_open, ends_by, namespace_of, is_named, one_if}
 use Rattle.catalog_core.proofs.Names.{bytes_meet, code_apart, open_at-record, ended_to, count_set}
 
 abbrev pub has_id : Id → TableRecord → Bool
@@ -67,6 +71,17 @@ table_named-find (r ∷ rs) ns name x =
     if_cond (holds_at x r.from r.to && (same r.namespace ns && bytes_eq r.name name)) (before_end x r.to && is_sought ns name (Some x) r) (Some r) (table_named rs ns name x)
     (find (λ r. before_end x r.to && is_sought ns name (Some x) r) rs)
     (and_order (nat_le r.from x) (before_end x r.to) (same r.namespace ns && bytes_eq r.name name)) (table_named-find rs ns name x)
+
+and_true : (a b : Bool) → b ≡ true → (a && b) ≡ a
+and_true true b e = e
+and_true false b e = refl
+
+pub record_at-find : (rs : List TableRecord) (id : Id) (x : ℕ) → record_at rs id x ≡ find (λ r. before_end x r.to && is_begun id x r) rs
+record_at-find [] id x = refl
+record_at-find (r ∷ rs) id x =
+    if_cond (holds_at x r.from r.to && same r.id id) (before_end x r.to && is_begun id x r) (Some r) (record_at rs id x)
+    (find (λ r. before_end x r.to && is_begun id x r) rs)
+    (and_order (nat_le r.from x) (before_end x r.to) (same r.id id)) (record_at-find rs id x)
 
 or_schema : (b : Bool) (l found : Option Schema) (s : Schema) → option_or l (if b then Some s else found) ≡ option_or (option_or l (if b then Some s else None)) found
 or_schema true None found s = refl
@@ -178,6 +193,32 @@ module _ (eq : Id → Id → Bool) (laws : IsEquivalence eq) (agree : (a b : Id)
       ∙ sym (open_at-record is_current_table rs (last_place (has_id id) rs))
       ∙ sym (ap (open_at is_current_table rs) (id_place rs id))
 
+  begun_meet : (id : Id) (x : ℕ) (r s : TableRecord) → is_begun id x r ≡ true → is_begun id x s ≡ true → same_table_id r s ≡ true
+  begun_meet id x r s first second = meet r.id s.id id (and_right (nat_le r.from x) (same r.id id) first) (and_right (nat_le s.from x) (same s.id id) second)
+
+  pub record_here : (rs : List TableRecord) (id : Id) (x : ℕ) → InTurn same_table_id table_over rs
+      → record_at rs id x ≡ open_at (stood_at x) rs (last_place (is_begun id x) rs)
+  record_here rs id x turn =
+      record_at-find rs id x
+      ∙ find_last (is_begun id x) (stood_at x) rs
+      (turns_last same_table_id table_over (is_begun id x) (stood_at x) rs (begun_meet id x)
+      (λ r s at over. over_ended x s.from r.to over (and_left (nat_le s.from x) (same s.id id) at)) turn)
+      ∙ sym (open_at-record (stood_at x) rs (last_place (is_begun id x) rs))
+
+  -- the record of a place that the walk stops at
+  pub begun_at : (rs : List TableRecord) (id : Id) (x n p : ℕ) (q : TableRecord) → last_place (eq id) (take n (map table_id rs)) ≡ Some p → q ≡ get_or rs p q
+      → last_place (is_begun id x) (take n rs) ≡ (if nat_le q.from x then Some p else last_place (is_begun id x) (take p rs))
+  begun_at rs id x n p q at here =
+      let w = place_within table_id (eq id) rs n p at in
+      let it : q ≡ w.1 = got rs p q w.1 w.2 here in
+      let mine : same w.1.id id ≡ true = sym (id_test id w.1.id) ∙ w.3 in
+      last_some table_id (eq id) (is_begun id x) (λ r other. and_false (nat_le r.from x) (same r.id id) (sym (id_test id r.id) ∙ other)) rs n p w.1 w.2 at
+      ∙ ap (λ b. if b then Some p else last_place (is_begun id x) (take p rs)) (and_true (nat_le w.1.from x) (same w.1.id id) mine ∙ ap (λ (r : TableRecord). nat_le r.from x) (sym it))
+
+  pub begun_none : (rs : List TableRecord) (id : Id) (x n : ℕ) → last_place (eq id) (take n (map table_id rs)) ≡ None → last_place (is_begun id x) (take n rs) ≡ None
+  begun_none rs id x n none =
+      last_none table_id (eq id) (is_begun id x) (λ r other. and_false (nat_le r.from x) (same r.id id) (sym (id_test id r.id) ∙ other)) rs n none
+
   pub latest_here : (rs : List TableRecord) (id : Id) → latest rs id ≡ option_map schema_of (record_of rs (last_place (eq id) (map table_id rs)))
   latest_here rs id = latest_last rs id ∙ sym (ap (λ p. option_map schema_of (record_of rs p)) (id_place rs id))
 
@@ -196,7 +237,10 @@ ended_codes rs id at = keys_kept table_code (ends id at) rs (λ r. refl)
 pub ended_ids : (rs : List TableRecord) (id : Id) (at : ℕ) → map table_id (end_table id at rs) ≡ map table_id rs
 ended_ids rs id at = keys_kept table_id (ends id at) rs (λ r. refl)
 
-still_over : (b : Bool) (o : Option ℕ) (x at : ℕ) → ended_by x o ≡ true → ended_by x (if b then ended at o else o) ≡ true
+pub ended_spaces : (rs : List TableRecord) (id : Id) (at : ℕ) → map table_space (end_table id at rs) ≡ map table_space rs
+ended_spaces rs id at = keys_kept table_space (ends id at) rs (λ r. refl)
+
+pub still_over : (b : Bool) (o : Option ℕ) (x at : ℕ) → ended_by x o ≡ true → ended_by x (if b then ended at o else o) ≡ true
 still_over true None x at e = absurd (cc)
 still_over true (Some t) x at e = e
 still_over false o x at e = e

@@ -5,3 +5,7 @@ pub mod Counts
 pub mod Spaces
 pub mod Found
 pub mod Stood
+pub mod Replaced
+pub mod InSpaces
+pub mod Back
+pub mod Leaving

@@ -1,28 +1,15 @@
--- The tables of a namespace at a time, from the last record back; and what is current where old records go.
-use Rattle.std.proofs.Common.{ℕ, suc, ◌≡◌, ◌+◌, ◌-◌, ◌<◌, Bool, true, false, ◌&&◌, List, [], ◌∷◌, length, drop, get_or, if◌then◌else◌, refl, sym, ap, ◌∙◌, arith, drop-cons}
+-- One record more of the tables of a namespace at a time; and what is current where old records go.
+use Rattle.std.proofs.Common.{ℕ, ◌≡◌, Bool, true, false, ◌&&◌, List, [], ◌∷◌, if◌then◌else◌, refl, sym, ap, ◌∙◌}
 use Rattle.std.specs.List.{filter}
 use Rattle.row_values.specs.Ids.{Id, same}
 use Rattle.model.specs.Times.{is_open}
 use Rattle.model.specs.Catalog.{TableRecord, by_id, current_tables}
 use Rattle.catalog_core.specs.Kept.{stands_in, put_standing}
 
-put_by : (ns : Id) (x : ℕ) (r : TableRecord) (rs : List TableRecord) (b : Bool) → stands_in ns x r ≡ b
+pub put_by : (ns : Id) (x : ℕ) (r : TableRecord) (rs : List TableRecord) (b : Bool) → stands_in ns x r ≡ b
     → by_id (if b then r ∷ filter (stands_in ns x) rs else filter (stands_in ns x) rs) ≡ put_standing ns x r (by_id (filter (stands_in ns x) rs))
 put_by ns x r rs true e = sym (ap (λ c. if c then by_id (r ∷ filter (stands_in ns x) rs) else by_id (filter (stands_in ns x) rs)) e)
 put_by ns x r rs false e = sym (ap (λ c. if c then by_id (r ∷ filter (stands_in ns x) rs) else by_id (filter (stands_in ns x) rs)) e)
-
--- one record more
-pub stands_next : (ns : Id) (x : ℕ) (rs : List TableRecord) (n past : ℕ) (r : TableRecord) → n ≡ length rs → past < n → r ≡ get_or rs (n - 1 - past) r
-    → by_id (filter (stands_in ns x) (drop (n - (past + 1)) rs)) ≡ put_standing ns x r (by_id (filter (stands_in ns x) (drop (n - past) rs)))
-stands_next ns x rs n past r all within is =
-    let i : ℕ = n - 1 - past in
-    let here : n - (past + 1) ≡ i = omega (arith, within) in
-    let next : n - past ≡ suc i = omega (arith, within) in
-    let inside : i < length rs = omega (arith, within, all) in
-    ap (λ k. by_id (filter (stands_in ns x) (drop k rs))) here
-    ∙ ap (λ ts. by_id (filter (stands_in ns x) ts)) (drop-cons rs i r inside ∙ ap (λ q. q ∷ drop (suc i) rs) (sym is))
-    ∙ put_by ns x r (drop (suc i) rs) (stands_in ns x r) refl
-    ∙ ap (λ k. put_standing ns x r (by_id (filter (stands_in ns x) (drop k rs)))) (sym next)
 
 -- where all that pass a test stay, as many pass it as before
 stay_by : {R : Type 0} (live test : R → Bool) (r : R) (rs : List R) (t o : Bool) → live r ≡ o → (o ≡ true → t ≡ true) → filter live (filter test rs) ≡ filter live rs

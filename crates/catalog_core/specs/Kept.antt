@@ -57,6 +57,9 @@ one_if b = if b then 1 else 0
 abbrev pub table_id : TableRecord → Id
 table_id r = r.id
 
+abbrev pub table_space : TableRecord → Id
+table_space r = r.namespace
+
 abbrev pub is_current_table : TableRecord → Bool
 is_current_table r = is_open r.to
 
@@ -88,6 +91,10 @@ begun_by (Some x) from = nat_le from x
 abbrev pub is_sought : Id → List ℕ → Option ℕ → TableRecord → Bool
 is_sought ns name begun r = begun_by begun r.from && (same r.namespace ns && bytes_eq r.name name)
 
+-- a record of a table that had begun by a time
+abbrev pub is_begun : Id → ℕ → TableRecord → Bool
+is_begun id x r = nat_le r.from x && same r.id id
+
 -- whether an interval is open, or over at a time
 abbrev pub over_or_open : ℕ → Option ℕ → Bool
 over_or_open at None = true
@@ -101,6 +108,11 @@ ends_by at (r ∷ rs) = over_or_open at r.to && ends_by at rs
 -- a record of the namespace that held at a time
 abbrev pub stands_in : Id → ℕ → TableRecord → Bool
 stands_in ns x r = holds_at x r.from r.to && same r.namespace ns
+
+-- whether a table may have the name that this current record has: none has it, or one of its own
+abbrev pub is_free_for : Id → Option TableRecord → Bool
+is_free_for id None = true
+is_free_for id (Some t) = same t.id id
 
 abbrev pub put_standing : Id → ℕ → TableRecord → List TableRecord → List TableRecord
 put_standing ns x r found = if stands_in ns x r then put_table r found else found

@@ -1,13 +1,17 @@
-ghost use Rattle.std.specs.Prelude.{◌≡◌, ◌≤◌, ◌+◌, None, true, [], ◌∷◌, ◌++◌, length, filter, IfOk, OnOk};
+ghost use Rattle.std.specs.Prelude.{ℕ, ◌≡◌, ◌≤◌, ◌+◌, None, true, [], ◌∷◌, ◌++◌, length, filter, IfOk, OnOk};
 ghost use Rattle.std.specs.Option.{option_copied};
 ghost use Rattle.model.specs.Times.{is_open};
-ghost use Rattle.model.specs.Catalog.{Catalog, NamespaceRecord, TableRecord, tables_at, empty_catalog, namespace_named, name_of, current_named, current_table, current_tables, table_named, latest, kept_from, set_kept_from, owner_of, namespace_added, namespace_ended, table_added, table_ended};
-ghost use Rattle.catalog_core.specs.Kept.{ends_by, KeepRoom};
+ghost use Rattle.model.specs.Catalog.{Catalog, NamespaceRecord, TableRecord, tables_at, empty_catalog, namespace_named, name_of, current_named, current_table, current_tables, table_named, latest, kept_from, set_kept_from, owner_of, namespace_added, namespace_ended, table_added, table_ended, end_table};
+ghost use Rattle.model.specs.Restored.{tables_back, replace, record_at};
+ghost use Rattle.catalog_core.specs.Begins.{IsHome};
+ghost use Rattle.catalog_core.specs.Pruned.{pruned_by, space_goes, table_goes};
+ghost use Rattle.catalog_core.specs.Kept.{ends_by, is_free_for, KeepRoom};
 
 use crate::keeping::Keeps;
 use crate::marks::Marks;
 use crate::namespaces::Namespaces;
 use crate::owners::Owners;
+use crate::pruning::{Cuts, Cutting, Uncut};
 use crate::records::{NamespaceRecord, TableRecord};
 use crate::tables::Tables;
 use hybrid_time::HybridTime;
@@ -99,6 +103,14 @@ impl Catalog {
         self.tables.current_table(id)
     }
 
+    /// The record that a table had at a time. It passes the table's records that began later, and no
+    /// other.
+    pub fn record_at(&self, id: &Ident, x: HybridTime) -> Option<&TableRecord>
+        ensures { option_copied result ≡ record_at self.now.catalog.tables id.now x }
+    {
+        self.tables.record_at(id, x)
+    }
+
     /// The schema of the newest kept record of a table.
     pub fn latest(&self, id: &Ident) -> Option<&Schema>
         ensures { option_copied result ≡ latest self.now.catalog.tables id.now }
@@ -127,8 +139,8 @@ impl Catalog {
         self.owners.owner_of(table)
     }
 
-    /// The tables of a namespace that held at a time, in order of id. It goes over all kept records
-    /// of tables.
+    /// The tables of a namespace that held at a time, in order of id. It goes over the kept records of
+    /// that namespace's tables.
     pub fn tables_at(
         &self,
         alloc: Global,
@@ -223,6 +235,32 @@ impl Catalog {
         self.tables.end(id, at);
     }
 
+    /// A table goes on under another name or schema, in the room that was made: its current record
+    /// ends where this one begins. Its name is nobody's, or its own.
+    pub fn replace_table(&mut self, table: TableRecord)
+        requires room { 1 ≤ self.old.room }
+        requires current { table.to ≡ None }
+        requires past { ends_by table.from self.old.catalog.tables ≡ true }
+        requires free { is_free_for table.id (current_named self.old.catalog.tables table.namespace table.name) ≡ true }
+        ensures catalog { self.new.catalog ≡ record self.old.catalog { tables = end_table table.id table.from self.old.catalog.tables ++ table ∷ [] } }
+        ensures room { self.old.room ≤ self.new.room + 1 }
+    {
+        self.tables.replace(table);
+    }
+
+    /// The current tables of a namespace give way to those that it had at a time, as a restore brings
+    /// them back, in the room that was made. Records of one table are of one namespace.
+    pub fn restore_tables(&mut self, namespace: &Ident, back: Vec<TableRecord>, point: HybridTime)
+        requires room { length back.items ≤ self.old.room }
+        requires past { ends_by point self.old.catalog.tables ≡ true }
+        requires home { IsHome self.old.catalog.tables }
+        requires back { (to : ℕ) × (back.items ≡ tables_back self.old.catalog.tables namespace.now to point) }
+        ensures catalog { self.new.catalog ≡ record self.old.catalog { tables = replace namespace.now back.items point self.old.catalog.tables } }
+        ensures room { self.old.room ≤ self.new.room + length back.items }
+    {
+        self.tables.restore(namespace, back, point);
+    }
+
     /// The namespace of a table that is yet to be made, in the room that was made.
     pub fn add_owner(&mut self, table: Ident, namespace: Ident)
         requires room { 1 ≤ self.old.room }
@@ -264,5 +302,26 @@ impl Catalog {
     {
         self.namespaces.keep(spaces);
         self.tables.keep(tables);
+    }
+
+    /// The records that ended by their namespace's cut go, and the marks of namespaces that have records
+    /// rise to it. It takes no memory beside the room that was made. The answer is how many records went.
+    pub fn prune<C: Cuts>(&mut self, cuts: &C) -> usize
+        requires room { KeepRoom self.old }
+        ensures catalog { self.new.catalog ≡ pruned_by (λ ns. C.cut cuts.now ns) self.old.catalog }
+        ensures count { result ≡ length (filter (space_goes (λ ns. C.cut cuts.now ns)) self.old.catalog.namespaces) + length (filter (table_goes (λ ns. C.cut cuts.now ns)) self.old.catalog.tables) }
+    {
+        let spaces = self.namespaces.records().len();
+        let tables = self.tables.records().len();
+        self.kept_from.raise_all(&Cutting {
+            cuts,
+            namespaces: &self.namespaces,
+            tables: &self.tables,
+        });
+        self.namespaces.keep(&Uncut { cuts });
+        self.tables.keep(&Uncut { cuts });
+        let spaces_gone = spaces - self.namespaces.records().len();
+        let tables_gone = tables - self.tables.records().len();
+        spaces_gone + tables_gone
     }
 }

@@ -1,6 +1,6 @@
 ghost use Rattle.std.specs.Prelude.{◌≡◌, ◌≤◌, Bool, filter, vec_len};
 ghost use Rattle.catalog_core.specs.Codes.{table_code, space_code};
-ghost use Rattle.catalog_core.specs.Kept.{table_id, space_id};
+ghost use Rattle.catalog_core.specs.Kept.{table_id, table_space, space_id};
 
 use crate::codes::name_code;
 use crate::records::{NamespaceRecord, TableRecord};
@@ -62,5 +62,17 @@ impl Keyed<NamespaceRecord, Ident> for ById {
 
     fn key(&self, item: &NamespaceRecord) -> Ident {
         item.id
+    }
+}
+
+// Tables by their namespace.
+#[derive(Drop)]
+pub struct BySpace;
+
+impl Keyed<TableRecord, Ident> for BySpace {
+    ghost key = { λ _ r. table_space r };
+
+    fn key(&self, item: &TableRecord) -> Ident {
+        item.namespace
     }
 }

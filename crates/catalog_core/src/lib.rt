@@ -13,14 +13,16 @@ mod keys;
 mod marks;
 mod namespaces;
 mod owners;
+mod pruning;
 mod records;
 mod standing;
 mod tables;
 
 pub use catalog::Catalog;
 pub use keeping::Keeps;
-pub use marks::Marks;
+pub use marks::{Marks, Rises};
 pub use namespaces::Namespaces;
 pub use owners::Owners;
+pub use pruning::Cuts;
 pub use records::{NamespaceRecord, TableRecord};
 pub use tables::Tables;

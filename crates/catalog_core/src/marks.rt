@@ -1,6 +1,9 @@
-ghost use Rattle.std.specs.Prelude.{◌≡◌, ◌≤◌, ◌-◌, [], OnOk, map, max, if◌then◌else◌};
+ghost use Rattle.std.specs.Prelude.{ℕ, ◌≡◌, ◌≤◌, ◌<◌, ◌-◌, [], OnOk, map, max, if◌then◌else◌, Some, slice_get};
+ghost use Rattle.indexmap.specs.IndexMap.{spare, index_map_len, set_value_at};
+ghost use Rattle.row_values.specs.Ids.{Id};
 ghost use Rattle.model.specs.Catalog.{KeptFrom, kept_from, set_kept_from};
 ghost use Rattle.catalog_core.specs.Kept.{mark_raised, raised_to};
+ghost use Rattle.catalog_core.specs.Pruned.{mark_risen};
 
 use crate::keys::keys_agree;
 use hybrid_time::HybridTime;
@@ -9,6 +12,15 @@ use row_values::NoMemory;
 use std::alloc::Global;
 use std::marker::Model;
 use yb_ident::Ident;
+
+/// How marks rise.
+pub trait Rises {
+    ghost risen: { Self → Id → ℕ → ℕ };
+
+    /// The mark of a namespace after it rose.
+    fn rise(&self, namespace: &Ident, from: HybridTime) -> HybridTime
+        ensures exact { result ≡ risen self.now namespace.now from };
+}
 
 /// For each namespace the stamp below which its catalog is not kept. Contracts see the book's list,
 /// and for how many more there is room.
@@ -78,6 +90,17 @@ impl Marks {
         self.entries.insert(namespace, from).unwrap();
     }
 
+    /// All marks rise. It takes no memory.
+    pub fn raise_all<W: Rises>(&mut self, walk: &W)
+        ensures items { self.new.items ≡ map (mark_risen (λ ns from. W.risen walk.now ns from)) self.old.items }
+        ensures room { self.new.room ≡ self.old.room }
+    {
+        let count = self.entries.len();
+        for place in 0..count {
+            raise_place(&mut self.entries, place, walk);
+        }
+    }
+
     /// Raises the mark of a namespace that has one. It takes no memory.
     pub fn raise(&mut self, namespace: &Ident, from: HybridTime)
         ensures items { self.new.items ≡ map (mark_raised namespace.now from) self.old.items }
@@ -99,4 +122,14 @@ fn raised(old: Option<HybridTime>, from: HybridTime) -> HybridTime
         Some(old) => old.later_of(from),
         None => from,
     }
+}
+
+// The mark of a place rises.
+fn raise_place<W: Rises>(entries: &mut IndexMap<Ident, HybridTime>, place: usize, walk: &W)
+    requires within { place < index_map_len entries.old }
+    ensures entries { (e : Id × ℕ) → slice_get entries.old.entries place ≡ Some e → entries.new.entries ≡ set_value_at entries.old.entries place (W.risen walk.now e.0 e.1) }
+    ensures room { spare entries.old ≤ spare entries.new }
+{
+    let (namespace, mark) = entries.pair_mut(place);
+    *mark = walk.rise(namespace, *mark);
 }

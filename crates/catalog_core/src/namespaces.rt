@@ -1,5 +1,7 @@
 ghost use Rattle.std.specs.Prelude.{◌≡◌, ◌≤◌, ◌-◌, ◌+◌, nat_eq, true, None, [], ◌∷◌, ◌++◌, map, length, filter, is_some, OnOk, vec_len, vec_capacity, slice_get, Some};
 ghost use Rattle.std.specs.Option.{option_copied};
+ghost use Rattle.std.specs.List.{list_any};
+ghost use Rattle.row_values.specs.Ids.{same};
 ghost use Rattle.std.specs.Str.{bytes_eq};
 ghost use Rattle.newest_index.specs.Newest.{Indexes, last_place, open_at, changed_at};
 ghost use Rattle.model.specs.Times.{is_open, ended};
@@ -103,6 +105,14 @@ impl Namespaces {
         ensures { result.now ≡ self.now.items }
     {
         self.records.as_slice()
+    }
+
+    /// Whether a record of a namespace is kept.
+    pub fn has_records(&self, namespace: &Ident) -> bool
+        ensures exact { result ≡ list_any (λ r. same r.id namespace.now) self.now.items }
+    {
+        keys_agree();
+        self.by_id.newest(namespace).is_some()
     }
 
     /// Makes room for so many more records.

@@ -1,21 +1,24 @@
-ghost use Rattle.std.specs.Prelude.{◌≡◌, ◌≤◌, ◌<◌, ◌-◌, ◌+◌, ◌^◌, nat_eq, true, None, [], ◌∷◌, ◌++◌, map, length, filter, IfOk, OnOk, vec_len, vec_capacity, slice_get, Some};
+ghost use Rattle.std.specs.Prelude.{ℕ, ◌≡◌, ◌≤◌, ◌<◌, ◌-◌, ◌+◌, ◌^◌, if◌then◌else◌, nat_eq, true, None, [], ◌∷◌, ◌++◌, map, length, filter, IfOk, OnOk, vec_len, vec_capacity, slice_get, Some};
 ghost use Rattle.std.specs.Option.{option_copied};
 ghost use Rattle.indexmap.specs.IndexMap.{spare};
-ghost use Rattle.newest_index.specs.Newest.{Indexes, last_place, open_at, record_of, if_open, changed_at};
+ghost use Rattle.newest_index.specs.Newest.{Indexes, last_place, open_at, record_of, if_open, changed_at, InTurn};
 ghost use Rattle.row_values.specs.Ids.{Id, same};
-ghost use Rattle.model.specs.Catalog.{TableRecord, current_named, current_table, current_tables, table_named, tables_at, latest, end_table};
+ghost use Rattle.std.specs.List.{list_any};
+ghost use Rattle.model.specs.Catalog.{TableRecord, current_named, current_table, current_tables, table_named, tables_at, latest, end_table, end_tables};
 ghost use Rattle.model.specs.Times.{is_open};
+ghost use Rattle.model.specs.Restored.{tables_back, replace, record_at};
+ghost use Rattle.catalog_core.specs.Begins.{BeginsAll, IsHome};
 ghost use Rattle.catalog_core.specs.Codes.{table_code, code_in};
-ghost use Rattle.catalog_core.specs.Kept.{is_current_table, table_closed, stood_at, is_sought, begun_by, over_or_open, ends_by, namespace_of, is_named, one_if, count_in};
+ghost use Rattle.catalog_core.specs.Kept.{is_current_table, is_begun, table_id, table_space, same_table_name, same_table_id, table_over, table_closed, stood_at, is_sought, begun_by, over_or_open, ends_by, namespace_of, is_named, one_if, count_in, is_free_for};
 
 use crate::codes::name_code;
-use crate::keeping::{ById, ByName, Keeps, retain};
+use crate::keeping::{ById, ByName, BySpace, Keeps, retain};
 use crate::keys::keys_agree;
 use crate::records::TableRecord;
 use crate::standing::put_standing;
 use hybrid_time::HybridTime;
 use indexmap::IndexMap;
-use newest_index::NewestIndex;
+use newest_index::{Changes, NewestIndex, change};
 use row_values::{Name, NoMemory};
 use std::alloc::Global;
 use std::marker::Model;
@@ -28,6 +31,7 @@ pub struct Tables {
     records: Vec<TableRecord>,
     named: NewestIndex<u64>,
     by_id: NewestIndex<Ident>,
+    by_space: NewestIndex<Ident>,
     counts: IndexMap<Ident, usize>,
     room: usize,
 }
@@ -39,7 +43,7 @@ impl Model for Tables {
     ghost use Rattle.row_values.specs.Ids.{Id};
     ghost use Rattle.model.specs.Catalog.{TableRecord, current_tables};
     ghost use Rattle.catalog_core.specs.Codes.{table_code};
-    ghost use Rattle.catalog_core.specs.Kept.{Roomy, table_id, same_table_name, same_table_id, table_over, count_in};
+    ghost use Rattle.catalog_core.specs.Kept.{Roomy, table_id, table_space, same_table_name, same_table_id, table_over, count_in};
 
     ghost Value = { Roomy TableRecord };
 
@@ -48,6 +52,7 @@ impl Model for Tables {
     ghost invariant = { λ t. record {
       named : Indexes nat_eq t.named.places t.named.earlier.items (map table_code t.records.items);
       by_id : Indexes ⟦<Ident as PartialEq>⟧.eq t.by_id.places t.by_id.earlier.items (map table_id t.records.items);
+      by_space : Indexes ⟦<Ident as PartialEq>⟧.eq t.by_space.places t.by_space.earlier.items (map table_space t.records.items);
       names : InTurn same_table_name table_over t.records.items;
       ids : InTurn same_table_id table_over t.records.items;
       counted : (ns : Id) → count_in ⟦<Ident as PartialEq>⟧.eq t.counts ns ≡ length (current_tables t.records.items ns);
@@ -56,6 +61,8 @@ impl Model for Tables {
       named_links : t.room ≤ vec_capacity t.named.earlier - vec_len t.named.earlier;
       by_id_room : t.room ≤ spare t.by_id.places;
       by_id_links : t.room ≤ vec_capacity t.by_id.earlier - vec_len t.by_id.earlier;
+      by_space_room : t.room ≤ spare t.by_space.places;
+      by_space_links : t.room ≤ vec_capacity t.by_space.earlier - vec_len t.by_space.earlier;
       counts_room : t.room ≤ spare t.counts;
     } };
 }
@@ -69,6 +76,7 @@ impl Tables {
             records: Vec::new(alloc),
             named: NewestIndex::new(alloc),
             by_id: NewestIndex::new(alloc),
+            by_space: NewestIndex::new(alloc),
             counts: IndexMap::new(alloc),
             room: 0,
         }
@@ -99,6 +107,16 @@ impl Tables {
         keys_agree();
         let place = self.by_id.newest(id);
         current_at(&self.records, place)
+    }
+
+    /// The record that a table had at a time. It passes the table's records that began later, and no
+    /// other.
+    pub fn record_at(&self, id: &Ident, x: HybridTime) -> Option<&TableRecord>
+        ensures { option_copied result ≡ record_at self.now.items id.now x }
+    {
+        keys_agree();
+        let place = place_begun(&self.records, &self.by_id, id, x);
+        held_at(&self.records, place, x)
     }
 
     /// The schema of the newest kept record of a table.
@@ -142,7 +160,8 @@ impl Tables {
         self.records.as_slice()
     }
 
-    /// The tables of a namespace that held at a time, in order of id. It goes over all kept records.
+    /// The tables of a namespace that held at a time, in order of id. It goes over the records of
+    /// that namespace alone.
     pub fn tables_at(
         &self,
         alloc: Global,
@@ -151,12 +170,15 @@ impl Tables {
     ) -> Result<Vec<TableRecord>, NoMemory>
         ensures exact { IfOk result (λ found. found.items ≡ tables_at self.now.items namespace.now x) }
     {
-        let count = self.records.len();
-        let mut found = Vec::new(alloc);
-        for past in 0..count {
-            put_standing(&mut found, &self.records[count - 1 - past], namespace, x)?;
-        }
-        Ok(found)
+        standing_at(alloc, &self.records, &self.by_space, namespace, x)
+    }
+
+    /// Whether a record of a namespace is kept.
+    pub fn has_records(&self, namespace: &Ident) -> bool
+        ensures exact { result ≡ list_any (λ r. same r.namespace namespace.now) self.now.items }
+    {
+        keys_agree();
+        self.by_space.newest(namespace).is_some()
     }
 
     /// Makes room for so many more records.
@@ -169,6 +191,7 @@ impl Tables {
             self.records.reserve(count)?;
             self.named.prepare_for(count)?;
             self.by_id.prepare_for(count)?;
+            self.by_space.prepare_for(count)?;
             self.counts.reserve(count)?;
             self.room = count;
         }
@@ -189,6 +212,7 @@ impl Tables {
         self.room -= 1;
         self.named.note(code_in(&table.namespace, &table.name));
         self.by_id.note(table.id);
+        self.by_space.note(table.namespace);
         raise_count(&mut self.counts, table.namespace);
         self.records.push(table).unwrap();
     }
@@ -204,6 +228,69 @@ impl Tables {
         lower_count(&mut self.counts, namespace);
     }
 
+    /// The current records of a namespace end. It goes over the records of that namespace alone, and
+    /// takes no memory.
+    pub fn end_in(&mut self, namespace: &Ident, at: HybridTime)
+        ensures items { self.new.items ≡ end_tables namespace.now at self.old.items }
+        ensures room { self.new.room ≡ self.old.room }
+    {
+        keys_agree();
+        change(&self.by_space, namespace, &mut self.records, &Closes { at });
+        clear_count(&mut self.counts, namespace);
+    }
+
+    // Of the records of one name, and of one identifier, each was over when the next began.
+    fn follow_in_turn(&self)
+        ensures names { InTurn same_table_name table_over self.now.items }
+        ensures ids { InTurn same_table_id table_over self.now.items }
+    {
+        let _count = self.records.len();
+    }
+
+    /// A table goes on under another name or schema, in the room that was made: its current record
+    /// ends where this one begins. No other record ends later.
+    pub fn replace(&mut self, table: TableRecord)
+        requires room { 1 ≤ self.old.room }
+        requires current { table.to ≡ None }
+        requires past { ends_by table.from self.old.items ≡ true }
+        requires free { is_free_for table.id (current_named self.old.items table.namespace table.name) ≡ true }
+        ensures items { self.new.items ≡ end_table table.id table.from self.old.items ++ table ∷ [] }
+        ensures room { self.new.room ≡ self.old.room - 1 }
+    {
+        keys_agree();
+        self.follow_in_turn();
+        self.end(&table.id, table.from);
+        self.add(table);
+    }
+
+    // Takes in records that are current, each behind those before it, in the room that was made.
+    fn add_all(&mut self, tables: Vec<TableRecord>)
+        requires room { length tables.items ≤ self.old.room }
+        requires begin { BeginsAll self.old.items tables.items }
+        ensures items { self.new.items ≡ self.old.items ++ tables.items }
+        ensures room { self.new.room ≡ self.old.room - length tables.items }
+    {
+        for table in tables {
+            self.add(table);
+        }
+    }
+
+    /// The current tables of a namespace give way to those that it had at a time, in the room that
+    /// was made. Records of one table are of one namespace, and none ends after the point.
+    pub fn restore(&mut self, namespace: &Ident, back: Vec<TableRecord>, point: HybridTime)
+        requires room { length back.items ≤ self.old.room }
+        requires past { ends_by point self.old.items ≡ true }
+        requires home { IsHome self.old.items }
+        requires back { (to : ℕ) × (back.items ≡ tables_back self.old.items namespace.now to point) }
+        ensures items { self.new.items ≡ replace namespace.now back.items point self.old.items }
+        ensures room { self.new.room ≡ self.old.room - length back.items }
+    {
+        keys_agree();
+        self.follow_in_turn();
+        self.end_in(namespace, point);
+        self.add_all(back);
+    }
+
     /// The records that don't stay go, and those that are left are looked up anew, in the room that
     /// was made for as many as there are. What is current has to stay.
     pub fn keep<T: Keeps<TableRecord>>(&mut self, test: &T)
@@ -215,6 +302,7 @@ impl Tables {
         retain(&mut self.records, test);
         self.named.index_anew(self.records.as_slice(), &ByName);
         self.by_id.index_anew(self.records.as_slice(), &ById);
+        self.by_space.index_anew(self.records.as_slice(), &BySpace);
     }
 }
 
@@ -345,6 +433,32 @@ fn place_named(
     None
 }
 
+// The place of the last record of a table that began by a time.
+fn place_begun(
+    records: &Vec<TableRecord>,
+    by_id: &NewestIndex<Ident>,
+    id: &Ident,
+    x: HybridTime,
+) -> Option<usize>
+    requires indexed { Indexes ⟦<Ident as PartialEq>⟧.eq by_id.now.places by_id.now.earlier.items (map table_id records.now.items) }
+    ensures last { result ≡ last_place (is_begun id.now x) records.now.items }
+{
+    keys_agree();
+    let mut upto = records.len();
+    let mut next = by_id.newest(id);
+    'records: while let Some(at) = next {
+        if at >= upto {
+            return None;
+        }
+        if records[at].from.number() <= x.number() {
+            return Some(at);
+        }
+        next = by_id.earlier(at);
+        upto = at;
+    }
+    None
+}
+
 // The record of a place ends, if it is current; the namespace of one that did.
 fn end_place(records: &mut Vec<TableRecord>, place: Option<usize>, at: HybridTime) -> Option<Ident>
     ensures items { records.new.items ≡ changed_at (table_closed at) records.old.items place }
@@ -369,6 +483,46 @@ fn end_record(table: &mut TableRecord, at: HybridTime) -> Option<Ident>
     } else {
         None
     }
+}
+
+// What becomes of a current record that ends.
+#[derive(Drop)]
+struct Closes {
+    at: HybridTime,
+}
+
+impl Changes<TableRecord> for Closes {
+    ghost changed = { λ w r. table_closed w.at r };
+
+    fn change(&self, item: &mut TableRecord) {
+        end_record(item, self.at);
+    }
+}
+
+// The tables of a namespace that held at a time, in order of id: its records are walked back.
+fn standing_at(
+    alloc: Global,
+    records: &Vec<TableRecord>,
+    by_space: &NewestIndex<Ident>,
+    namespace: &Ident,
+    x: HybridTime,
+) -> Result<Vec<TableRecord>, NoMemory>
+    requires indexed { Indexes ⟦<Ident as PartialEq>⟧.eq by_space.now.places by_space.now.earlier.items (map table_space records.now.items) }
+    ensures exact { IfOk result (λ found. found.items ≡ tables_at records.now.items namespace.now x) }
+{
+    keys_agree();
+    let mut upto = records.len();
+    let mut next = by_space.newest(namespace);
+    let mut found = Vec::new(alloc);
+    'records: while let Some(at) = next {
+        if at >= upto {
+            return Ok(found);
+        }
+        put_standing(&mut found, &records[at], namespace, x)?;
+        next = by_space.earlier(at);
+        upto = at;
+    }
+    Ok(found)
 }
 
 // One more for a namespace.
@@ -396,4 +550,16 @@ fn lower_count(counts: &mut IndexMap<Ident, usize>, namespace: Option<Ident>)
         return;
     };
     *count = count.saturating_sub(1);
+}
+
+// None for a namespace.
+fn clear_count(counts: &mut IndexMap<Ident, usize>, namespace: &Ident)
+    ensures counted { (ns : Id) → count_in ⟦<Ident as PartialEq>⟧.eq counts.new ns ≡ (if same namespace.now ns then 0 else count_in ⟦<Ident as PartialEq>⟧.eq counts.old ns) }
+    ensures room { spare counts.old ≤ spare counts.new }
+{
+    keys_agree();
+    let Some(count) = counts.get_mut(namespace) else {
+        return;
+    };
+    *count = 0;
 }

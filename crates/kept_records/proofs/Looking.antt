@@ -3,7 +3,7 @@ use Rattle.std.proofs.Common.{ℕ, ◌≡◌, ◌+◌, Bool, true, false, cond, 
 use Rattle.std.proofs.lemmas.Grind.{common_steps}
 use Rattle.std.specs.List.{find, filter}
 use Rattle.std.proofs.lemmas.List.{reverse-append, length-reverse, append-nil}
-use Rattle.kept_records.proofs.Gathering.{take_all, drop_all}
+use Rattle.newest_index.proofs.Gathering.{take_all, drop_all}
 use Rattle.kept_records.specs.Gathered.{gathered, changed_where, one_more, puts}
 
 -- Tests that are alike

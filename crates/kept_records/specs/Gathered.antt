@@ -1,5 +1,6 @@
 -- What goes over the records of one key, and over no other, in a list from which records may be taken out.
 use Rattle.std.specs.Prelude.{ℕ, ◌+◌, nat_lt, not, Bool, List, [], ◌∷◌, ◌++◌, if◌then◌else◌, false}
+pub use Rattle.newest_index.specs.Gathered.{gathered, changed_where}
 use Rattle.kept_records.specs.declared.records.Kept.{Kept}
 
 -- the records that were not taken out
@@ -11,20 +12,9 @@ present_of (k ∷ ks) = if k.present then k.item ∷ present_of ks else present_
 abbrev pub kept_key : {R K : Type 0} → (R → K) → Kept R → K
 kept_key key k = key k.item
 
--- what is made of the records that pass a test, from the last to the first
-abbrev pub gathered : {R B : Type 0} → (R → Bool) → (R → B → B) → B → List R → B
-gathered test step start [] = start
-gathered test step start (r ∷ rs) =
-    if test r then step r (gathered test step start rs) else gathered test step start rs
-
 -- a step that passes over what was taken out
 abbrev pub step_present : {R B : Type 0} → (R → B → B) → Kept R → B → B
 step_present step k later = if k.present then step k.item later else later
-
--- the records that pass a test are changed
-abbrev pub changed_where : {R : Type 0} → (R → Bool) → (R → R) → List R → List R
-changed_where test change [] = []
-changed_where test change (r ∷ rs) = (if test r then change r else r) ∷ changed_where test change rs
 
 abbrev pub changes_record : {R : Type 0} → (R → R) → Kept R → Kept R
 changes_record change k = record { item = change k.item; present = k.present }

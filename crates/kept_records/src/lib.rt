@@ -12,7 +12,8 @@ mod selection;
 mod whole;
 
 pub use looks::{count, first};
-pub use records::{Changes, Gathers, Kept, change, gather, take_out};
+pub use newest_index::Changes;
+pub use records::{Gathers, Kept, change, gather, take_out};
 pub use selection::{Tests, select};
 pub use whole::{change_all, keep_all, passing};
 

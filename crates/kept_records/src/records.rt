@@ -2,7 +2,7 @@ ghost use Rattle.std.specs.Prelude.{◌≡◌, ◌-◌, List, map, vec_len, vec_
 ghost use Rattle.newest_index.specs.Newest.{Indexes};
 ghost use Rattle.kept_records.specs.Gathered.{gathered, step_present, changed_where, changes_record, present_of, kept_key, taken_out};
 
-use newest_index::NewestIndex;
+use newest_index::{Changes, NewestIndex};
 use std::hash::Hash;
 
 /// A record that may be taken out of its list. It stays where it is, so that an index of the list
@@ -20,15 +20,6 @@ pub trait Gathers<R, B> {
     /// What a record and the later ones give.
     fn step(&self, item: &R, later: B) -> B
         ensures made { result ≡ step self.now item.now later };
-}
-
-/// What becomes of the records of a key, each by itself.
-pub trait Changes<R> {
-    ghost changed: { Self → R → R };
-
-    /// Changes a record.
-    fn change(&self, item: &mut R)
-        ensures made { item.new ≡ changed self.now item.old };
 }
 
 fn step_of<R, B, W: Gathers<R, B>>(walk: &W, kept: &Kept<R>, later: B) -> B
@@ -72,6 +63,20 @@ pub fn gather<K: Eq + Hash + Drop, R, B: Drop, W: Gathers<R, B>>(
     found
 }
 
+// What becomes of the record that is kept.
+#[derive(Drop)]
+struct OfItems<'a, W> {
+    walk: &'a W,
+}
+
+impl<'a, R, W: Changes<R>> Changes<Kept<R>> for OfItems<'a, W> {
+    ghost changed = { λ w k. changes_record (W.changed w.walk.now) k };
+
+    fn change(&self, item: &mut Kept<R>) {
+        change_of(self.walk, item);
+    }
+}
+
 /// Changes the records of a key, and no other. Their keys are to stay.
 pub fn change<K: Eq + Hash + Drop, R, W: Changes<R>>(
     index: &NewestIndex<K>,
@@ -82,15 +87,18 @@ pub fn change<K: Eq + Hash + Drop, R, W: Changes<R>>(
     ensures all { (key_of : R → K) → Indexes K.eq index.now.places index.now.earlier.items (map (kept_key key_of) records.old.items) → records.new.items ≡ changed_where (λ k. K.eq key.now (key_of k.item)) (changes_record (W.changed walk.now)) records.old.items }
     ensures room { vec_capacity records.new - vec_len records.new ≡ vec_capacity records.old - vec_len records.old }
 {
-    let mut upto = records.len();
-    let mut next = index.newest(key);
-    'records: while let Some(at) = next {
-        if at >= upto {
-            return;
-        }
-        change_of(walk, &mut records[at]);
-        next = index.earlier(at);
-        upto = at;
+    newest_index::change(index, key, records, &OfItems { walk });
+}
+
+// A record is taken out.
+#[derive(Drop)]
+struct TakesOut;
+
+impl<R> Changes<Kept<R>> for TakesOut {
+    ghost changed = { λ _ k. taken_out k };
+
+    fn change(&self, item: &mut Kept<R>) {
+        item.present = false;
     }
 }
 
@@ -99,14 +107,5 @@ pub fn take_out<K: Eq + Hash + Drop, R>(index: &NewestIndex<K>, key: &K, records
     ensures all { (key_of : R → K) → Indexes K.eq index.now.places index.now.earlier.items (map (kept_key key_of) records.old.items) → records.new.items ≡ changed_where (λ k. K.eq key.now (key_of k.item)) taken_out records.old.items }
     ensures room { vec_capacity records.new - vec_len records.new ≡ vec_capacity records.old - vec_len records.old }
 {
-    let mut upto = records.len();
-    let mut next = index.newest(key);
-    'records: while let Some(at) = next {
-        if at >= upto {
-            return;
-        }
-        records[at].present = false;
-        next = index.earlier(at);
-        upto = at;
-    }
+    newest_index::change(index, key, records, &TakesOut);
 }

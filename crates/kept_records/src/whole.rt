@@ -2,8 +2,9 @@ ghost use Rattle.std.specs.Prelude.{◌≡◌, ◌-◌, not, IfOk, vec_len, vec_
 ghost use Rattle.std.specs.List.{filter};
 ghost use Rattle.kept_records.specs.Gathered.{present_of, changed_where, changes_record, changes_passing, keeps_passing, taken_out};
 
-use crate::records::{Changes, Kept, change_of};
+use crate::records::{Kept, change_of};
 use crate::selection::{Tests, put};
+use newest_index::Changes;
 use row_values::NoMemory;
 use std::alloc::Global;
 

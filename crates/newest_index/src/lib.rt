@@ -10,6 +10,9 @@ ghost use Rattle.std.specs.Prelude.{ℕ, ◌≡◌, ◌≤◌, ◌-◌, ◌+◌,
 ghost use Rattle.indexmap.specs.IndexMap.{spare};
 ghost use Rattle.newest_index.specs.Newest.{Indexes, last_place};
 
+mod changing;
+
+pub use changing::{Changes, change};
 use indexmap::IndexMap;
 use row_values::NoMemory;
 use std::alloc::Global;

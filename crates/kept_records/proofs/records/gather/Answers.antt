@@ -1,6 +1,7 @@
 use Rattle.std.proofs.Common.{map, length, refl, ◌∙◌, arith}
 use Rattle.kept_records.specs.Gathered.{kept_key, step_present}
-use Rattle.kept_records.proofs.Gathering.{starts, goes_on, stays_within, gathers_none, gathers_one, gathers_all, gathered_present}
+use Rattle.newest_index.proofs.Gathering.{starts, goes_on, stays_within, gathers_none, gathers_one, gathers_all}
+use Rattle.kept_records.proofs.Gathering.{gathered_present}
 use Rattle.kept_records.proofs.records.gather.Goals as goal
 
 pub records-init : goal.records-init

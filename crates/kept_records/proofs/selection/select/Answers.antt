@@ -1,6 +1,7 @@
 use Rattle.std.proofs.Common.{Bool, [], map, reverse, length, refl, ap, ◌∙◌, arith}
 use Rattle.kept_records.specs.Gathered.{kept_key, step_present, puts, present_of}
-use Rattle.kept_records.proofs.Gathering.{starts, goes_on, stays_within, gathers_none, gathers_one, gathers_all, gathered_present}
+use Rattle.newest_index.proofs.Gathering.{starts, goes_on, stays_within, gathers_none, gathers_one, gathers_all}
+use Rattle.kept_records.proofs.Gathering.{gathered_present}
 use Rattle.kept_records.proofs.Looking.{gathered_passing, turned_round}
 use Rattle.kept_records.proofs.selection.select.Goals as goal
 

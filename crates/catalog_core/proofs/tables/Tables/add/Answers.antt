@@ -6,7 +6,7 @@ use Rattle.model.specs.Catalog.{TableRecord, current_tables}
 use Rattle.newest_index.proofs.Opens.{indexes-of}
 use Rattle.newest_index.proofs.Turns.{in_turn-of}
 use Rattle.catalog_core.specs.Codes.{table_code, code_in}
-use Rattle.catalog_core.specs.Kept.{table_id, one_if}
+use Rattle.catalog_core.specs.Kept.{table_id, table_space, one_if}
 use Rattle.catalog_core.proofs.Names.{count_next, count_within}
 use Rattle.catalog_core.proofs.Found.{added_name, added_id, of_namespace}
 use Rattle.catalog_core.proofs.tables.Tables.add.Goals as goal
@@ -26,6 +26,9 @@ invariant_of-self c =
           (ap (map table_code) e ∙ map-append table_code rs (r ∷ []) ∙ sym (ap (λ k. map table_code rs ++ k ∷ []) code)) (c.note.ensures.noted (map table_code rs) i.named);
       by_id = indexes-of (map table_id rs ++ c.table.inside.id ∷ []) (map table_id c.push.new.self.items)
           (ap (map table_id) e ∙ map-append table_id rs (r ∷ []) ∙ sym (ap (λ (t : TableRecord). map table_id rs ++ t.id ∷ []) c.table.view_is)) (c.note-2.ensures.noted (map table_id rs) i.by_id);
+      by_space = indexes-of (map table_space rs ++ c.table.inside.namespace ∷ []) (map table_space c.push.new.self.items)
+          (ap (map table_space) e ∙ map-append table_space rs (r ∷ []) ∙ sym (ap (λ (t : TableRecord). map table_space rs ++ t.namespace ∷ []) c.table.view_is))
+          (c.note-3.ensures.noted (map table_space rs) i.by_space);
       names = in_turn-of (rs ++ r ∷ []) c.push.new.self.items e (added_name rs r free past i.names);
       ids = in_turn-of (rs ++ r ∷ []) c.push.new.self.items e (added_id rs r fresh past i.ids);
       counted = λ ns.
@@ -40,6 +43,8 @@ invariant_of-self c =
       named_links = search rules;
       by_id_room = search rules;
       by_id_links = search rules;
+      by_space_room = search rules;
+      by_space_links = search rules;
       counts_room = search rules;
     }
 

@@ -5,8 +5,8 @@ use Rattle.newest_index.proofs.Opens.{indexes-of}
 use Rattle.newest_index.proofs.Turns.{in_turn-of}
 use Rattle.yb_ident.specs.contracts.ident.IdentPartialEq.TheImpl as ident
 use Rattle.catalog_core.specs.Codes.{table_code}
-use Rattle.catalog_core.specs.Kept.{table_id, table_closed, one_if, is_named, count_in}
-use Rattle.catalog_core.proofs.Found.{end_here, ended_codes, ended_ids, ended_names, ended_by_id, count_ended}
+use Rattle.catalog_core.specs.Kept.{table_id, table_space, table_closed, one_if, is_named, count_in}
+use Rattle.catalog_core.proofs.Found.{end_here, ended_codes, ended_ids, ended_spaces, ended_names, ended_by_id, count_ended}
 use Rattle.catalog_core.proofs.tables.Tables.end.Goals as goal
 
 records_are : (c : goal.After-lower_count) → c.end_place-namespace.new.records.items ≡ end_table c.args.id.now c.args.at c.self.inside.records.items
@@ -28,6 +28,7 @@ invariant_of-self c =
     record {
       named = indexes-of (map table_code rs) (map table_code c.end_place-namespace.new.records.items) (ap (map table_code) e ∙ ended_codes rs id at) i.named;
       by_id = indexes-of (map table_id rs) (map table_id c.end_place-namespace.new.records.items) (ap (map table_id) e ∙ ended_ids rs id at) i.by_id;
+      by_space = indexes-of (map table_space rs) (map table_space c.end_place-namespace.new.records.items) (ap (map table_space) e ∙ ended_spaces rs id at) i.by_space;
       names = in_turn-of (end_table id at rs) c.end_place-namespace.new.records.items e (ended_names rs id at i.names);
       ids = in_turn-of (end_table id at rs) c.end_place-namespace.new.records.items e (ended_by_id rs id at i.ids);
       counted = λ ns.
@@ -41,6 +42,8 @@ invariant_of-self c =
       named_links = i.named_links;
       by_id_room = i.by_id_room;
       by_id_links = i.by_id_links;
+      by_space_room = i.by_space_room;
+      by_space_links = i.by_space_links;
       counts_room = omega (arith, i.counts_room, c.lower_count.ensures.room);
     }
 

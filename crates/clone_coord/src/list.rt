@@ -1,5 +1,8 @@
 ghost use Rattle.std.specs.Prelude.{◌≡◌, ◌≤◌, ◌&&◌, ◌||◌, [], ◌∷◌, ◌++◌, OnOk, not, length, filter};
-ghost use Rattle.std.specs.Option.{option_copied};
+ghost use Rattle.std.specs.Option.{option_copied, option_and_then};
+ghost use Rattle.model.specs.Records as book;
+ghost use Rattle.model.specs.Coordination.{unfinished_clone, acked_clone};
+ghost use Rattle.clone_coord.specs.View.{acked_if};
 ghost use Rattle.row_values.specs.Ids.{same};
 ghost use Rattle.model.specs.Records.{is_cloned, is_visible};
 ghost use Rattle.model.specs.Operations.{clone_to, clone_with};
@@ -10,6 +13,7 @@ use crate::record::{CloneRecord, TabletPair};
 use row_values::{Name, NoMemory};
 use std::alloc::Global;
 use std::marker::Model;
+use tablet_inbox::{Listed, set_acked, unacked_at};
 use yb_ident::Ident;
 
 /// The records of clones, in order of number. Contracts see the book's list, and for how many more
@@ -106,6 +110,38 @@ impl Clones {
         false
     }
 
+    /// The record of a clone that is unfinished. It takes no memory.
+    pub fn unfinished(&self, id: &Ident) -> Option<&CloneRecord>
+        ensures exact { option_copied result ≡ unfinished_clone self.now.clones id.now }
+    {
+        for record in &self.records {
+            if record.id == *id && !record.state.is_cloned() {
+                return Some(record);
+            }
+        }
+        None
+    }
+
+    /// The tablet of a slot that an unfinished clone lists, and that has not said that it did its part.
+    pub fn pending(&self, id: &Ident, slot: u32) -> Option<Listed>
+        ensures exact { result ≡ option_and_then (λ r. book.unacked_at r.listed slot) (unfinished_clone self.now.clones id.now) }
+    {
+        match self.unfinished(id) {
+            Some(record) => unacked_in(record, slot),
+            None => None,
+        }
+    }
+
+    /// The tablet of a slot has said that it did its part. It takes no memory.
+    pub fn ack(&mut self, id: &Ident, slot: u32)
+        ensures clones { self.new.clones ≡ acked_clone id.now slot self.old.clones }
+        ensures room { self.new.room ≡ self.old.room }
+    {
+        for record in self.records.iter_mut() {
+            ack_record(record, id, slot);
+        }
+    }
+
     /// Makes room for one more record.
     pub fn prepare(&mut self) -> Result<(), NoMemory>
         ensures clones { self.new.clones ≡ self.old.clones }
@@ -147,4 +183,19 @@ fn has_target(pairs: &[TabletPair], slot: u32) -> bool
         }
     }
     false
+}
+
+fn unacked_in(clone: &CloneRecord, slot: u32) -> Option<Listed>
+    ensures exact { result ≡ book.unacked_at clone.now.listed slot }
+{
+    unacked_at(clone.listed.as_slice(), slot)
+}
+
+// The tablet of a slot did its part, if the record is that of a clone.
+fn ack_record(clone: &mut CloneRecord, id: &Ident, slot: u32)
+    ensures acked { clone.new ≡ acked_if id.now slot clone.old }
+{
+    if clone.id == *id {
+        set_acked(&mut clone.listed, slot);
+    }
 }

@@ -1,5 +1,4 @@
 pub mod Slots
 pub mod Ordering
 pub mod Least
-pub mod Allowed
-pub mod Making
+pub mod ByKind

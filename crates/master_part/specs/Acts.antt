@@ -1,12 +1,15 @@
 -- What the master is told, as the book's; what it needs of the master, and of the room that was made.
 use Rattle.std.specs.Prelude.{ℕ, ◌≡◌, ◌≤◌, ◌<◌, ◌+◌, true, List, None, length}
-use Rattle.row_values.specs.Ids.{Id, Kind, id_bound}
+use Rattle.row_values.specs.Ids.{Id, Kind, Snapshot, id_bound}
 use Rattle.row_values.specs.Schema.{first_schema}
 use Rattle.model.specs.Activity.{Interval}
 use Rattle.model.specs.Catalog.{namespace_named, name_of, current_named, current_table, owner_of}
 use Rattle.model.specs.Parts as book
 use Rattle.model.specs.Parts.{Master}
-use Rattle.model.specs.Changed.{next_namespace, next_table}
+use Rattle.model.specs.Tablets.{Fence}
+use Rattle.model.specs.Records.{Schedule, RestorationRecord, Fencing}
+use Rattle.model.specs.Lists.{new_snapshot, listing, active_tablets}
+use Rattle.model.specs.Changed.{next_namespace, next_table, next_restoration}
 use Rattle.model.specs.Drawn.{drawn_of, most_slots}
 use Rattle.catalog_core.specs.Kept.{ends_by}
 use Rattle.schedules.specs.Periods.{IsPeriod}
@@ -24,6 +27,12 @@ act_of (act.SplitsTablet parent code low_slot high_slot) = book.SplitsTablet par
 act_of (act.MakesSchedule namespace interval retention) = book.MakesSchedule namespace interval retention
 act_of (act.EditsSchedule schedule interval retention) = book.EditsSchedule schedule interval retention
 act_of (act.DeletesSchedule schedule) = book.DeletesSchedule schedule
+act_of (act.TakesSnapshot schedule made) = book.TakesSnapshot schedule
+act_of (act.BeginsRestoration schedule to made) = book.BeginsRestoration schedule to
+act_of (act.Sends operation slot) = book.Sends operation slot
+act_of (act.Acks operation slot) = book.Acks operation slot
+act_of (act.Unsends operation slot) = book.Unsends operation slot
+act_of (act.CompletesSnapshot operation) = book.Moves operation
 act_of act.Restarts = book.Restarts
 
 -- What the law says of the master that a legal history leaves: few identifiers were drawn (`numbers_are_drawn`), what
@@ -51,6 +60,17 @@ pub record TableFits (ns : Id) (name slots : List ℕ) (n : ℕ) (m : Master) : 
   pub unowned : owner_of m.catalog.owners (next_table m) ≡ None
   pub past : ends_by n m.catalog.tables ≡ true
 
+-- a restoration that begins by fencing the namespace's active tablets
+abbrev pub new_restoration : Master → Schedule → ℕ → RestorationRecord
+new_restoration m s to = record {
+  id = next_restoration m;
+  schedule = s.id;
+  namespace = s.namespace;
+  to = to;
+  listed = listing Fence (active_tablets m.catalog.owners m.activity s.namespace);
+  state = Fencing;
+}
+
 -- the tablet may be split at the code
 pub record SplitFits (parent : Interval) (code : ℕ) (m : Master) : Type 0 where
   pub tablets : m.drawn.tablets + 2 < id_bound
@@ -70,6 +90,14 @@ May (act.MakesSchedule namespace interval retention) n m =
     (m.drawn.schedules + 1 < id_bound) × IsPeriod interval retention
 May (act.EditsSchedule schedule interval retention) n m = IsPeriod interval retention
 May (act.DeletesSchedule schedule) n m = Unit {0}
+May (act.TakesSnapshot schedule made) n m =
+    (m.drawn.snapshots + 1 < id_bound) × (new_snapshot m schedule.namespace schedule.id n ≡ made)
+May (act.BeginsRestoration schedule to made) n m =
+    (m.drawn.restorations + 1 < id_bound) × (new_restoration m schedule to ≡ made)
+May (act.Sends operation slot) n m = Unit {0}
+May (act.Acks operation slot) n m = Unit {0}
+May (act.Unsends operation slot) n m = Unit {0}
+May (act.CompletesSnapshot operation) n m = operation.kind ≡ Snapshot
 May act.Restarts n m = Unit {0}
 
 -- and of the room that was made
@@ -84,4 +112,10 @@ HasRoom (act.SplitsTablet parent code low_slot high_slot) p = 2 ≤ p.activity_r
 HasRoom (act.MakesSchedule namespace interval retention) p = (1 ≤ p.schedule_room) × (1 ≤ p.scheduled_room)
 HasRoom (act.EditsSchedule schedule interval retention) p = Unit {0}
 HasRoom (act.DeletesSchedule schedule) p = Unit {0}
+HasRoom (act.TakesSnapshot schedule made) p = 1 ≤ p.snapshot_room
+HasRoom (act.BeginsRestoration schedule to made) p = 1 ≤ p.restoration_room
+HasRoom (act.Sends operation slot) p = 1 ≤ p.sent_room
+HasRoom (act.Acks operation slot) p = Unit {0}
+HasRoom (act.Unsends operation slot) p = Unit {0}
+HasRoom (act.CompletesSnapshot operation) p = Unit {0}
 HasRoom act.Restarts p = Unit {0}

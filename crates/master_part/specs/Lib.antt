@@ -1,8 +1,4 @@
 pub mod View
-pub mod Seen
 pub mod Free
-pub mod Places
-pub mod Founds
 pub mod Tables
 pub mod Acts
-pub mod Decisions

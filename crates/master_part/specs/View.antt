@@ -12,3 +12,8 @@ pub record MasterView : Type 0 where
   -- and for how many more schedules, and namespaces that have some
   pub schedule_room : ℕ
   pub scheduled_room : ℕ
+  -- and for how many more sent marks
+  pub sent_room : ℕ
+  -- and records of snapshots and of restorations
+  pub snapshot_room : ℕ
+  pub restoration_room : ℕ

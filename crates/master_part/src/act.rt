@@ -1,11 +1,15 @@
 use catalog_tablets::Interval;
+use hybrid_time::HybridTime;
+use restore_coord::RestorationRecord;
 use row_values::{Name, Records, Slots};
+use schedules::Schedule;
+use snapshot_coord::SnapshotRecord;
 use table_schema::{NewColumn, Schema};
 use yb_ident::Ident;
 
 /// What the master is told: of a command what was found, so that no name is resolved again, and what
 /// was made of it while memory could be had.
-#[derive(Debug, Drop)]
+#[derive(Drop)]
 pub enum MasterAct {
     /// Sets the clock alone.
     Ticks,
@@ -45,6 +49,36 @@ pub enum MasterAct {
     },
     DeletesSchedule {
         schedule: Ident,
+    },
+    /// A snapshot by a schedule, whose record is at hand.
+    TakesSnapshot {
+        schedule: Schedule,
+        made: SnapshotRecord,
+    },
+    /// A restoration by a schedule to a time.
+    BeginsRestoration {
+        schedule: Schedule,
+        to: HybridTime,
+        made: RestorationRecord,
+    },
+    /// A command of an operation went to the tablet of a slot.
+    Sends {
+        operation: Ident,
+        slot: u32,
+    },
+    /// The tablet of a slot did its command of an operation.
+    Acks {
+        operation: Ident,
+        slot: u32,
+    },
+    /// It did not, so that the command is to be sent again.
+    Unsends {
+        operation: Ident,
+        slot: u32,
+    },
+    /// All tablets of a snapshot froze.
+    CompletesSnapshot {
+        operation: Ident,
     },
     /// Loses the sent marks.
     Restarts,

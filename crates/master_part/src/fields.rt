@@ -1,14 +1,15 @@
 //! Fields of records, as the book's.
-ghost use Rattle.std.specs.Prelude.{◌≡◌, length};
+ghost use Rattle.std.specs.Prelude.{◌≡◌};
+ghost use Rattle.yb_ident.specs.Seen as kinds;
 
 use catalog_core::TableRecord;
 use catalog_tablets::Interval;
 use clone_coord::CloneRecord;
+use hybrid_time::HybridTime;
 use restore_coord::RestorationRecord;
-use row_values::Records;
 use schedules::Schedule;
-use table_schema::{Column, Schema};
-use yb_ident::Ident;
+use snapshot_coord::SnapshotRecord;
+use yb_ident::{Ident, Kind};
 
 pub fn restoration_id(restoration: &RestorationRecord) -> Ident
     ensures exact { result ≡ restoration.now.id }
@@ -22,46 +23,11 @@ pub fn clone_id(clone: &CloneRecord) -> Ident
     clone.id
 }
 
+/// The identifier of a table.
 pub fn table_id(table: &TableRecord) -> Ident
     ensures exact { result ≡ table.now.id }
 {
     table.id
-}
-
-pub fn namespace_of(table: &TableRecord) -> Ident
-    ensures exact { result ≡ table.now.namespace }
-{
-    table.namespace
-}
-
-pub fn schema_of(table: &TableRecord) -> &Schema
-    ensures exact { result.now ≡ table.now.schema }
-{
-    &table.schema
-}
-
-fn columns_of(schema: &Schema) -> &Records<Column>
-    ensures exact { result.now ≡ schema.now.columns }
-{
-    &schema.columns
-}
-
-pub fn count_columns(table: &TableRecord) -> u64
-    ensures exact { result ≡ length table.now.schema.columns }
-{
-    columns_of(schema_of(table)).len()
-}
-
-pub fn low_of(interval: &Interval) -> u32
-    ensures exact { result ≡ interval.now.low }
-{
-    interval.range.low
-}
-
-pub fn slot_of(interval: &Interval) -> u32
-    ensures exact { result ≡ interval.now.slot }
-{
-    interval.slot
 }
 
 pub fn tablet_of(interval: &Interval) -> Ident
@@ -70,20 +36,40 @@ pub fn tablet_of(interval: &Interval) -> Ident
     interval.tablet
 }
 
+/// The identifier of a schedule.
 pub fn schedule_id(schedule: &Schedule) -> Ident
     ensures exact { result ≡ schedule.now.id }
 {
     schedule.id
 }
 
+pub fn snapshot_id(snapshot: &SnapshotRecord) -> Ident
+    ensures exact { result ≡ snapshot.now.id }
+{
+    snapshot.id
+}
+
+pub fn snapshot_namespace(snapshot: &SnapshotRecord) -> Ident
+    ensures exact { result ≡ snapshot.now.namespace }
+{
+    snapshot.namespace
+}
+
+pub fn snapshot_time(snapshot: &SnapshotRecord) -> HybridTime
+    ensures exact { result ≡ snapshot.now.at }
+{
+    snapshot.at
+}
+
+/// The namespace of a schedule.
 pub fn scheduled_namespace(schedule: &Schedule) -> Ident
     ensures exact { result ≡ schedule.now.namespace }
 {
     schedule.namespace
 }
 
-pub fn version_of(schema: &Schema) -> u32
-    ensures exact { result ≡ schema.now.version }
+pub fn kind_of(id: &Ident) -> Kind
+    ensures exact { kinds.kind_of result ≡ id.now.kind }
 {
-    schema.version
+    id.kind
 }

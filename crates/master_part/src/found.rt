@@ -5,17 +5,17 @@ ghost use Rattle.model.specs.Times.{is_open};
 ghost use Rattle.model.specs.Catalog.{by_id, current_tables};
 ghost use Rattle.model.specs.Records.{schedule_of};
 ghost use Rattle.model.specs.Operations.{holder, user};
-ghost use Rattle.model.specs.Looks.{found_namespace, found_table};
+ghost use Rattle.yb_ident.specs.Seen as kinds;
+ghost use Rattle.model.specs.Coordination.{pending, pending_of};
 ghost use Rattle.model.specs.Changed.{next_namespace, next_table, next_schedule};
 ghost use Rattle.model.specs.Changes.{named, count_namespaces, most_namespaces, schedule_id, first_table};
-ghost use Rattle.master_part.specs.Seen.{answer, answer_at};
 ghost use Rattle.master_part.specs.Tables.{lesser, lesser_in};
 
-use crate::fields::{clone_id, restoration_id, schedule_id, table_id};
+use crate::fields::{clone_id, kind_of, restoration_id, schedule_id, table_id};
 use crate::part::MasterPart;
 use catalog_core::TableRecord;
-use cluster_events::Refusal;
 use row_values::Name;
+use tablet_inbox::Listed;
 use yb_ident::{Ident, Kind};
 
 // The most current namespaces.
@@ -89,26 +89,27 @@ impl MasterPart {
         least_in(self.catalog.tables(), namespace)
     }
 
-    /// The namespace of a name.
-    pub fn found_namespace(&self, name: &Name) -> Result<Ident, Refusal>
-        ensures exact { answer result ≡ found_namespace self.now.master name.now }
+    /// The tablet of a slot that the unfinished record of an operation lists, and that has not said that it did its
+    /// part.
+    #[tactic(auto, using(crate::proofs::ByKind::pending_by))]
+    pub fn pending(&self, operation: &Ident, slot: u32) -> Option<Listed>
+        ensures exact { result ≡ pending self.now.master operation.now slot }
     {
-        match self.catalog.namespace_named(name) {
-            Some(namespace) => Ok(namespace),
-            None => Err(Refusal::UnknownNamespace),
-        }
+        self.pending_by(kind_of(operation), operation, slot)
     }
 
-    /// The current table of a name in the namespace of a name.
-    pub fn found_table(&self, namespace: &Name, table: &Name) -> Result<&TableRecord, Refusal>
-        ensures exact { answer_at result ≡ found_table self.now.master namespace.now table.now }
+    // The same of an operation of this kind.
+    fn pending_by(&self, kind: Kind, operation: &Ident, slot: u32) -> Option<Listed>
+        ensures exact { result ≡ pending_of (kinds.kind_of kind) self.now.master.snapshots self.now.master.restorations self.now.master.clones operation.now slot }
     {
-        let Some(namespace) = self.catalog.namespace_named(namespace) else {
-            return Err(Refusal::UnknownNamespace);
-        };
-        match self.catalog.current_named(&namespace, table) {
-            Some(found) => Ok(found),
-            None => Err(Refusal::UnknownTable),
+        match kind {
+            Kind::Snapshot => self.snapshots.pending(operation, slot),
+            Kind::Restoration => self.restorations.pending(operation, slot),
+            Kind::Clone => self.clones.pending(operation, slot),
+            Kind::Namespace => None,
+            Kind::Table => None,
+            Kind::Tablet => None,
+            Kind::Schedule => None,
         }
     }
 

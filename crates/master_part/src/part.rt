@@ -32,6 +32,7 @@ pub struct MasterPart {
 }
 
 impl Model for MasterPart {
+    ghost use Rattle.std.specs.Prelude.{◌-◌, vec_len, vec_capacity};
     ghost use Rattle.master_part.specs.View.{MasterView};
 
     ghost Value = { MasterView };
@@ -54,6 +55,9 @@ impl Model for MasterPart {
       activity_room = p.activity.room;
       schedule_room = p.schedules.room;
       scheduled_room = p.scheduled.room;
+      sent_room = vec_capacity p.sent - vec_len p.sent;
+      snapshot_room = p.snapshots.room;
+      restoration_room = p.restorations.room;
     } };
 }
 
@@ -99,8 +103,57 @@ impl MasterPart {
         self.slots
     }
 
-    // The allocator of its lists. No clause speaks of an allocator.
-    pub(crate) fn alloc(&self) -> Global
+    /// The catalog.
+    pub fn catalog(&self) -> &Catalog
+        ensures catalog { result.now.catalog ≡ self.now.master.catalog }
+    {
+        &self.catalog
+    }
+
+    /// The activity of all tablets.
+    pub fn tablets(&self) -> &Tablets
+        ensures activity { result.now.activity ≡ self.now.master.activity }
+    {
+        &self.activity
+    }
+
+    /// The schedules.
+    pub fn schedules(&self) -> &ScheduleList
+        ensures schedules { result.now.schedules ≡ self.now.master.schedules }
+    {
+        &self.schedules
+    }
+
+    /// The namespaces that have schedules.
+    pub fn scheduled(&self) -> &ScheduledNamespaces
+        ensures scheduled { result.now.scheduled ≡ self.now.master.scheduled }
+    {
+        &self.scheduled
+    }
+
+    /// The records of snapshots.
+    pub fn snapshots(&self) -> &Snapshots
+        ensures snapshots { result.now.snapshots ≡ self.now.master.snapshots }
+    {
+        &self.snapshots
+    }
+
+    /// The records of restorations.
+    pub fn restorations(&self) -> &Restorations
+        ensures restorations { result.now.restorations ≡ self.now.master.restorations }
+    {
+        &self.restorations
+    }
+
+    /// The records of clones.
+    pub fn clones(&self) -> &Clones
+        ensures clones { result.now.clones ≡ self.now.master.clones }
+    {
+        &self.clones
+    }
+
+    /// The allocator of its lists. No clause speaks of an allocator.
+    pub fn alloc(&self) -> Global
         ensures kept { self.now ≡ self.now }
     {
         *self.sent.allocator()

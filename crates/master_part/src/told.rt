@@ -24,6 +24,12 @@ impl MasterPart {
             MasterAct::MakesSchedule { .. } => self.prepare_schedule(),
             MasterAct::EditsSchedule { .. } => Ok(()),
             MasterAct::DeletesSchedule { .. } => Ok(()),
+            MasterAct::TakesSnapshot { .. } => self.prepare_snapshot(),
+            MasterAct::BeginsRestoration { .. } => self.prepare_restoration(),
+            MasterAct::Sends { .. } => self.prepare_send(),
+            MasterAct::Acks { .. } => Ok(()),
+            MasterAct::Unsends { .. } => Ok(()),
+            MasterAct::CompletesSnapshot { .. } => Ok(()),
             MasterAct::Restarts => Ok(()),
         }
     }
@@ -63,6 +69,18 @@ impl MasterPart {
                 retention,
             } => self.edit_schedule(&schedule, interval, retention, stamp),
             MasterAct::DeletesSchedule { schedule } => self.delete_schedule(&schedule, stamp),
+            MasterAct::TakesSnapshot { schedule, made } => {
+                self.take_snapshot(&schedule, made, stamp)
+            }
+            MasterAct::BeginsRestoration {
+                schedule,
+                to: _to,
+                made,
+            } => self.begin_restoration(&schedule, made, stamp),
+            MasterAct::Sends { operation, slot } => self.send(operation, slot, stamp),
+            MasterAct::Acks { operation, slot } => self.ack(&operation, slot, stamp),
+            MasterAct::Unsends { operation, slot } => self.unsend(&operation, slot, stamp),
+            MasterAct::CompletesSnapshot { operation } => self.complete_snapshot(&operation, stamp),
             MasterAct::Restarts => self.restart(stamp),
         }
     }

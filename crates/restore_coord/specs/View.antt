@@ -1,8 +1,13 @@
 -- What contracts see of the records of restorations.
-use Rattle.std.specs.Prelude.{ℕ, List}
-use Rattle.model.specs.Records.{RestorationRecord}
+use Rattle.std.specs.Prelude.{ℕ, List, if◌then◌else◌}
+use Rattle.row_values.specs.Ids.{Id, same}
+use Rattle.model.specs.Records.{RestorationRecord, acked_at}
 
 -- the book's records, and for how many more there is room
 pub record RestorationsView : Type 0 where
   pub restorations : List RestorationRecord
   pub room : ℕ
+
+-- a record, where the tablet of a slot of a restoration did its part
+abbrev pub acked_if : Id → ℕ → RestorationRecord → RestorationRecord
+acked_if id slot r = record r { listed = if same r.id id then acked_at slot r.listed else r.listed }

@@ -1,11 +1,15 @@
 ghost use Rattle.std.specs.Prelude.{◌≡◌, ◌≤◌, [], ◌∷◌, ◌++◌, OnOk};
-ghost use Rattle.std.specs.Option.{option_copied};
+ghost use Rattle.std.specs.Option.{option_copied, option_and_then};
+ghost use Rattle.model.specs.Records as book;
+ghost use Rattle.model.specs.Coordination.{unfinished_restoration, acked_restoration};
+ghost use Rattle.restore_coord.specs.View.{acked_if};
 ghost use Rattle.model.specs.Operations.{restoration_of};
 
 use crate::record::RestorationRecord;
 use row_values::NoMemory;
 use std::alloc::Global;
 use std::marker::Model;
+use tablet_inbox::{Listed, set_acked, unacked_at};
 use yb_ident::Ident;
 
 /// The records of restorations, in order of number. Contracts see the book's list, and for how many
@@ -53,6 +57,38 @@ impl Restorations {
         None
     }
 
+    /// The record of a restoration that is unfinished. It takes no memory.
+    pub fn unfinished(&self, id: &Ident) -> Option<&RestorationRecord>
+        ensures exact { option_copied result ≡ unfinished_restoration self.now.restorations id.now }
+    {
+        for record in &self.records {
+            if record.id == *id && !record.state.is_restored() {
+                return Some(record);
+            }
+        }
+        None
+    }
+
+    /// The tablet of a slot that an unfinished restoration lists, and that has not said that it did its part.
+    pub fn pending(&self, id: &Ident, slot: u32) -> Option<Listed>
+        ensures exact { result ≡ option_and_then (λ r. book.unacked_at r.listed slot) (unfinished_restoration self.now.restorations id.now) }
+    {
+        match self.unfinished(id) {
+            Some(record) => unacked_in(record, slot),
+            None => None,
+        }
+    }
+
+    /// The tablet of a slot has said that it did its part. It takes no memory.
+    pub fn ack(&mut self, id: &Ident, slot: u32)
+        ensures restorations { self.new.restorations ≡ acked_restoration id.now slot self.old.restorations }
+        ensures room { self.new.room ≡ self.old.room }
+    {
+        for record in self.records.iter_mut() {
+            ack_record(record, id, slot);
+        }
+    }
+
     /// Makes room for one more record.
     pub fn prepare(&mut self) -> Result<(), NoMemory>
         ensures restorations { self.new.restorations ≡ self.old.restorations }
@@ -68,5 +104,20 @@ impl Restorations {
         ensures restorations { self.new.restorations ≡ self.old.restorations ++ made ∷ [] }
     {
         self.records.push(made).unwrap();
+    }
+}
+
+fn unacked_in(restoration: &RestorationRecord, slot: u32) -> Option<Listed>
+    ensures exact { result ≡ book.unacked_at restoration.now.listed slot }
+{
+    unacked_at(restoration.listed.as_slice(), slot)
+}
+
+// The tablet of a slot did its part, if the record is that of a restoration.
+fn ack_record(restoration: &mut RestorationRecord, id: &Ident, slot: u32)
+    ensures acked { restoration.new ≡ acked_if id.now slot restoration.old }
+{
+    if restoration.id == *id {
+        set_acked(&mut restoration.listed, slot);
     }
 }

@@ -1,0 +1,36 @@
+-- What a command comes to, as the book's.
+use Rattle.std.specs.Prelude.{ℕ, map}
+use Rattle.row_values.specs.Store.{part_of}
+use Rattle.model.specs.Tablets as tell
+use Rattle.model.specs.Tablets.{Tablet, Told}
+use Rattle.model.specs.Parts.{Master, Outcome, answered}
+use Rattle.cluster_events.specs.SeenReplies.{reply_of}
+use Rattle.master_part.specs.Acts.{act_of, May}
+use Rattle.master_acts.specs.declared.changes.PartKind.{PartKind}
+use Rattle.master_acts.specs.declared.changes.PartKind.TheVariants as kind
+use Rattle.master_acts.specs.declared.changes.PartChange.{PartChange}
+use Rattle.master_acts.specs.declared.decide.Decision.{Decision}
+use Rattle.master_acts.specs.declared.decide.Decision.TheVariants as decision
+
+-- what a part gets, by what the parts of the slots have
+abbrev pub act_by : (ℕ → Tablet) → PartKind → tell.TabletAct
+act_by parts (kind.Make tablet table range version) = tell.Make tablet table range.low range.high version
+act_by parts (kind.Child parent tablet table range version) =
+    tell.Child tablet table range.low range.high version
+    (part_of range.low range.high (parts parent).versions) (parts parent).cutoff
+act_by parts (kind.Version version) = tell.SetVersion version
+act_by parts (kind.Hide ended) = tell.HideSince ended
+act_by parts (kind.Offer command) = tell.Offer command
+
+abbrev pub told_by : (ℕ → Tablet) → PartChange → Told
+told_by parts c = record { slot = c.slot; act = act_by parts c.kind }
+
+abbrev pub outcome_by : (ℕ → Tablet) → Decision → Outcome
+outcome_by parts (decision.Answers reply) = answered (reply_of reply)
+outcome_by parts (decision.Accepts act changes reply) =
+    record { master = act_of act; tablets = map (told_by parts) changes; reply = reply_of reply }
+
+-- what is accepted may be done
+abbrev pub MayDo : Decision → ℕ → Master → Type 0
+MayDo (decision.Answers reply) n m = Unit {0}
+MayDo (decision.Accepts act changes reply) n m = May act n m

@@ -1,0 +1,36 @@
+//! What looks and commands find in the master's part and refuse, and what they come to: a reply, or what
+//! the master and the touched tablets' parts are told. Each contract is the book's judgement or plan.
+//!
+//! None of these calls changes the master. What an act does is `MasterPart`'s own.
+#![tactic(auto)]
+
+mod batches;
+mod changes;
+mod decide;
+mod fields;
+mod found;
+mod judges;
+mod looks;
+mod order;
+mod places;
+mod plans;
+mod scheduling;
+
+pub use changes::{PartChange, PartKind};
+pub use decide::{
+    Decision, decide_create_namespace, decide_create_schedule, decide_create_table,
+    decide_delete_schedule, decide_drop_namespace, decide_drop_table, decide_edit_schedule,
+    decide_split,
+};
+pub use found::{found_namespace, found_table};
+pub use judges::{
+    ColumnOf, Family, judge_add_column, judge_create_namespace, judge_create_table,
+    judge_drop_column, judge_drop_namespace, judge_drop_table, judge_rename_table, judge_split,
+};
+pub use looks::{look_keys, look_table};
+pub use places::put_slot;
+pub use plans::plan_of;
+pub use scheduling::{
+    judge_create_schedule, judge_delete_schedule, judge_edit_schedule, judge_restore,
+    judge_take_snapshot,
+};

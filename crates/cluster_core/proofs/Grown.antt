@@ -37,6 +37,9 @@ module _ (slots : ℕ) (before after : List Part) (e : Event) (r : AnswerView) (
   pub history_is : book (history_of (core_of coding) after) ≡ entry_of slots e h ∷ h
   history_is = grown ∙ ap (λ x. x ∷ h) entry
 
+  pub stamp_is : r.stamp ≡ (entry_of slots e h).stamp
+  stamp_is = ap (λ (a : AnswerView). a.stamp) (sym step.reply) ∙ ap (λ (x : Entry). x.stamp) entry
+
   pub reply_is : r.reply ≡ (entry_of slots e h).reply
   reply_is = ap (λ (a : AnswerView). a.reply) (sym step.reply) ∙ ap (λ (x : Entry). x.reply) entry
 

@@ -5,3 +5,4 @@ pub mod Loops
 pub mod Firsts
 pub mod Started
 pub mod Grown
+pub mod Reading

@@ -1,9 +1,9 @@
 -- The empty cluster has the empty history.
-use Rattle.std.proofs.Common.{◌≡◌, ℕ, zero, suc, ◌+◌, ◌<◌, ◌^◌, List, [], ◌∷◌, ◌++◌, length, map, refl, sym, ap, subst, arith, ◌∙◌, replicate}
-use Rattle.std.proofs.lemmas.List.{length-replicate}
+use Rattle.std.proofs.Common.{◌≡◌, ℕ, zero, suc, ◌+◌, ◌≤◌, List, [], ◌∷◌, ◌++◌, length, map, refl, sym, ap, subst, arith, ◌∙◌, replicate}
 use Rattle.step_table.specs.Lists.{Every}
 use Rattle.step_table.specs.Histories.{history_of, IsNumbered}
 use Rattle.model.specs.Tablets.{emptied}
+use Rattle.model.specs.Drawn.{most_slots}
 use Rattle.model.specs.Parts.{empty_master}
 use Rattle.model.specs.History.{replay}
 use Rattle.machine_laws.specs.Views.{PartView, OfMaster, OfTablet}
@@ -39,10 +39,10 @@ pub first_past : (slots : ℕ) (ps : List Part) → ps ≡ first_parts slots →
 first_past slots ps is =
     subst (λ qs. IsPast slots (book (history_of (core_of coding) qs)) qs) (sym is) (subst (λ es. IsPast slots (book es) (first_parts slots)) (sym (first_history slots)) (first_is_past slots))
 
-pub first_legal : (slots : ℕ) (ps : List Part) → slots + 1 < 2 ^ 32 → ps ≡ first_parts slots → IsLegal ps
+pub first_legal : (slots : ℕ) (ps : List Part) → slots ≤ most_slots → ps ≡ first_parts slots → IsLegal ps
 first_legal slots ps few is = subst IsLegal (sym is) (record {
-  few = let l = length-replicate slots vacant_part in omega arith;
   slots = slots;
+  few = few;
   history = [];
   past = first_is_past slots;
 })

@@ -4,6 +4,7 @@ pub mod Tellings
 pub mod SeenTold
 pub mod SeenKept
 pub mod Plans
+pub mod Reads
 pub mod Readies
 pub mod Causes
 pub mod Coding

@@ -1,6 +1,6 @@
-ghost use Rattle.std.specs.Prelude.{◌≡◌, ◌∷◌, [], ◌+◌, ◌<◌, ◌^◌, None, IfOk, IfErr, OnOk, OnErr};
-ghost use Rattle.cluster_events.specs.SeenReplies.{reply_of};
+ghost use Rattle.std.specs.Prelude.{◌≡◌, ◌∷◌, [], ◌≤◌, None, IfOk, IfErr, OnOk, OnErr};
 ghost use Rattle.model.specs.Entries.{Asked};
+ghost use Rattle.model.specs.Drawn.{most_slots};
 ghost use Rattle.model.specs.History.{Legal, entry_of, replay};
 ghost use Rattle.step_table.specs.Histories.{history_of};
 ghost use Rattle.machine_laws.specs.Laid.{parts_of};
@@ -16,7 +16,7 @@ use crate::event::ServedEvent;
 use crate::fault::StepRefused;
 use crate::machine::ClusterMachine;
 use crate::start::first_line;
-use cluster_events::{Event, Reply};
+use cluster_events::Event;
 use row_values::NoMemory;
 use std::alloc::Global;
 use std::marker::Model;
@@ -46,9 +46,9 @@ impl<V: VersionStore> Model for Cluster<V> {
 }
 
 impl<V: VersionStore> Cluster<V> {
-    /// The empty cluster with this count of slots for tablets.
+    /// The empty cluster with this count of slots for tablets, at most 1,024.
     pub fn new(alloc: Global, slots: u32) -> Result<Cluster<V>, NoMemory>
-        requires few { slots + 1 < 2 ^ 32 }
+        requires few { slots ≤ most_slots }
         ensures slots { IfOk result (λ c. c.slots ≡ slots) }
         ensures empty { IfOk result (λ c. c.history ≡ []) }
         ensures parts { IfOk result (λ c. parts_of c.parts ≡ replay slots []) }
@@ -59,12 +59,13 @@ impl<V: VersionStore> Cluster<V> {
 
     /// Performs an event: the history has one entry more, which is the book's, and stays legal; the parts
     /// are its replay. Where it is not performed, the history and the parts are as they were.
-    pub fn step(&mut self, event: Event) -> Result<Reply, StepRefused>
+    pub fn step(&mut self, event: Event) -> Result<Answer, StepRefused>
         requires served { IsServed event.act }
         requires asked { Asked self.old.slots event }
         ensures slots { self.new.slots ≡ self.old.slots }
         ensures entry { OnOk result (self.new.history ≡ entry_of self.old.slots event self.old.history ∷ self.old.history) }
-        ensures reply { IfOk result (λ reply. reply_of reply ≡ (entry_of self.old.slots event self.old.history).reply) }
+        ensures stamp { IfOk result (λ answer. answer.stamp ≡ (entry_of self.old.slots event self.old.history).stamp) }
+        ensures reply { IfOk result (λ answer. answer.reply ≡ (entry_of self.old.slots event self.old.history).reply) }
         ensures no_fault { OnOk result (fault_after self.old.slots event self.old.history ≡ None) }
         ensures cause { IfErr result (λ why. RefusedBy (fault_after self.old.slots event self.old.history) why) }
         ensures kept { OnErr result (self.new.history ≡ self.old.history) }
@@ -72,8 +73,7 @@ impl<V: VersionStore> Cluster<V> {
         ensures legal { Legal self.new.slots self.new.history }
         ensures parts { parts_of self.new.parts ≡ replay self.new.slots self.new.history }
     {
-        let answer = step_in(&mut self.line, self.slots, ServedEvent::of(event))?;
-        Ok(answer.into_reply())
+        step_in(&mut self.line, self.slots, ServedEvent::of(event))
     }
 }
 
@@ -87,6 +87,7 @@ fn step_in<V: VersionStore>(
     requires asked { Asked slots event }
     ensures past { IsPast slots (book (history_of (core_of coding) line.new.parts)) line.new.parts }
     ensures entry { OnOk result (book (history_of (core_of coding) line.new.parts) ≡ entry_of slots event (book (history_of (core_of coding) line.old.parts)) ∷ book (history_of (core_of coding) line.old.parts)) }
+    ensures stamp { IfOk result (λ answer. answer.stamp ≡ (entry_of slots event (book (history_of (core_of coding) line.old.parts))).stamp) }
     ensures reply { IfOk result (λ answer. answer.reply ≡ (entry_of slots event (book (history_of (core_of coding) line.old.parts))).reply) }
     ensures no_fault { OnOk result (fault_after slots event (book (history_of (core_of coding) line.old.parts)) ≡ None) }
     ensures same { OnErr result (line.new.parts ≡ line.old.parts) }

@@ -1,16 +1,18 @@
 //! What an event comes to, by its act.
-ghost use Rattle.std.specs.Prelude.{◌≡◌, ℕ, IfOk};
+ghost use Rattle.std.specs.Prelude.{◌≡◌, ◌<◌, ℕ, IfOk};
 ghost use Rattle.step_table.specs.Helds.{slots_of, parts_of};
 ghost use Rattle.model.specs.Entries.{touches, ActAsked};
 ghost use Rattle.model.specs.History as book;
 ghost use Rattle.cluster_events.specs.SeenActs.{act_of};
 ghost use Rattle.machine_laws.specs.Laid.{lay, AreKinds};
+ghost use Rattle.cluster_core.specs.Readies.{AllLater};
 ghost use Rattle.cluster_core.specs.Served.{IsServed};
 ghost use Rattle.cluster_core.specs.Plans.{outcome_of, AllSuit};
 
 use crate::held::tablet_in;
 use crate::outcome::EventPlan;
 use crate::part::ClusterPart;
+use crate::reads::read;
 use crate::restart::restart;
 use cluster_events::Act;
 use hybrid_time::HybridTime;
@@ -30,6 +32,8 @@ pub(crate) fn plan<V: VersionStore>(
     requires served { IsServed (act_of act.now) }
     requires slots { slots_of held.now ≡ touches (act_of act.now) }
     requires kinds { AreKinds (slots_of held.now) (parts_of held.now) }
+    requires later { AllLater n (parts_of held.now) }
+    requires begun { 0 < n }
     requires asked { (count : ℕ) × ActAsked count (act_of act.now) }
     ensures outcome { IfOk result (λ p. outcome_of p ≡ book.outcome (act_of act.now) n (lay (slots_of held.now) (parts_of held.now))) }
     ensures suits { IfOk result (λ p. AllSuit p.tablets n (lay (slots_of held.now) (parts_of held.now)).tablet) }
@@ -55,7 +59,25 @@ pub(crate) fn plan<V: VersionStore>(
         }
         Act::Look(_) => unreachable!(),
         Act::Change { .. } => unreachable!(),
-        Act::Read { .. } => unreachable!(),
+        Act::Read {
+            places,
+            version,
+            key,
+            at,
+            columns,
+        } => {
+            let plan = read(
+                alloc,
+                held,
+                places.as_slice(),
+                *version,
+                key,
+                at,
+                columns,
+                n,
+            )?;
+            Ok(EventPlan::of_tablets(plan))
+        }
         Act::Cutoff { .. } => unreachable!(),
         Act::Send { .. } => unreachable!(),
         Act::Process { .. } => unreachable!(),

@@ -21,9 +21,12 @@ mod outcome;
 mod part;
 mod parts;
 mod prepare;
+mod reads;
 mod ready;
 mod restart;
 mod room;
+mod rows;
+mod slots;
 mod start;
 mod touch;
 

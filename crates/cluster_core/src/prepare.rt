@@ -5,7 +5,7 @@ ghost use Rattle.model.specs.Entries.{touches};
 ghost use Rattle.machine_laws.specs.Laid.{told_acts};
 ghost use Rattle.machine_laws.specs.Core.{core_of, stamp_at, outcome_at, answer_at, first_notes, Fits};
 ghost use Rattle.cluster_core.specs.Tellings.{PartTelling, meaning, part_act};
-ghost use Rattle.cluster_core.specs.Readies.{AllFit, FirstHasRoom, CanApply};
+ghost use Rattle.cluster_core.specs.Readies.{AllFit, AllLater, FirstHasRoom, CanApply};
 ghost use Rattle.cluster_core.specs.Coding.{coding};
 
 use crate::answer::Answer;
@@ -33,6 +33,8 @@ fn planned<V: VersionStore>(
     requires slots { slots_of held.now ≡ touches event.now.act }
     requires fits { Fits (map meaning (parts_of held.now)) event.now }
     requires stamp { stamp ≡ stamp_at (map meaning (parts_of held.now)) event.now }
+    requires later { AllLater stamp (parts_of held.now) }
+    requires begun { 0 < stamp }
     ensures event { IfOk result (λ r. r.event ≡ event.now) }
     ensures told { IfOk result (λ r. map part_act r.acts ≡ told_acts (outcome_at (map meaning (parts_of held.now)) event.now) (touches event.now.act)) }
     ensures answer { IfOk result (λ r. r.answer ≡ answer_at (map meaning (parts_of held.now)) event.now) }

@@ -1,5 +1,6 @@
 //! The parts of the empty cluster.
-ghost use Rattle.std.specs.Prelude.{◌≡◌, ◌+◌, ◌<◌, ◌^◌, map, IfOk};
+ghost use Rattle.std.specs.Prelude.{◌≡◌, ◌≤◌, map, IfOk};
+ghost use Rattle.model.specs.Drawn.{most_slots};
 ghost use Rattle.cluster_core.specs.Tellings.{meaning};
 ghost use Rattle.cluster_core.specs.Starts.{first_parts, vacant_part};
 
@@ -34,7 +35,7 @@ pub(crate) fn first_line<V: VersionStore>(
     alloc: Global,
     slots: u32,
 ) -> Result<Line<ClusterMachine<V>>, NoMemory>
-    requires few { slots + 1 < 2 ^ 32 }
+    requires few { slots ≤ most_slots }
     ensures exact { IfOk result (λ line. line.parts ≡ first_parts slots) }
 {
     let parts = all_parts(alloc, slots)?;

@@ -6,7 +6,7 @@ use Rattle.step_table.specs.declared.known.Entry as line
 use Rattle.step_table.specs.Lists.{Every, pick, put}
 use Rattle.step_table.specs.Machines.{Lawful, noted}
 use Rattle.step_table.proofs.Lists.{either_way}
-use Rattle.step_table.proofs.Puts.{length_put, found_at}
+use Rattle.step_table.proofs.Puts.{found_at}
 use Rattle.step_table.proofs.Laws.{length_pick}
 use Rattle.model.specs.Acts.{Event}
 use Rattle.model.specs.Entries.{Entry, Asked, touches, slots_of, log_of}
@@ -35,7 +35,7 @@ no_refusal refused None fine = refl
 no_refusal refused (Some why) fine = cc
 
 -- no log has more entries than it may
-held_most : (slots k : ℕ) (history : List Entry) → Legal slots history → held k history ≤ most_entries
+pub held_most : (slots k : ℕ) (history : List Entry) → Legal slots history → held k history ≤ most_entries
 held_most slots k [] legal = omega arith
 held_most slots k (e ∷ earlier) legal =
     let h = held_most slots k earlier legal.0 in
@@ -73,8 +73,8 @@ module _ {R : Type 0} where
   stays : (ps : List (PartView R)) (e : Event) (n : ℕ) → IsLegal ps → May (length ps) e → fault_of (stamp_at (pick (touches e.act) ps) e) (touches e.act) (pick (touches e.act) ps) ≡ None
       → IsLegal (put (touches e.act) (after_at (pick (touches e.act) ps) e n) ps)
   stays ps e n legal may fine = record {
-    few = let l = length_put (touches e.act) (after_at (pick (touches e.act) ps) e n) ps in let few = legal.few in omega arith;
     slots = legal.slots;
+    few = legal.few;
     history = entry_of legal.slots e legal.history ∷ legal.history;
     past = past_next legal.slots legal.history ps e n legal.past (asked_of legal.slots legal.history ps e legal.past may) fine;
   }
@@ -94,7 +94,7 @@ lawful code = record {
   };
   stays = λ ps e n legal may fine number. stays ps e n legal may (no_refusal code.refused (fault_of (stamp_at (pick (touches e.act) ps) e) (touches e.act) (pick (touches e.act) ps)) fine);
   adds = λ held e n fits fine. adds held e n fits.size;
-  few = λ ps legal. legal.few;
+  few = λ ps legal. let size = legal.past.size in let few = legal.few in omega arith;
   short = λ ps legal. each_short ps (λ k l. let h = legal.past.holds k l in let m = held_most legal.slots k legal.history legal.past.legal in omega arith);
 }
 

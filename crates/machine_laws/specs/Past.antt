@@ -1,9 +1,10 @@
 -- The parts of a cluster with a legal history.
-use Rattle.std.specs.Prelude.{ℕ, ◌≡◌, ◌<◌, ◌+◌, ◌^◌, List, [], ◌∷◌, length, slice_get}
+use Rattle.std.specs.Prelude.{ℕ, ◌≡◌, ◌≤◌, ◌<◌, ◌+◌, List, [], ◌∷◌, length, slice_get}
 use Rattle.step_table.specs.declared.known.Entry as line
 use Rattle.step_table.specs.Lists.{total}
 use Rattle.model.specs.Acts.{Event}
 use Rattle.model.specs.Entries.{Entry}
+use Rattle.model.specs.Drawn.{most_slots}
 use Rattle.model.specs.History.{Legal, replay, held}
 use Rattle.machine_laws.specs.Views.{AnswerView, PartView}
 use Rattle.machine_laws.specs.Laid.{kept_in, entries_in, parts_of, HasKind}
@@ -17,10 +18,10 @@ pub record IsPast {R : Type 0} (slots : ℕ) (history : List Entry) (parts : Lis
   pub holds : (k : ℕ) → k < length parts → entries_in (slice_get parts k) ≡ held k history
   pub kinds : (k : ℕ) → k < length parts → HasKind k (kept_in (slice_get parts k))
 
--- the parts have a past, and are few
+-- the parts have a past, and are those of a cluster of at most `most_slots` slots
 pub record IsLegal {R : Type 0} (parts : List (PartView R)) : Type 0 where
-  pub few : length parts < 2 ^ 32
   pub slots : ℕ
+  pub few : slots ≤ most_slots
   pub history : List Entry
   pub past : IsPast slots history parts
 

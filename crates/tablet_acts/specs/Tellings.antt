@@ -1,9 +1,9 @@
 -- What tablets' parts are told, with what was made ready for it, and what the book calls it.
-use Rattle.std.specs.Prelude.{ℕ, ◌≡◌, ◌≤◌, Bool, true, List, [], ◌∷◌, length, map}
+use Rattle.std.specs.Prelude.{ℕ, ◌≡◌, ◌≤◌, ◌+◌, Bool, true, List, [], ◌∷◌, length, map}
 use Rattle.row_values.specs.declared.value.Item.{Item}
 use Rattle.row_values.specs.Ids.{Id}
 use Rattle.row_values.specs.Batches.{FitsStore}
-use Rattle.row_values.specs.Store.{Version, kept}
+use Rattle.row_values.specs.Store.{Version, Below, kept}
 use Rattle.model.specs.Tablets as book
 use Rattle.model.specs.Tablets.{Tablet, TabletAct, Told, Command}
 use Rattle.model.specs.Acts.{Reply}
@@ -17,6 +17,7 @@ pub record StoreView : Type 0 where
 pub data Telling : Type 0 where
   Ticks : Telling
   Makes : (tablet table : Id) (low high version : ℕ) (store : StoreView) → Telling
+  MakesChild : (tablet table : Id) (low high version : ℕ) (store : StoreView) → Telling
   Sets : (version : ℕ) → Telling
   Hides : (ended : ℕ) → Telling
   Writes : (batch : List Item) → Telling
@@ -28,6 +29,8 @@ pub data Telling : Type 0 where
 abbrev pub act_told : Telling → TabletAct
 act_told Ticks = book.Clock
 act_told (Makes tablet table low high version store) = book.Make tablet table low high version
+act_told (MakesChild tablet table low high version store) =
+    book.Child tablet table low high version store.versions store.cutoff
 act_told (Sets version) = book.SetVersion version
 act_told (Hides ended) = book.HideSince ended
 act_told (Writes batch) = book.Write batch
@@ -40,10 +43,12 @@ act_told Restarts = book.Restart
 abbrev pub Suits : Telling → ℕ → Tablet → Type 0
 Suits Ticks n t = Unit {0}
 Suits (Makes tablet table low high version store) n t = (store.versions ≡ []) × (store.cutoff ≡ n)
+Suits (MakesChild tablet table low high version store) n t =
+    Below (n + 1) store.versions × (store.cutoff ≤ n)
 Suits (Sets version) n t = Unit {0}
 Suits (Hides ended) n t = Unit {0}
 Suits (Writes batch) n t = FitsStore batch
-Suits (Raises to) n t = Unit {0}
+Suits (Raises to) n t = to ≤ n
 Suits (Compacts store) n t = (store.versions ≡ kept t.versions t.cutoff) × (store.cutoff ≡ t.cutoff)
 Suits (Offers command) n t = Unit {0}
 Suits Restarts n t = Unit {0}
@@ -52,6 +57,7 @@ Suits Restarts n t = Unit {0}
 abbrev pub HasRoom : Telling → ℕ → Bool → Type 0
 HasRoom Ticks versions ready = Unit {0}
 HasRoom (Makes tablet table low high version store) versions ready = Unit {0}
+HasRoom (MakesChild tablet table low high version store) versions ready = Unit {0}
 HasRoom (Sets version) versions ready = Unit {0}
 HasRoom (Hides ended) versions ready = Unit {0}
 HasRoom (Writes batch) versions ready = length batch ≤ versions

@@ -25,6 +25,14 @@ pub enum TabletTold<V: VersionStore> {
         version: u32,
         store: ReadyStore<V>,
     },
+    /// Gets the child of a split, with this store.
+    MakeChild {
+        tablet: Ident,
+        table: Ident,
+        range: Range,
+        version: u32,
+        store: ReadyStore<V>,
+    },
     /// Keeps another version of the schema.
     SetVersion {
         version: u32,
@@ -60,6 +68,7 @@ impl<V: VersionStore> TabletTold<V> {
             TabletTold::Offer { .. } => part.prepare_offer(),
             TabletTold::Clock => Ok(()),
             TabletTold::Make { .. } => Ok(()),
+            TabletTold::MakeChild { .. } => Ok(()),
             TabletTold::SetVersion { .. } => Ok(()),
             TabletTold::Hide { .. } => Ok(()),
             TabletTold::RaiseCutoff { .. } => Ok(()),
@@ -84,6 +93,13 @@ impl<V: VersionStore> TabletTold<V> {
                 version,
                 store,
             } => part.make(tablet, table, range, version, store.into_store(), stamp),
+            TabletTold::MakeChild {
+                tablet,
+                table,
+                range,
+                version,
+                store,
+            } => part.make_child(tablet, table, range, version, store.into_store(), stamp),
             TabletTold::SetVersion { version } => part.set_version(version, stamp),
             TabletTold::Hide { ended } => part.hide(ended, stamp),
             TabletTold::Write { batch } => part.write(batch, stamp),

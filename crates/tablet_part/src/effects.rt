@@ -1,8 +1,8 @@
 //! What a tablet's part does when it is told, under a stamp that is no earlier than its clock.
-ghost use Rattle.std.specs.Prelude.{◌≡◌, ◌≤◌, ◌<◌, [], true, length, IfOk, OnOk};
-ghost use Rattle.row_values.specs.Store.{kept};
+ghost use Rattle.std.specs.Prelude.{◌≡◌, ◌≤◌, ◌<◌, ◌+◌, [], true, length, IfOk, OnOk};
+ghost use Rattle.row_values.specs.Store.{Below, kept, part_of};
 ghost use Rattle.row_values.specs.Batches.{FitsStore};
-ghost use Rattle.model.specs.Tablets.{effect, Clock, Make, SetVersion, HideSince, Write, RaiseCutoff, Compact, Offer, Restart};
+ghost use Rattle.model.specs.Tablets.{effect, placed, Clock, Make, Child, SetVersion, HideSince, Write, RaiseCutoff, Compact, Offer, Restart};
 
 use crate::part::TabletPart;
 use crate::presence::Presence;
@@ -49,6 +49,7 @@ impl<V: VersionStore> TabletPart<V> {
     #[tactic(auto, using(law_store::proofs::Writing::below_weaker))]
     pub fn raise_cutoff(&mut self, to: HybridTime, stamp: HybridTime)
         requires later { self.old.tablet.clock ≤ stamp }
+        requires past { to ≤ stamp }
         ensures tablet { self.new.tablet ≡ effect (RaiseCutoff to) stamp self.old.tablet }
     {
         self.clock = stamp;
@@ -96,6 +97,51 @@ impl<V: VersionStore> TabletPart<V> {
         requires versions { V.versions store ≡ [] }
         requires cutoff { V.cutoff store ≡ stamp }
         ensures tablet { self.new.tablet ≡ effect (Make tablet table range.low range.high version) stamp self.old.tablet }
+    {
+        self.place(tablet, table, range, version, store, stamp)
+    }
+
+    /// The store of a split's child that gets what this part has in a range.
+    #[tactic(auto, using(law_store::proofs::Choosing::below_part))]
+    pub fn prepare_child(&self, range: Range) -> Result<V, NoMemory>
+        ensures versions { IfOk result (λ store. V.versions store ≡ part_of range.low range.high self.now.tablet.versions) }
+        ensures cutoff { IfOk result (λ store. V.cutoff store ≡ self.now.tablet.cutoff) }
+        ensures below { IfOk result (λ store. Below (self.now.tablet.clock + 1) (V.versions store)) }
+        ensures past { IfOk result (λ store. V.cutoff store ≤ self.now.tablet.clock) }
+    {
+        self.store.part_of(range)
+    }
+
+    /// Gets the child of a split, with the store that was prepared.
+    pub fn make_child(
+        &mut self,
+        tablet: Ident,
+        table: Ident,
+        range: Range,
+        version: u32,
+        store: V,
+        stamp: HybridTime,
+    )
+        requires below { Below (stamp + 1) (V.versions store) }
+        requires past { V.cutoff store ≤ stamp }
+        ensures tablet { self.new.tablet ≡ effect (Child tablet table range.low range.high version (V.versions store) (V.cutoff store)) stamp self.old.tablet }
+    {
+        self.place(tablet, table, range, version, store, stamp)
+    }
+
+    // Gets a tablet in service, with this store.
+    fn place(
+        &mut self,
+        tablet: Ident,
+        table: Ident,
+        range: Range,
+        version: u32,
+        store: V,
+        stamp: HybridTime,
+    )
+        requires below { Below (stamp + 1) (V.versions store) }
+        requires past { V.cutoff store ≤ stamp }
+        ensures tablet { self.new.tablet ≡ placed tablet table range.low range.high version (V.versions store) (V.cutoff store) stamp self.old.tablet }
     {
         let alloc = self.frozen.allocator();
         self.clock = stamp;

@@ -1,4 +1,4 @@
-ghost use Rattle.std.specs.Prelude.{◌≡◌, length, IfOk};
+ghost use Rattle.std.specs.Prelude.{◌≡◌, ◌≤◌, length, IfOk};
 ghost use Rattle.std.specs.List.{list_all};
 ghost use Rattle.row_values.specs.declared.value.Item.{Item};
 ghost use Rattle.model.specs.Tablets.{emptied, serves, is_empty, standing};
@@ -34,7 +34,7 @@ pub struct TabletPart<V: VersionStore> {
 }
 
 impl<V: VersionStore> Model for TabletPart<V> {
-    ghost use Rattle.std.specs.Prelude.{◌+◌, ◌<◌, ◌^◌};
+    ghost use Rattle.std.specs.Prelude.{◌+◌, ◌<◌, ◌≤◌, ◌^◌};
     ghost use Rattle.model.specs.RowActs.{count_frozen};
     ghost use Rattle.row_values.specs.Ids.{Tablet, Table};
     ghost use Rattle.row_values.specs.Store.{Below};
@@ -67,6 +67,7 @@ impl<V: VersionStore> Model for TabletPart<V> {
     ghost invariant = { λ p. record {
       stamps : Below (p.clock + 1) (V.versions p.store);
       few : count_frozen p.frozen < 2 ^ 64;
+      past : V.cutoff p.store ≤ p.clock;
     } };
 }
 
@@ -195,6 +196,7 @@ impl<V: VersionStore> TabletPart<V> {
     /// The time from which reads are right.
     pub fn cutoff(&self) -> HybridTime
         ensures cutoff { result ≡ self.now.tablet.cutoff }
+        ensures past { result ≤ self.now.tablet.clock }
     {
         self.store.cutoff()
     }

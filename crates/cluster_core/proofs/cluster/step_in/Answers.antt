@@ -3,7 +3,7 @@ use Rattle.step_table.specs.Histories.{history_of}
 use Rattle.machine_laws.specs.Past.{IsPast, book}
 use Rattle.machine_laws.specs.Core.{core_of}
 use Rattle.cluster_core.specs.Coding.{coding}
-use Rattle.cluster_core.proofs.Grown.{may_be, history_is, reply_is, past_is, no_fault, cause_is}
+use Rattle.cluster_core.proofs.Grown.{may_be, history_is, stamp_is, reply_is, past_is, no_fault, cause_is}
 use Rattle.cluster_core.proofs.cluster.step_in.Goals as goal
 
 pub perform-requires : goal.perform-requires
@@ -14,6 +14,9 @@ returns-in-Ok-clause-past g c = past_is c.args.slots c.args.line.now.parts c.per
 
 pub returns-in-Ok-clause-entry : goal.returns-in-Ok-clause-entry
 returns-in-Ok-clause-entry g c = history_is c.args.slots c.args.line.now.parts c.perform.new.self.parts c.args.event c.in-Ok.answer c.requires.past c.in-Ok.ensures.ok
+
+pub returns-in-Ok-clause-stamp : goal.returns-in-Ok-clause-stamp
+returns-in-Ok-clause-stamp g c = stamp_is c.args.slots c.args.line.now.parts c.perform.new.self.parts c.args.event c.in-Ok.answer c.requires.past c.in-Ok.ensures.ok
 
 pub returns-in-Ok-clause-reply : goal.returns-in-Ok-clause-reply
 returns-in-Ok-clause-reply g c = reply_is c.args.slots c.args.line.now.parts c.perform.new.self.parts c.args.event c.in-Ok.answer c.requires.past c.in-Ok.ensures.ok

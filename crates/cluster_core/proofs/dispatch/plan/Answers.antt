@@ -1,11 +1,15 @@
-use Rattle.std.proofs.Common.{◌≡◌, sym, ap, subst, ◌∙◌}
+use Rattle.std.proofs.Common.{◌≡◌, All, sym, ap, subst, ◌∙◌}
 use Rattle.step_table.specs.Helds.{slots_of, parts_of}
 use Rattle.model.specs.Acts.{At}
+use Rattle.model.specs.Entries.{touches, ActAsked}
+use Rattle.model.specs.RowActs.{read}
 use Rattle.model.specs.History.{outcome}
 use Rattle.cluster_events.specs.SeenActs.{act_of}
 use Rattle.machine_laws.specs.Laid.{lay}
 use Rattle.cluster_core.specs.Plans.{EventPlanView, outcome_of, AllSuit}
-use Rattle.cluster_core.proofs.OneTablet.{write_at, compact_at, stats_at, suits_at}
+use Rattle.cluster_core.specs.Reads.{IsHeld}
+use Rattle.cluster_core.proofs.Reading.{places_held}
+use Rattle.cluster_core.proofs.OneTablet.{write_at, compact_at, stats_at, suits_at, touched_rise}
 use Rattle.cluster_core.proofs.dispatch.plan.Goals as goal
 
 pub returns-in_ok-plan-in-Write-clause-outcome : goal.returns-in_ok-plan-in-Write-clause-outcome
@@ -45,3 +49,25 @@ returns-in-Stats-clause-suits g c =
     let parts = lay (slots_of c.args.held.now) (parts_of c.args.held.now) in
     subst (λ (p : EventPlanView). AllSuit p.tablets c.args.n parts.tablet) (sym c.of_tablets-in-Stats.ensures.exact)
     (suits_at c.in-Stats.slot c.args.n parts.tablet c.tablet_in-in-Stats.result.now.tablet c.stats-plan.result.tablets c.tablet_in-in-Stats.ensures.tablet (c.stats-plan.ensures.suits c.args.n))
+
+pub read-requires-clause-held : goal.read-requires-clause-held
+read-requires-clause-held g c =
+    let ks = slots_of c.args.held.now in
+    subst (All (IsHeld ks)) (sym c.as_slice.ensures.same)
+    (places_held c.requires.asked.0 ks c.in-Read.places c.in-Read.version c.in-Read.key c.in-Read.at c.in-Read.columns
+    (c.requires.slots ∙ ap (λ a. touches (act_of a)) c.in-Read.is) (subst (λ a. ActAsked c.requires.asked.0 (act_of a)) c.in-Read.is c.requires.asked.1))
+
+pub returns-in_ok-plan-in-Read-clause-outcome : goal.returns-in_ok-plan-in-Read-clause-outcome
+returns-in_ok-plan-in-Read-clause-outcome g c =
+    let parts = lay (slots_of c.args.held.now) (parts_of c.args.held.now) in
+    ap outcome_of c.of_tablets-in-Read.ensures.exact ∙ c.in_ok-plan-in-Read.ensures.outcome
+    ∙ ap (λ places. read places c.in-Read.version c.in-Read.key c.in-Read.at c.in-Read.columns c.args.n parts) c.as_slice.ensures.same
+    ∙ ap (λ a. outcome (act_of a) c.args.n parts) (sym c.in-Read.is)
+
+pub returns-in_ok-plan-in-Read-clause-suits : goal.returns-in_ok-plan-in-Read-clause-suits
+returns-in_ok-plan-in-Read-clause-suits g c =
+    let at = (lay (slots_of c.args.held.now) (parts_of c.args.held.now)).tablet in
+    subst (λ (p : EventPlanView). AllSuit p.tablets c.args.n at) (sym c.of_tablets-in-Read.ensures.exact) (subst (λ ts. AllSuit ts c.args.n at) (sym c.in_ok-plan-in-Read.ensures.none) tt)
+
+pub read-requires-clause-rising : goal.read-requires-clause-rising
+read-requires-clause-rising g c = touched_rise (act_of c.args.act.now) (slots_of c.args.held.now) c.requires.slots

@@ -24,8 +24,13 @@ plan-requires g c = record {
   served = c.act.ensures.served;
   slots = c.requires.slots ∙ ap touches (sym c.act.ensures.act);
   kinds = kinds_held c.args.event.now (slots_of c.args.held.now) (parts_of c.args.held.now) c.requires.slots c.requires.fits.kinds;
+  later = c.requires.later;
+  begun = c.requires.begun;
   asked = (length c.requires.fits.parts - 1, subst (ActAsked (length c.requires.fits.parts - 1)) (sym c.act.ensures.act) c.requires.fits.may.1.act);
 }
+
+pub line_up-requires : goal.line_up-requires
+line_up-requires g c = record { rising = touched_rise c.args.event.now.act (slots_of c.args.held.now) c.requires.slots }
 
 pub returns-clause-told : goal.returns-clause-told
 returns-clause-told g c =

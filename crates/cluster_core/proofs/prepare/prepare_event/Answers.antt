@@ -39,6 +39,12 @@ pub planned-requires-clause-stamp : goal.planned-requires-clause-stamp
 planned-requires-clause-stamp g c =
     c.in-Ok.ensures.stamp ∙ ap (rule.stamp_of 0 (map clock_in (parts_of c.args.held.now))) c.reading.ensures.reading ∙ stamp_meant c.args.event.now (parts_of c.args.held.now) c.requires.fits.kinds c.requires.fits.size
 
+pub planned-requires-clause-later : goal.planned-requires-clause-later
+planned-requires-clause-later g c = stamp_later (parts_of c.args.held.now) c.reading.result c.in-Ok.stamp c.in-Ok.ensures.stamp
+
+pub planned-requires-clause-begun : goal.planned-requires-clause-begun
+planned-requires-clause-begun g c = let is = c.in-Ok.ensures.stamp in omega arith
+
 pub returns-clause-accepted : goal.returns-clause-accepted
 returns-clause-accepted g c =
     let ps = parts_of c.args.held.now in

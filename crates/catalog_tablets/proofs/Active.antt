@@ -1,17 +1,18 @@
 -- The book's look-ups and changes of activity, by the comparison of keys.
 use Rattle.std.proofs.Common.{ℕ, ◌≡◌, ◌==◌, Bool, true, false, cond, ◌&&◌, List, [], ◌∷◌, Option, Some, None, if◌then◌else◌, not, refl, sym, ap, ◌∙◌}
 use Rattle.std.specs.List.{find, filter}
-use Rattle.std.specs.Option.{option_or}
+use Rattle.std.specs.Option.{option_or, option_map}
 use Rattle.std.specs.Cmp.{IsEquivalence}
 use Rattle.row_values.specs.Ids.{Id, same}
 use Rattle.row_values.specs.Ranges.{in_range}
 use Rattle.model.specs.Times.{is_open, ended}
 use Rattle.model.specs.Activity.{Interval, active_at, route, last_of, last_from, end_tablet, end_table_tablets, forget}
 use Rattle.model.specs.Cleanup.{last_in}
+use Rattle.model.specs.RowActs.{table_in}
 use Rattle.newest_index.proofs.Walks.{or_none}
 use Rattle.kept_records.specs.Gathered.{gathered, changed_where}
 use Rattle.kept_records.proofs.Looking.{filter_same, changed_map}
-use Rattle.catalog_tablets.specs.View.{routed, held, later_first, ends_at}
+use Rattle.catalog_tablets.specs.View.{table_of, routed, held, later_first, ends_at}
 
 route_by : {A : Type 0} (t s a : Bool) (x y z : A) → t ≡ s → y ≡ z → (if t then (if a then x else y) else y) ≡ (if s && a then x else z)
 route_by true true true x y z e same = refl
@@ -44,6 +45,13 @@ end_by true true i at e = refl
 end_by true false i at e = absurd (cc)
 end_by false true i at e = absurd (cc)
 end_by false false i at e = refl
+
+earliest_by : (t s : Bool) (i : Interval) (found : Option Interval) (rest : Option Id) → t ≡ s → option_map table_of found ≡ rest
+    → option_map table_of (cond t (Some i) found) ≡ (if s then Some i.table else rest)
+earliest_by true true i found rest e same = refl
+earliest_by true false i found rest e same = absurd (cc)
+earliest_by false true i found rest e same = absurd (cc)
+earliest_by false false i found rest e same = same
 
 turned : (t s o : Bool) → t ≡ s → (t && o) ≡ (o && s)
 turned true true true e = refl
@@ -125,3 +133,9 @@ module _ (eq : ℕ → ℕ → Bool) (laws : IsEquivalence eq) (agree : (a b : �
   pub slot_is : (slot : ℕ) (is : List Interval)
       → gathered (λ (i : Interval). eq slot i.slot) later_first None is ≡ last_in is slot None
   slot_is slot is = sym (slots slot is None ∙ or_none (gathered (λ (i : Interval). eq slot i.slot) later_first None is))
+
+  pub earliest_is : (slot : ℕ) (is : List Interval) → option_map table_of (find (λ (i : Interval). eq slot i.slot) is) ≡ table_in is slot
+  earliest_is slot [] = refl
+  earliest_is slot (i ∷ is) =
+      earliest_by (eq slot i.slot) (i.slot == slot) i (find (λ (j : Interval). eq slot j.slot) is) (table_in is slot)
+      (laws.symm slot i.slot ∙ agree i.slot slot) (earliest_is slot is)

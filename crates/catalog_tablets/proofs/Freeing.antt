@@ -25,24 +25,25 @@ free_here activity reserved slots m same count right =
     free_from_of : Master → ℕ → List ℕ
     free_from_of m n = looks.free_slots (record m { slots = n })
 
--- the next slot is free, or it isn't
-module _ (activity : List Interval) (reserved found next all : List ℕ) (slots i : ℕ) where
-  abbrev rest : ℕ → List ℕ
-  rest count = filter (is_free activity reserved) (looks.counting count (i + 1 + 1))
+-- the next slot passes a test, or it doesn't
+module _ (p : ℕ → Bool) (found next all : List ℕ) (slots i : ℕ) where
+  abbrev from : ℕ → ℕ → List ℕ
+  from count first = filter p (looks.counting count first)
 
-  cut : i < slots → free_from activity reserved (slots - i) (i + 1) ≡ filter (is_free activity reserved) ((i + 1) ∷ looks.counting (slots - (i + 1)) ((i + 1) + 1))
-  cut lt = ap (filter (is_free activity reserved)) (counting_next slots i lt)
+  cut : i < slots → from (slots - i) (i + 1) ≡ filter p ((i + 1) ∷ looks.counting (slots - (i + 1)) ((i + 1) + 1))
+  cut lt = ap (filter p) (counting_next slots i lt)
 
-  taken : (b : Bool) → is_free activity reserved (i + 1) ≡ b → filter (is_free activity reserved) ((i + 1) ∷ looks.counting (slots - (i + 1)) ((i + 1) + 1))
-      ≡ (if b then (i + 1) ∷ rest (slots - (i + 1)) else rest (slots - (i + 1)))
-  taken b e = ap (λ c. if c then (i + 1) ∷ rest (slots - (i + 1)) else rest (slots - (i + 1))) e
+  taken : (b : Bool) → p (i + 1) ≡ b → filter p ((i + 1) ∷ looks.counting (slots - (i + 1)) ((i + 1) + 1))
+      ≡ (if b then (i + 1) ∷ from (slots - (i + 1)) (i + 1 + 1) else from (slots - (i + 1)) (i + 1 + 1))
+  taken b e = ap (λ c. if c then (i + 1) ∷ from (slots - (i + 1)) (i + 1 + 1) else from (slots - (i + 1)) (i + 1 + 1)) e
 
-  pub one_free : i < slots → is_free activity reserved (i + 1) ≡ true → next ≡ found ++ (i + 1) ∷ [] → found ++ free_from activity reserved (slots - i) (i + 1) ≡ all
-      → next ++ free_from activity reserved (slots - (i + 1)) (i + 1 + 1) ≡ all
-  one_free lt e pushed so_far =
-      ap (λ ns. ns ++ rest (slots - (i + 1))) pushed ∙ append_assoc found ((i + 1) ∷ []) (rest (slots - (i + 1)))
+  pub one_passes : i < slots → p (i + 1) ≡ true → next ≡ found ++ (i + 1) ∷ [] → found ++ from (slots - i) (i + 1) ≡ all
+      → next ++ from (slots - (i + 1)) (i + 1 + 1) ≡ all
+  one_passes lt e pushed so_far =
+      ap (λ ns. ns ++ from (slots - (i + 1)) (i + 1 + 1)) pushed ∙ append_assoc found ((i + 1) ∷ []) (from (slots - (i + 1)) (i + 1 + 1))
       ∙ sym (ap (λ ns. found ++ ns) (cut lt ∙ taken true e)) ∙ so_far
 
-  pub one_used : i < slots → is_free activity reserved (i + 1) ≡ false → next ≡ found → found ++ free_from activity reserved (slots - i) (i + 1) ≡ all
-      → next ++ free_from activity reserved (slots - (i + 1)) (i + 1 + 1) ≡ all
-  one_used lt e same so_far = ap (λ ns. ns ++ rest (slots - (i + 1))) same ∙ sym (ap (λ ns. found ++ ns) (cut lt ∙ taken false e)) ∙ so_far
+  pub one_fails : i < slots → p (i + 1) ≡ false → next ≡ found → found ++ from (slots - i) (i + 1) ≡ all
+      → next ++ from (slots - (i + 1)) (i + 1 + 1) ≡ all
+  one_fails lt e same so_far =
+      ap (λ ns. ns ++ from (slots - (i + 1)) (i + 1 + 1)) same ∙ sym (ap (λ ns. found ++ ns) (cut lt ∙ taken false e)) ∙ so_far

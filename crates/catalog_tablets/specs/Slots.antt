@@ -36,3 +36,7 @@ is_free activity reserved slot = not (has (map slot_of activity) slot || nat_lt 
 -- the free ones of so many slots, from one on
 abbrev pub free_from : List Interval → List ℕ → ℕ → ℕ → List ℕ
 free_from activity reserved slots from = filter (is_free activity reserved) (counting slots from)
+
+-- the used ones of so many slots, from one on
+abbrev pub used_from : List Interval → ℕ → ℕ → List ℕ
+used_from activity slots from = filter (has (map slot_of activity)) (counting slots from)

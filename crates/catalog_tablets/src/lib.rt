@@ -15,6 +15,7 @@ mod lists;
 mod slots;
 mod steps;
 mod tablets;
+mod used;
 
 pub use again::restore_tablets;
 pub use interval::Interval;

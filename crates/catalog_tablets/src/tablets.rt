@@ -7,6 +7,7 @@ ghost use Rattle.model.specs.Parts.{Master};
 ghost use Rattle.model.specs.Activity as book;
 ghost use Rattle.model.specs.Looks as looks;
 ghost use Rattle.model.specs.Cleanup.{last_in};
+ghost use Rattle.model.specs.RowActs.{table_in};
 ghost use Rattle.model.specs.Activity.{Interval};
 ghost use Rattle.catalog_tablets.specs.View.{slot_of};
 
@@ -15,7 +16,7 @@ use crate::interval::Interval;
 use crate::slots::SlotCounts;
 use crate::steps::{ActiveAt, ActiveBetween, Ends, Holds, Last, Leaves, Open, Routes};
 use hybrid_time::HybridTime;
-use kept_records::{Kept, Tests, change, change_all, gather, passing, select, take_out};
+use kept_records::{Kept, Tests, change, change_all, first, gather, passing, select, take_out};
 use newest_index::NewestIndex;
 use row_values::NoMemory;
 use std::alloc::Global;
@@ -141,6 +142,18 @@ impl Tablets {
     {
         keys_agree();
         gather(&self.by_slot, &slot, self.intervals.as_slice(), &Last, None)
+    }
+
+    /// The table of a slot's tablet: that of the first interval that is kept in the slot. It takes no
+    /// memory, and goes over the intervals of that slot alone.
+    pub fn table_in(&self, slot: u32) -> Option<Ident>
+        ensures exact { result ≡ table_in self.now.activity slot }
+    {
+        keys_agree();
+        match first(&self.by_slot, &slot, self.intervals.as_slice()) {
+            Some(interval) => Some(interval.table),
+            None => None,
+        }
     }
 
     /// Whether a kept interval is in a slot. It takes no memory, and is a look at a count where the

@@ -1,32 +1,28 @@
 -- The held parts and their meanings: stamps, plans, faults, and what becomes of the first.
-use Rattle.std.proofs.Common.{◌≡◌, ℕ, zero, suc, ◌+◌, ◌*◌, ◌≤◌, ◌<◌, List, [], ◌∷◌, ◌++◌, map, length, drop, refl, sym, ap, subst, arith, ◌∙◌, true, false, cond, Some, None}
+use Rattle.std.proofs.Common.{◌≡◌, ℕ, ◌≤◌, ◌<◌, List, [], ◌∷◌, ◌++◌, map, length, refl, sym, ap, subst, arith, ◌∙◌, true, false, Some, None}
 use Rattle.std.specs.Prelude.{slice_get, max, nat_le}
-use Rattle.std.specs.Option.{option_map}
 use Rattle.std.proofs.lemmas.Bool.Decides.{nat_tests}
 use Rattle.std.proofs.lemmas.List.{length-map}
 use Rattle.row_values.specs.Stamps as rule
 use Rattle.row_values.specs.Slots.{has}
 use Rattle.step_table.specs.declared.known.Entry as logged
-use Rattle.step_table.specs.Lists.{fst, Rising}
+use Rattle.step_table.specs.Lists.{fst}
 use Rattle.step_table.specs.Helds.{slots_of, parts_of, with_part}
-use Rattle.model.specs.Tablets.{Tablet}
 use Rattle.model.specs.Times.{end_of_time}
 use Rattle.model.specs.Acts.{Event}
 use Rattle.model.specs.Parts.{Outcome}
-use Rattle.model.specs.Entries.{touches, slots_of as named}
+use Rattle.model.specs.Entries.{touches}
 use Rattle.model.specs.History.{outcome, most_entries}
-use Rattle.machine_laws.specs.Views.{AnswerView, KeptView, PartView, PartAct}
-use Rattle.machine_laws.specs.Laid.{at_slot, lay, told_acts, tablet_in, kept_in, AreKinds}
+use Rattle.machine_laws.specs.Views.{AnswerView, KeptView}
+use Rattle.machine_laws.specs.Laid.{at_slot, lay, tablet_in, kept_in, AreKinds}
 use Rattle.machine_laws.specs.Faults.{ClockEnd, LogFull, first_slot, first_length, fault_of}
-use Rattle.machine_laws.specs.Core.{core_of, stamp_at, outcome_at, answer_at, first_notes}
-use Rattle.machine_laws.proofs.Slots.{rising_is}
+use Rattle.machine_laws.specs.Core.{stamp_at, outcome_at, first_notes}
 use Rattle.machine_laws.proofs.Stamps.{held_stamp, lay_meant}
-use Rattle.cluster_core.specs.declared.room.PartRoom.{PartRoom}
 use Rattle.cluster_core.specs.Tellings.{PartTelling, ActFits, meaning, no_room, clock_in}
 use Rattle.cluster_core.specs.Readies.{AllFit, AllLater, FirstHasRoom}
 use Rattle.cluster_core.specs.Coding.{coding}
 use Rattle.cluster_core.proofs.Laying.{some_is}
-use Rattle.cluster_core.proofs.Loops.{Part, Holding}
+use Rattle.cluster_core.specs.Held.{Part, Holding}
 
 -- the first part
 

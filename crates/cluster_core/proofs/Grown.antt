@@ -1,14 +1,16 @@
 -- One step of the line is one entry of the book.
-use Rattle.std.proofs.Common.{◌≡◌, ℕ, ◌+◌, ◌-◌, ◌≤◌, List, [], ◌∷◌, ◌++◌, length, refl, sym, ap, subst, arith, ◌∙◌, Option, Some, None, inl, inr, ◌⊎◌}
+use Rattle.std.proofs.Common.{◌≡◌, ℕ, ◌-◌, List, [], ◌∷◌, length, refl, sym, ap, subst, arith, ◌∙◌, Option, Some, None, inl, inr}
 use Rattle.std.specs.Option.{option_map}
-use Rattle.step_table.specs.declared.known.Entry as logged
-use Rattle.step_table.specs.Machines.{touched, next, IsStep}
+use Rattle.step_table.specs.Machines.{touched}
 use Rattle.step_table.specs.Histories.{history_of}
 use Rattle.step_line.specs.Lines.{Stepped, Declined}
 use Rattle.model.specs.Acts.{Event}
 use Rattle.model.specs.Entries.{Entry, Asked}
-use Rattle.model.specs.History.{entry_of}
-use Rattle.machine_laws.specs.Views.{AnswerView, PartView}
+use Rattle.model.specs.Parts.{Parts}
+use Rattle.model.specs.Stands.{Stands, RecordFacts}
+use Rattle.model.specs.History.{Legal, entry_of, replay, journal_of}
+use Rattle.machine_laws.specs.Laid.{parts_of}
+use Rattle.machine_laws.specs.Views.{AnswerView}
 use Rattle.machine_laws.specs.Faults as law
 use Rattle.machine_laws.specs.Faults.{StepFault, fault_after}
 use Rattle.machine_laws.specs.Past.{IsPast, book, book_entry}
@@ -19,7 +21,7 @@ use Rattle.cluster_core.specs.declared.fault.StepRefused.{StepRefused}
 use Rattle.cluster_core.specs.Causes.{fault_told, RefusedBy}
 use Rattle.cluster_core.specs.Coding.{coding}
 use Rattle.cluster_core.proofs.Laying.{some_is}
-use Rattle.cluster_core.proofs.Loops.{Part}
+use Rattle.cluster_core.specs.Held.{Part}
 
 pub may_be : (slots : ℕ) (history : List Entry) (ps : List Part) (e : Event) → IsPast slots history ps → Asked slots e → May (length ps) e
 may_be slots history ps e past asked = let size = past.size in let same : slots ≡ length ps - 1 = omega arith in (omega arith, subst (λ n. Asked n e) same asked)
@@ -60,3 +62,11 @@ pub cause_is : (slots : ℕ) (history : List Entry) (ps : List Part) (e : Event)
 cause_is slots history ps e why past asked (inl none) = subst (RefusedBy (fault_after slots e history)) (sym none) tt
 cause_is slots history ps e why past asked (inr fault) =
     by_fault (fault_after slots e history) why (sym (refusal_is coding slots history ps e past (may_be slots history ps e past asked)) ∙ fault)
+
+-- what the law says of a legal history it says of parts with that past
+
+pub stands_past : (slots : ℕ) (history : List Entry) (ps : List Part) → ((m : ℕ) (h : List Entry) → Legal m h → Stands (replay m h) (journal_of m h)) → IsPast slots history ps → Stands (parts_of ps) (journal_of slots history)
+stands_past slots history ps holds past = subst (λ (p : Parts). Stands p (journal_of slots history)) (sym past.shows) (holds slots history past.legal)
+
+pub facts_past : (slots : ℕ) (history : List Entry) (ps : List Part) → ((m : ℕ) (h : List Entry) → Legal m h → RecordFacts (replay m h) (journal_of m h)) → IsPast slots history ps → RecordFacts (parts_of ps) (journal_of slots history)
+facts_past slots history ps holds past = subst (λ (p : Parts). RecordFacts p (journal_of slots history)) (sym past.shows) (holds slots history past.legal)

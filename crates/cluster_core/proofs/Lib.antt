@@ -6,3 +6,10 @@ pub mod Firsts
 pub mod Started
 pub mod Grown
 pub mod Reading
+pub mod Changing
+pub mod Lawful
+pub mod Marking
+pub mod Due
+pub mod Booked
+pub mod Numbering
+pub mod Runs

@@ -5,20 +5,14 @@ use Rattle.std.proofs.lemmas.List.{map-append, length-map}
 use Rattle.step_table.specs.Lists.{fst, snd}
 use Rattle.step_table.specs.Helds.{slots_of, parts_of, with_part}
 use Rattle.step_table.proofs.Helds.{slots_with, parts_with}
-use Rattle.machine_laws.specs.Views.{PartView, KeptView, kept_after, clock_of}
+use Rattle.machine_laws.specs.Views.{kept_after, clock_of}
 use Rattle.machine_laws.specs.Laid.{all_after, part_after}
 use Rattle.cluster_core.specs.declared.part.PartTold.{PartTold}
-use Rattle.cluster_core.specs.declared.room.PartRoom.{PartRoom}
+use Rattle.cluster_core.specs.Held.{Part, Holding}
 use Rattle.cluster_core.specs.SeenTold.{part_telling, tellings_of}
 use Rattle.cluster_core.specs.Tellings.{PartTelling, part_act, ActFits, ActHasRoom, meaning, no_room}
 use Rattle.cluster_core.specs.Readies.{AllFit, AllCan, AllLater, FirstHasRoom}
 use Rattle.cluster_core.proofs.Laying.{some_is}
-
-abbrev pub Part : Type 0
-Part = PartView PartRoom
-
-abbrev pub Holding : Type 0
-Holding = List (ℕ × Part)
 
 -- the parts before the i-th were prepared for their acts, and the others are to be
 pub record Preparing (first held : Holding) (all acts : List PartTelling) (n i : ℕ) : Type 0 where

@@ -1,5 +1,5 @@
 -- What a read finds, place by place.
-use Rattle.std.proofs.Common.{◌≡◌, ℕ, zero, suc, ◌+◌, ◌≤◌, ◌<◌, ◌==◌, ◌||◌, Bool, true, false, List, [], ◌∷◌, ◌++◌, map, length, drop, get_or, All, eqb, cond, refl, sym, ap, subst, arith, ◌∙◌, Option, Some, None, option_map}
+use Rattle.std.proofs.Common.{◌≡◌, ℕ, zero, suc, ◌+◌, ◌≤◌, ◌<◌, ◌==◌, ◌||◌, true, false, List, [], ◌∷◌, ◌++◌, map, length, drop, get_or, All, eqb, cond, refl, sym, ap, subst, arith, ◌∙◌, Option, Some, None, option_map}
 use Rattle.std.specs.Prelude.{nat_lt}
 use Rattle.std.specs.Option.{option_or}
 use Rattle.std.proofs.lemmas.Bool.Decides.{nat_tests}
@@ -15,12 +15,11 @@ use Rattle.model.specs.Acts.{At, Read, Refusal, Refused, Rows, Fenced, StaleSche
 use Rattle.model.specs.Parts.{Parts, If, refusal_of, refusal_in, judged, unless, answered}
 use Rattle.model.specs.Entries.{touches, ActAsked, IsSlot}
 use Rattle.model.specs.RowActs.{read, none_left, first_moved, first_fence, stale, first_cutoff, rows_of_places, cut_rows}
-use Rattle.machine_laws.specs.Views.{KeptView, OfMaster, OfTablet, clock_of}
-use Rattle.machine_laws.specs.Laid.{at_slot, kept_in, tablet_in, tablet_of}
 use Rattle.machine_laws.proofs.Slots.{has_rising}
 use Rattle.cluster_core.specs.Readies.{AllLater}
 use Rattle.cluster_core.specs.Reads.{tablets_in, IsHeld, MayRead, read_checks, comes_before, put_all}
-use Rattle.cluster_core.proofs.Loops.{Part, Holding}
+use Rattle.cluster_core.specs.Held.{Holding}
+use Rattle.cluster_core.proofs.Laying.{slot_later}
 
 -- without a time no cutoff is after it
 pub no_cutoff : (places : List At) (tablet : ℕ → Tablet) → first_cutoff places None tablet ≡ None
@@ -91,19 +90,6 @@ pub places_held : (count : ℕ) (ks : List ℕ) (places : List At) (version : �
 places_held count ks places version key at columns is asked =
     let slots = map {A = At} (λ place. place.slot) places in
     all_held count ks places (λ k h. ap (λ js. has js k) is ∙ has_rising slots k ∙ h) asked.1
-
--- held clocks are below the stamp
-
-tablet_later : (k : KeptView) (n : ℕ) → 0 < n → clock_of k < n → (tablet_of k).clock < n
-tablet_later (OfMaster m) n some lt = some
-tablet_later (OfTablet t) n some lt = lt
-
-slot_later : (n : ℕ) (ks : List ℕ) (ps : List Part) (slot : ℕ) → 0 < n → AllLater n ps → (tablet_in (kept_in (at_slot ks ps slot))).clock < n
-slot_later n [] ps slot some later = some
-slot_later n (k ∷ ks) [] slot some later = some
-slot_later n (k ∷ ks) (p ∷ ps) slot some later = either_way (eqb k slot)
-    (λ t. rw t (tablet_later p.kept n some later.0))
-    (λ f. rw f (slot_later n ks ps slot some later.1))
 
 pub in_time : (at : Option ℕ) (n : ℕ) (t : Tablet) → MayRead at n t → t.cutoff ≤ t.clock → t.cutoff ≤ time_of at n
 in_time None n t right past = omega arith

@@ -1,22 +1,21 @@
 -- The empty cluster has the empty history.
-use Rattle.std.proofs.Common.{◌≡◌, ℕ, zero, suc, ◌+◌, ◌≤◌, List, [], ◌∷◌, ◌++◌, length, map, refl, sym, ap, subst, arith, ◌∙◌, replicate}
+use Rattle.std.proofs.Common.{◌≡◌, ℕ, zero, suc, ◌+◌, ◌≤◌, List, [], ◌∷◌, ◌++◌, map, refl, sym, ap, subst, arith, ◌∙◌, replicate}
 use Rattle.step_table.specs.Lists.{Every}
 use Rattle.step_table.specs.Histories.{history_of, IsNumbered}
 use Rattle.model.specs.Tablets.{emptied}
 use Rattle.model.specs.Drawn.{most_slots}
 use Rattle.model.specs.Parts.{empty_master}
 use Rattle.model.specs.History.{replay}
-use Rattle.machine_laws.specs.Views.{PartView, OfMaster, OfTablet}
+use Rattle.machine_laws.specs.Views.{OfMaster, OfTablet}
 use Rattle.machine_laws.specs.Laid.{parts_of}
 use Rattle.machine_laws.specs.Past.{IsPast, IsLegal, book}
 use Rattle.machine_laws.specs.Starts.{IsStart}
 use Rattle.machine_laws.specs.Core.{core_of}
 use Rattle.machine_laws.proofs.Started.{begun, no_history}
-use Rattle.cluster_core.specs.declared.room.PartRoom.{PartRoom}
 use Rattle.cluster_core.specs.Tellings.{no_room}
 use Rattle.cluster_core.specs.Coding.{coding}
 use Rattle.cluster_core.specs.Starts.{vacant_part, parts_up_to, first_parts}
-use Rattle.cluster_core.proofs.Loops.{Part}
+use Rattle.cluster_core.specs.Held.{Part}
 
 kept_vacant : (n : ℕ) → map (λ (p : Part). p.kept) (replicate n vacant_part) ≡ replicate n (OfTablet (emptied 0))
 kept_vacant zero = refl

@@ -6,15 +6,17 @@ use Rattle.step_table.specs.Lists.{Rising, Above}
 use Rattle.step_table.proofs.Lists.{either_way, rising_rest}
 use Rattle.row_values.specs.Slots.{has}
 use Rattle.model.specs.Tablets.{Tablet, act_for}
-use Rattle.model.specs.Parts.{MasterAct}
-use Rattle.machine_laws.specs.Views.{KeptView, OfMaster, OfTablet, PartView, ForMaster, ForTablet}
-use Rattle.machine_laws.specs.Laid.{at_slot, told_to, told_acts, tablet_in, tablet_of, kept_in, IsKind, AreKinds}
+use Rattle.model.specs.Parts.{Master}
+use Rattle.machine_laws.specs.Views.{KeptView, OfMaster, OfTablet, ForTablet}
+use Rattle.machine_laws.specs.Laid.{at_slot, told_to, told_acts, master_in, master_of, tablet_in, tablet_of, kept_in, IsKind, AreKinds}
 use Rattle.machine_laws.proofs.Laying.{is_eq, not_above}
-use Rattle.tablet_acts.specs.Tellings.{Telling, Suits, SlotTelling, told_of, act_told}
+use Rattle.master_part.specs.declared.act.MasterAct.{MasterAct}
+use Rattle.master_part.specs.Acts.{May}
+use Rattle.tablet_acts.specs.Tellings.{Suits, SlotTelling, told_of, act_told}
 use Rattle.cluster_core.specs.declared.part.PartTold.{PartTold}
-use Rattle.cluster_core.specs.declared.room.PartRoom.{PartRoom}
+use Rattle.cluster_core.specs.Held.{Part}
 use Rattle.cluster_core.specs.SeenTold.{part_telling, tellings_of}
-use Rattle.cluster_core.specs.Tellings.{PartTelling, TellMaster, TellTablet, part_act, ActFits}
+use Rattle.cluster_core.specs.Tellings.{TellTablet, part_act, ActFits}
 use Rattle.cluster_core.specs.Plans.{EventPlanView, outcome_of, telling_for, tell_to, tell_all, AllSuit}
 use Rattle.cluster_core.specs.Readies.{AllFit}
 use Rattle.cluster_core.proofs.Laying.{some_is}
@@ -92,25 +94,28 @@ suits_for (t ∷ ts) n at k suits = either_way (eqb t.slot k)
     (λ e. rw e (subst (λ j. Suits t.telling n (at j)) (is_eq t.slot k e) suits.0))
     (λ e. rw e (suits_for ts n at k suits.1))
 
-one_fits : (a : MasterAct) (ts : List SlotTelling) (n : ℕ) (at : ℕ → Tablet) (k : ℕ) (p : KeptView) → IsKind k p → at k ≡ tablet_of p → AllSuit ts n at → ActFits (tell_to a ts k) n p
-one_fits a ts n at zero (OfMaster m) is e suits = tt
-one_fits a ts n at zero (OfTablet t) is e suits = is
-one_fits a ts n at (suc k) (OfMaster m) is e suits = is
-one_fits a ts n at (suc k) (OfTablet t) is e suits = subst (Suits (telling_for ts (suc k)) n) e (suits_for ts n at (suc k) suits)
+module _ (a : MasterAct) (ts : List SlotTelling) (n : ℕ) (m : Master) (at : ℕ → Tablet) (may : May a n m) (suits : AllSuit ts n at) where
+  one_fits : (k : ℕ) (p : KeptView) → IsKind k p → (k ≡ 0 → m ≡ master_of p) → at k ≡ tablet_of p → ActFits (tell_to a ts k) n p
+  one_fits zero (OfMaster x) is master e = subst (May a n) (master refl) may
+  one_fits zero (OfTablet t) is master e = is
+  one_fits (suc k) (OfMaster x) is master e = is
+  one_fits (suc k) (OfTablet t) is master e = subst (Suits (telling_for ts (suc k)) n) e (suits_for ts n at (suc k) suits)
 
-pub all_fit : (a : MasterAct) (ts : List SlotTelling) (n : ℕ) (at : ℕ → Tablet) (ks : List ℕ) (ps : List (PartView PartRoom)) → ((k : ℕ) → has ks k ≡ true → at k ≡ tablet_in (kept_in (at_slot ks ps k)))
-    → Rising ks → length ps ≡ length ks → AreKinds ks ps → AllSuit ts n at → AllFit (tell_all a ts ks) n ps
-all_fit a ts n at [] [] same up len kinds suits = tt
-all_fit a ts n at [] (p ∷ ps) same up len kinds suits = absurd (omega arith)
-all_fit a ts n at (k ∷ ks) [] same up len kinds suits = absurd (omega arith)
-all_fit a ts n at (k ∷ ks) (p ∷ ps) same up len kinds suits =
-    let here : eqb k k ≡ true = grind (arith, nat_tests) in
-    let e : at k ≡ tablet_of p.kept = same k (ap (λ b. b || has ks k) here) ∙ ap (λ b. tablet_in (kept_in (cond b (Some p) (at_slot ks ps k)))) here in (
-      one_fits a ts n at k p.kept kinds.0 e suits,
-      all_fit a ts n at ks ps
-          (λ j h. let ne : eqb k j ≡ false = (let l = not_above k j ks up h in grind (arith, nat_tests)) in same j (ap (λ b. b || has ks j) ne ∙ h) ∙ ap (λ b. tablet_in (kept_in (cond b (Some p) (at_slot ks ps j)))) ne)
-          (rising_rest k ks up) (omega arith) kinds.1 suits,
-    )
+  pub all_fit : (ks : List ℕ) (ps : List Part) → (has ks 0 ≡ true → m ≡ master_in (kept_in (at_slot ks ps 0))) → ((k : ℕ) → has ks k ≡ true → at k ≡ tablet_in (kept_in (at_slot ks ps k)))
+      → Rising ks → length ps ≡ length ks → AreKinds ks ps → AllFit (tell_all a ts ks) n ps
+  all_fit [] [] master same up len kinds = tt
+  all_fit [] (p ∷ ps) master same up len kinds = absurd (omega arith)
+  all_fit (k ∷ ks) [] master same up len kinds = absurd (omega arith)
+  all_fit (k ∷ ks) (p ∷ ps) master same up len kinds =
+      let here : eqb k k ≡ true = grind (arith, nat_tests) in
+      let e : at k ≡ tablet_of p.kept = same k (ap (λ b. b || has ks k) here) ∙ ap (λ b. tablet_in (kept_in (cond b (Some p) (at_slot ks ps k)))) here in
+      let is : k ≡ 0 → m ≡ master_of p.kept = λ z. let t : eqb k 0 ≡ true = grind (arith, nat_tests) in master (ap (λ b. b || has ks 0) t) ∙ ap (λ b. master_in (kept_in (cond b (Some p) (at_slot ks ps 0)))) t in (
+        one_fits k p.kept kinds.0 is e,
+        all_fit ks ps
+            (λ h. let ne : eqb k 0 ≡ false = (let l = not_above k 0 ks up h in grind (arith, nat_tests)) in master (ap (λ b. b || has ks 0) ne ∙ h) ∙ ap (λ b. master_in (kept_in (cond b (Some p) (at_slot ks ps 0)))) ne)
+            (λ j h. let ne : eqb k j ≡ false = (let l = not_above k j ks up h in grind (arith, nat_tests)) in same j (ap (λ b. b || has ks j) ne ∙ h) ∙ ap (λ b. tablet_in (kept_in (cond b (Some p) (at_slot ks ps j)))) ne)
+            (rising_rest k ks up) (omega arith) kinds.1,
+      )
 
 pub lined : (p : EventPlanView) (a : MasterAct) (ts : List SlotTelling) (ks : List ℕ) → a ≡ p.master → ts ≡ p.tablets → tell_all a ts ks ≡ tell_all p.master p.tablets ks
 lined p a ts ks master tablets = ap (λ x. tell_all x ts ks) master ∙ ap (λ xs. tell_all p.master xs ks) tablets

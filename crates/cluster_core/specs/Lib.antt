@@ -1,8 +1,8 @@
 pub mod Served
-pub mod SeenActs
 pub mod Tellings
 pub mod SeenTold
 pub mod SeenKept
+pub mod Held
 pub mod Plans
 pub mod Reads
 pub mod Readies
@@ -10,3 +10,5 @@ pub mod Causes
 pub mod Coding
 pub mod Starts
 pub mod Views
+pub mod Logs
+pub mod Runs

@@ -4,19 +4,16 @@ use Rattle.row_values.specs.declared.rows.KeyedRow.{KeyedRow}
 use Rattle.row_values.specs.Elements.{put_in}
 use Rattle.row_values.specs.Slots.{has}
 use Rattle.row_values.specs.Store.{precedes}
-use Rattle.step_table.specs.Helds.{slots_of, parts_of}
 use Rattle.model.specs.Times.{time_of, is_future}
 use Rattle.model.specs.Tablets.{Tablet}
 use Rattle.model.specs.Acts.{At, Fenced, StaleSchema, Future, TooOld}
 use Rattle.model.specs.Parts.{Check, If, Names, Fault}
 use Rattle.model.specs.RowActs.{first_moved, first_fence, stale, first_cutoff}
-use Rattle.machine_laws.specs.Views.{PartView}
-use Rattle.machine_laws.specs.Laid.{lay}
-use Rattle.cluster_core.specs.declared.room.PartRoom.{PartRoom}
+use Rattle.cluster_core.specs.Held.{Holding, laid}
 
 -- the tablets of held parts in their slots
-abbrev pub tablets_in : List (ℕ × PartView PartRoom) → ℕ → Tablet
-tablets_in held = (lay (slots_of held) (parts_of held)).tablet
+abbrev pub tablets_in : Holding → ℕ → Tablet
+tablets_in held = (laid held).tablet
 
 -- a place is a tablet's, and its part is held
 abbrev pub IsHeld : List ℕ → At → Type 0

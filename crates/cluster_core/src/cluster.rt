@@ -1,7 +1,9 @@
-ghost use Rattle.std.specs.Prelude.{◌≡◌, ◌∷◌, [], ◌≤◌, None, IfOk, IfErr, OnOk, OnErr};
+ghost use Rattle.std.specs.Prelude.{◌≡◌, ◌∷◌, [], ◌≤◌, length, reverse, None, IfOk, IfErr, OnOk, OnErr};
 ghost use Rattle.model.specs.Entries.{Asked};
 ghost use Rattle.model.specs.Drawn.{most_slots};
-ghost use Rattle.model.specs.History.{Legal, entry_of, replay};
+ghost use Rattle.model.specs.History.{Legal, entry_of, replay, journal_of, activity_of};
+ghost use Rattle.model.specs.Replies.{Right};
+ghost use Rattle.model.specs.Stands.{Divides, RecordFacts, Stands};
 ghost use Rattle.step_table.specs.Histories.{history_of};
 ghost use Rattle.machine_laws.specs.Laid.{parts_of};
 ghost use Rattle.machine_laws.specs.Faults.{fault_after};
@@ -12,11 +14,14 @@ ghost use Rattle.cluster_core.specs.Causes.{RefusedBy};
 ghost use Rattle.cluster_core.specs.Coding.{coding};
 
 use crate::answer::Answer;
+use crate::entries::Entries;
 use crate::event::ServedEvent;
 use crate::fault::StepRefused;
+use crate::history::History;
 use crate::machine::ClusterMachine;
 use crate::start::first_line;
 use cluster_events::Event;
+use law::legal_is_right;
 use row_values::NoMemory;
 use std::alloc::Global;
 use std::marker::Model;
@@ -58,7 +63,9 @@ impl<V: VersionStore> Cluster<V> {
     }
 
     /// Performs an event: the history has one entry more, which is the book's, and stays legal; the parts
-    /// are its replay. Where it is not performed, the history and the parts are as they were.
+    /// are its replay. Where it is not performed, the history and the parts are as they were. A legal
+    /// history is right: each reply has its cause in the journal, for which the parts and their records
+    /// stand, and the ranges of a table's tablets cover the codes, none twice.
     pub fn step(&mut self, event: Event) -> Result<Answer, StepRefused>
         requires served { IsServed event.act }
         requires asked { Asked self.old.slots event }
@@ -72,8 +79,43 @@ impl<V: VersionStore> Cluster<V> {
         ensures same { OnErr result (self.new.parts ≡ self.old.parts) }
         ensures legal { Legal self.new.slots self.new.history }
         ensures parts { parts_of self.new.parts ≡ replay self.new.slots self.new.history }
+        ensures right { Right self.new.slots self.new.history }
+        ensures stands { Stands (parts_of self.new.parts) (journal_of self.new.slots self.new.history) }
+        ensures facts { RecordFacts (parts_of self.new.parts) (journal_of self.new.slots self.new.history) }
+        ensures cover { Divides (activity_of self.new.slots self.new.history) (journal_of self.new.slots self.new.history) }
     {
+        legal_is_right();
         step_in(&mut self.line, self.slots, ServedEvent::of(event))
+    }
+
+    /// The number of entries.
+    pub fn len(&self) -> u64
+        ensures count { result ≡ length self.now.history }
+    {
+        self.line.len()
+    }
+
+    /// The history in order of number. It takes memory for a place an entry.
+    pub fn entries(&self) -> Result<Entries<'_>, NoMemory>
+        ensures exact { IfOk result (λ entries. entries ≡ reverse self.now.history) }
+    {
+        Entries::of(&self.line)
+    }
+
+    /// The history alone.
+    pub fn into_history(self) -> History<V>
+        ensures same { result ≡ self.history }
+    {
+        let Cluster { line, slots: _ } = self;
+        History::of(line)
+    }
+
+    /// That the history is legal, and the parts are its replay. It does nothing.
+    pub fn is_past(&self)
+        ensures legal { Legal self.now.slots self.now.history }
+        ensures parts { parts_of self.now.parts ≡ replay self.now.slots self.now.history }
+    {
+        let _ = &self.slots;
     }
 }
 

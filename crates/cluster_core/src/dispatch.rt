@@ -1,28 +1,27 @@
 //! What an event comes to, by its act.
-ghost use Rattle.std.specs.Prelude.{◌≡◌, ◌<◌, ℕ, IfOk};
-ghost use Rattle.step_table.specs.Helds.{slots_of, parts_of};
-ghost use Rattle.model.specs.Entries.{touches, ActAsked};
-ghost use Rattle.model.specs.History as book;
+ghost use Rattle.std.specs.Prelude.{IfOk};
 ghost use Rattle.cluster_events.specs.SeenActs.{act_of};
-ghost use Rattle.machine_laws.specs.Laid.{lay, AreKinds};
-ghost use Rattle.cluster_core.specs.Readies.{AllLater};
 ghost use Rattle.cluster_core.specs.Served.{IsServed};
-ghost use Rattle.cluster_core.specs.Plans.{outcome_of, AllSuit};
+ghost use Rattle.cluster_core.specs.Plans.{MayPlan, IsPlan};
 
-use crate::held::tablet_in;
+use crate::changes::plan_change;
+use crate::coordination::{plan_ack, plan_advance, plan_send};
+use crate::cutoffs::plan_cutoff;
+use crate::looks::plan_look;
+use crate::on_tablet::{plan_compact, plan_stats, plan_write};
 use crate::outcome::EventPlan;
 use crate::part::ClusterPart;
-use crate::reads::read;
-use crate::restart::restart;
+use crate::processing::plan_process;
+use crate::reads::plan_read;
+use crate::restart::plan_restart;
 use cluster_events::Act;
 use hybrid_time::HybridTime;
 use row_values::NoMemory;
 use std::alloc::Global;
 use step_table::Held;
-use tablet_acts::{compact, stats, write};
 use versions::VersionStore;
 
-#[tactic(auto, using(crate::proofs::OneTablet::write_at, crate::proofs::OneTablet::compact_at, crate::proofs::OneTablet::stats_at, crate::proofs::OneTablet::suits_at, crate::proofs::OneTablet::touched_rise, crate::proofs::OneTablet::touched_one))]
+/// What each of the held parts is told by an act at a stamp, and the reply. It only reads.
 pub(crate) fn plan<V: VersionStore>(
     alloc: Global,
     held: &Held<ClusterPart<V>>,
@@ -30,59 +29,32 @@ pub(crate) fn plan<V: VersionStore>(
     n: HybridTime,
 ) -> Result<EventPlan<V>, NoMemory>
     requires served { IsServed (act_of act.now) }
-    requires slots { slots_of held.now ≡ touches (act_of act.now) }
-    requires kinds { AreKinds (slots_of held.now) (parts_of held.now) }
-    requires later { AllLater n (parts_of held.now) }
-    requires begun { 0 < n }
-    requires asked { (count : ℕ) × ActAsked count (act_of act.now) }
-    ensures outcome { IfOk result (λ p. outcome_of p ≡ book.outcome (act_of act.now) n (lay (slots_of held.now) (parts_of held.now))) }
-    ensures suits { IfOk result (λ p. AllSuit p.tablets n (lay (slots_of held.now) (parts_of held.now)).tablet) }
+    requires may { MayPlan (act_of act.now) n held.now }
+    ensures plan { IfOk result (IsPlan (act_of act.now) n held.now) }
 {
     match act {
         Act::Write {
             place,
             version,
             batch,
-        } => {
-            let part = tablet_in(held, place.slot);
-            let plan = write(alloc, part, place, *version, batch)?;
-            Ok(EventPlan::of_tablets(plan))
-        }
-        Act::Compact { slot } => {
-            let plan = compact(alloc, tablet_in(held, *slot), *slot)?;
-            Ok(EventPlan::of_tablets(plan))
-        }
-        Act::Restart { slot } => restart(alloc, *slot),
-        Act::Stats { slot } => {
-            let plan = stats(alloc, tablet_in(held, *slot), *slot);
-            Ok(EventPlan::of_tablets(plan))
-        }
-        Act::Look(_) => unreachable!(),
-        Act::Change { .. } => unreachable!(),
+        } => plan_write(alloc, held, place, *version, batch, n),
+        Act::Compact { slot } => plan_compact(alloc, held, *slot, n),
+        Act::Restart { slot } => plan_restart(alloc, *slot),
+        Act::Stats { slot } => Ok(plan_stats(alloc, held, *slot, n)),
+        Act::Look(ask) => plan_look(alloc, held, ask, n),
+        Act::Change { command, slots } => plan_change(alloc, held, command, slots, n),
         Act::Read {
             places,
             version,
             key,
             at,
             columns,
-        } => {
-            let plan = read(
-                alloc,
-                held,
-                places.as_slice(),
-                *version,
-                key,
-                at,
-                columns,
-                n,
-            )?;
-            Ok(EventPlan::of_tablets(plan))
-        }
-        Act::Cutoff { .. } => unreachable!(),
-        Act::Send { .. } => unreachable!(),
-        Act::Process { .. } => unreachable!(),
-        Act::Ack { .. } => unreachable!(),
-        Act::Advance { .. } => unreachable!(),
+        } => plan_read(alloc, held, places, *version, key, at, columns, n),
+        Act::Cutoff { slot } => plan_cutoff(alloc, held, *slot, n),
+        Act::Send { operation, slot } => plan_send(alloc, held, operation, *slot, n),
+        Act::Process { slot, other } => plan_process(alloc, held, *slot, *other, n),
+        Act::Ack { operation, slot } => plan_ack(alloc, held, operation, *slot, n),
+        Act::Advance { operation } => plan_advance(alloc, held, operation, n),
         Act::Remove { .. } => unreachable!(),
         Act::Prune => unreachable!(),
     }

@@ -4,37 +4,48 @@
 //! and in a table of locks. What takes memory comes first and may fail; then the touched parts do what
 //! they are told, and the first of their logs has one entry more.
 //!
-//! The events that are served are those on tablets: writes, compactions, counts and restarts. Of the
-//! master only its clock has code yet.
+//! Served are the events on tablets (writes, reads, cutoffs, compactions, counts and restarts), the looks
+//! and commands that the master's crates answer, and what a coordinator does: it sends commands, has
+//! tablets do them, notes that they did, and completes a snapshot. The other acts have no code yet.
 #![tactic(auto)]
 
 mod answer;
+mod changes;
 mod cluster;
+mod coordination;
+mod cutoffs;
 mod dispatch;
+mod entries;
 mod event;
 mod fault;
 mod held;
+mod history;
 mod line_up;
+mod looks;
 mod machine;
-mod master;
+mod on_tablet;
 mod outcome;
 mod part;
 mod parts;
 mod prepare;
+mod processing;
 mod reads;
 mod ready;
 mod restart;
 mod room;
 mod rows;
-mod slots;
+mod run;
 mod start;
 mod touch;
 
 pub use answer::Answer;
 pub use cluster::Cluster;
+pub use entries::{Entries, Logged};
 pub use event::ServedEvent;
 pub use fault::StepRefused;
+pub use history::History;
 pub use machine::ClusterMachine;
 pub use part::ClusterPart;
 pub use ready::EventReady;
 pub use room::PartRoom;
+pub use run::StoppedAt;

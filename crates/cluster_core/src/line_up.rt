@@ -3,12 +3,11 @@ ghost use Rattle.std.specs.Prelude.{◌≡◌, ◌≢◌, ℕ, IfOk};
 ghost use Rattle.step_table.specs.Lists.{Rising};
 ghost use Rattle.step_table.specs.Helds.{slots_of};
 ghost use Rattle.tablet_acts.specs.Seen.{telling_of};
-ghost use Rattle.cluster_core.specs.SeenActs.{master_act_of};
 ghost use Rattle.cluster_core.specs.SeenTold.{part_telling, tellings_of};
 ghost use Rattle.cluster_core.specs.Plans.{telling_for, tell_to, tell_all};
 
-use crate::master::MasterAct;
 use crate::part::{ClusterPart, PartTold};
+use master_part::MasterAct;
 use row_values::NoMemory;
 use std::alloc::Global;
 use step_table::Held;
@@ -36,8 +35,8 @@ fn take_told<V: VersionStore>(
     tablets: &mut Vec<SlotTold<V>>,
     slot: u32,
 ) -> PartTold<V>
-    ensures told { part_telling result ≡ tell_to (master_act_of master.old) tablets.old.items slot }
-    ensures others { (k : ℕ) → k ≢ slot → tell_to (master_act_of master.new) tablets.new.items k ≡ tell_to (master_act_of master.old) tablets.old.items k }
+    ensures told { part_telling result ≡ tell_to master.old tablets.old.items slot }
+    ensures others { (k : ℕ) → k ≢ slot → tell_to master.new tablets.new.items k ≡ tell_to master.old tablets.old.items k }
 {
     if slot == 0 {
         return PartTold::Master(std::mem::replace(master, MasterAct::Ticks));
@@ -53,7 +52,7 @@ pub(crate) fn line_up<V: VersionStore>(
     tablets: Vec<SlotTold<V>>,
 ) -> Result<Vec<PartTold<V>>, NoMemory>
     requires rising { Rising (slots_of held.now) }
-    ensures told { IfOk result (λ acts. tellings_of acts.items ≡ tell_all (master_act_of master) tablets.items (slots_of held.now)) }
+    ensures told { IfOk result (λ acts. tellings_of acts.items ≡ tell_all master tablets.items (slots_of held.now)) }
 {
     let mut master = master;
     let mut tablets = tablets;

@@ -1,10 +1,14 @@
-ghost use Rattle.std.specs.Prelude.{◌≡◌};
+ghost use Rattle.std.specs.Prelude.{◌≡◌, ℕ};
 ghost use Rattle.cluster_events.specs.SeenReplies.{reply_of};
-ghost use Rattle.model.specs.Parts.{Ticks};
-ghost use Rattle.cluster_core.specs.SeenActs.{master_act_of};
+ghost use Rattle.model.specs.Parts.{Master, answered};
+ghost use Rattle.master_part.specs.Acts.{May};
+ghost use Rattle.tablet_acts.specs.Tellings as tablets;
+ghost use Rattle.cluster_core.specs.Held.{Holding};
+ghost use Rattle.cluster_core.specs.Plans.{outcome_of, ComesTo};
 
-use crate::master::MasterAct;
 use cluster_events::Reply;
+use master_part::MasterAct;
+use std::alloc::Global;
 use std::marker::Model;
 use tablet_acts::{SlotTold, TabletsPlan};
 use versions::VersionStore;
@@ -19,18 +23,19 @@ pub(crate) struct EventPlan<V: VersionStore> {
 
 impl<V: VersionStore> Model for EventPlan<V> {
     ghost use Rattle.cluster_events.specs.SeenReplies.{reply_of};
-    ghost use Rattle.cluster_core.specs.SeenActs.{master_act_of};
     ghost use Rattle.cluster_core.specs.Plans.{EventPlanView};
 
     ghost Value = { EventPlanView };
 
-    ghost view = { λ p. record { master = master_act_of p.master; tablets = p.tablets.items; reply = reply_of p.reply } };
+    ghost view = { λ p. record { master = p.master; tablets = p.tablets.items; reply = reply_of p.reply } };
 }
 
 impl<V: VersionStore> EventPlan<V> {
     /// The master is told nothing.
     pub(crate) fn of_tablets(plan: TabletsPlan<V>) -> EventPlan<V>
-        ensures exact { result ≡ record { master = Ticks; tablets = plan.tablets; reply = plan.reply } }
+        ensures outcome { outcome_of result ≡ tablets.outcome_of plan }
+        ensures tablets { result.tablets ≡ plan.tablets }
+        ensures may { (n : ℕ) (m : Master) → May result.master n m }
     {
         let TabletsPlan { tablets, reply } = plan;
         EventPlan {
@@ -40,8 +45,19 @@ impl<V: VersionStore> EventPlan<V> {
         }
     }
 
+    /// No part is told anything.
+    pub(crate) fn answered(alloc: Global, reply: Reply) -> EventPlan<V>
+        ensures plan { (n : ℕ) (held : Holding) → ComesTo (answered (reply_of reply)) n held result }
+    {
+        EventPlan {
+            master: MasterAct::Ticks,
+            tablets: Vec::new(alloc),
+            reply,
+        }
+    }
+
     pub(crate) fn into_parts(self) -> (MasterAct, Vec<SlotTold<V>>, Reply)
-        ensures master { master_act_of result.0 ≡ self.master }
+        ensures master { result.0 ≡ self.master }
         ensures tablets { result.1.items ≡ self.tablets }
         ensures reply { reply_of result.2 ≡ self.reply }
     {

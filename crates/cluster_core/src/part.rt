@@ -1,13 +1,13 @@
 //! The parts of a cluster: the master's, and a tablet's in each slot from 1 on, each with its log.
 ghost use Rattle.std.specs.Prelude.{ℕ, ◌≡◌, ◌≤◌, ◌<◌, ◌++◌, ◌∷◌, [], length, IfOk, OnOk};
 ghost use Rattle.machine_laws.specs.Views.{OfMaster, OfTablet, clock_of, kept_after};
-ghost use Rattle.cluster_core.specs.Tellings.{IsTablet, part_act, ActFits, ActHasRoom};
+ghost use Rattle.cluster_core.specs.Tellings.{IsMaster, IsTablet, part_act, ActFits, ActHasRoom};
 ghost use Rattle.cluster_core.specs.SeenTold.{part_telling};
 
 use crate::answer::Answer;
 use crate::event::ServedEvent;
-use crate::master::{MasterAct, MasterPart};
 use hybrid_time::HybridTime;
+use master_part::{MasterAct, MasterPart};
 use row_values::NoMemory;
 use std::alloc::Global;
 use std::marker::Model;
@@ -47,7 +47,7 @@ impl<V: VersionStore> Model for ClusterPart<V> {
     ghost use Rattle.std.specs.Prelude.{◌-◌, vec_len, vec_capacity};
     ghost use Rattle.machine_laws.specs.Views.{PartView};
     ghost use Rattle.cluster_core.specs.declared.room.PartRoom.{PartRoom};
-    ghost use Rattle.cluster_core.specs.SeenKept.{kept_of, versions_room, inbox_room};
+    ghost use Rattle.cluster_core.specs.SeenKept.{kept_of, versions_room, inbox_room, master_room};
 
     ghost Value = { PartView PartRoom };
 
@@ -58,6 +58,7 @@ impl<V: VersionStore> Model for ClusterPart<V> {
         log = vec_capacity p.body.value.log - vec_len p.body.value.log;
         versions = versions_room p.body.value.kept;
         inbox = inbox_room p.body.value.kept;
+        master = master_room p.body.value.kept;
       };
     } };
 }
@@ -65,7 +66,7 @@ impl<V: VersionStore> Model for ClusterPart<V> {
 impl<V: VersionStore> ClusterPart<V> {
     /// The master's part.
     pub(crate) fn of_master(alloc: Global, master: MasterPart) -> Result<ClusterPart<V>, NoMemory>
-        ensures kept { IfOk result (λ p. p.kept ≡ OfMaster master) }
+        ensures kept { IfOk result (λ p. p.kept ≡ OfMaster master.master) }
         ensures log { IfOk result (λ p. p.log ≡ []) }
     {
         let body = Body {
@@ -115,6 +116,17 @@ impl<V: VersionStore> ClusterPart<V> {
         }
     }
 
+    /// The master's part.
+    pub(crate) fn master(&self) -> &MasterPart
+        requires master { IsMaster self.now.kept }
+        ensures master { self.now.kept ≡ OfMaster result.now.master }
+    {
+        match &self.body.kept {
+            Kept::Master(master) => master,
+            Kept::Tablet(_) => unreachable!(),
+        }
+    }
+
     /// The allocator of the log. No clause speaks of an allocator.
     pub(crate) fn allocator(&self) -> Global
         ensures kept { self.now ≡ self.now }
@@ -127,6 +139,13 @@ impl<V: VersionStore> ClusterPart<V> {
         ensures count { result ≡ length self.now.log }
     {
         self.body.log.len() as u64
+    }
+
+    /// The entries of the log, the first one first.
+    pub(crate) fn entries(&self) -> &[Entry<ServedEvent, Answer>]
+        ensures entries { result.now ≡ self.now.log }
+    {
+        self.body.log.as_slice()
     }
 
     /// Makes room for one entry.
@@ -158,7 +177,8 @@ impl<V: VersionStore> ClusterPart<V> {
     {
         match (&mut self.body.kept, told) {
             (Kept::Tablet(tablet), PartTold::Tablet(told)) => told.prepare(tablet),
-            _ => Ok(()),
+            (Kept::Master(master), PartTold::Master(act)) => master.prepare(act),
+            _ => unreachable!(),
         }
     }
 

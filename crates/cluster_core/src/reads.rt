@@ -4,15 +4,19 @@ ghost use Rattle.step_table.specs.Lists.{Rising};
 ghost use Rattle.step_table.specs.Helds.{slots_of, parts_of};
 ghost use Rattle.row_values.specs.Elements.{in_order};
 ghost use Rattle.model.specs.Times.{time_of, is_below};
+ghost use Rattle.model.specs.Acts.{Read};
 ghost use Rattle.model.specs.Parts.{refusal_in};
 ghost use Rattle.model.specs.RowActs as book;
 ghost use Rattle.cluster_events.specs.SeenReplies.{refusal_of};
-ghost use Rattle.machine_laws.specs.Laid.{lay, AreKinds};
+ghost use Rattle.machine_laws.specs.Laid.{AreKinds};
 ghost use Rattle.tablet_acts.specs.Tellings.{outcome_of};
+ghost use Rattle.cluster_core.specs.Held.{laid};
 ghost use Rattle.cluster_core.specs.Readies.{AllLater};
+ghost use Rattle.cluster_core.specs.Plans.{MayPlan, IsPlan};
 ghost use Rattle.cluster_core.specs.Reads.{tablets_in, IsHeld, MayRead, read_checks, comes_before};
 
-use crate::held::tablet_in;
+use crate::held::{slot_of, tablet_in};
+use crate::outcome::EventPlan;
 use crate::part::ClusterPart;
 use crate::rows::{add_rows, cut_rows};
 use cluster_events::{At, Refusal, Reply};
@@ -32,13 +36,7 @@ fn part_at<'a, V: VersionStore>(held: &'a Held<ClusterPart<V>>, place: &At) -> &
     requires held { IsHeld (slots_of held.now) place.now }
     ensures tablet { tablets_in held.now place.now.slot ≡ result.now.tablet }
 {
-    tablet_in(held, place.slot)
-}
-
-fn slot_of(place: &At) -> u32
-    ensures slot { result ≡ place.now.slot }
-{
-    place.slot
+    tablet_in(held, slot_of(place))
 }
 
 fn wanted_of(place: &At) -> Ident
@@ -280,7 +278,7 @@ fn rows_of_places<V: VersionStore>(
 
 /// A read of all rows of places or of a key's, at a time or at the stamp.
 #[tactic(auto, using(crate::proofs::Reading::may_read, crate::proofs::Reading::read_refused, crate::proofs::Reading::read_done))]
-pub(crate) fn read<V: VersionStore>(
+fn read<V: VersionStore>(
     alloc: Global,
     held: &Held<ClusterPart<V>>,
     places: &[At],
@@ -295,7 +293,7 @@ pub(crate) fn read<V: VersionStore>(
     requires held { All (IsHeld (slots_of held.now)) places.now }
     requires later { AllLater stamp (parts_of held.now) }
     requires begun { 0 < stamp }
-    ensures outcome { IfOk result (λ p. outcome_of p ≡ book.read places.now version key.now at.now columns.now stamp (lay (slots_of held.now) (parts_of held.now))) }
+    ensures outcome { IfOk result (λ p. outcome_of p ≡ book.read places.now version key.now at.now columns.now stamp (laid held.now)) }
     ensures none { IfOk result (λ p. p.tablets ≡ []) }
 {
     if let Some(why) = read_refusal(held, places, version, key, at, stamp) {
@@ -304,4 +302,31 @@ pub(crate) fn read<V: VersionStore>(
     let rows = rows_of_places(alloc, held, places, key, at, stamp)?;
     let shown = cut_rows(alloc, rows.as_slice(), columns.as_slice())?;
     Ok(TabletsPlan::answered(alloc, Reply::Rows(shown)))
+}
+
+/// A read of rows.
+pub(crate) fn plan_read<V: VersionStore>(
+    alloc: Global,
+    held: &Held<ClusterPart<V>>,
+    places: &Records<At>,
+    version: u32,
+    key: &Option<Key>,
+    at: &Option<HybridTime>,
+    columns: &Slots,
+    stamp: HybridTime,
+) -> Result<EventPlan<V>, NoMemory>
+    requires may { MayPlan (Read places.now version key.now at.now columns.now) stamp held.now }
+    ensures plan { IfOk result (IsPlan (Read places.now version key.now at.now columns.now) stamp held.now) }
+{
+    let plan = read(
+        alloc,
+        held,
+        places.as_slice(),
+        version,
+        key,
+        at,
+        columns,
+        stamp,
+    )?;
+    Ok(EventPlan::of_tablets(plan))
 }

@@ -1,12 +1,11 @@
-ghost use Rattle.std.specs.Prelude.{ℕ, ◌≡◌, IfOk};
-ghost use Rattle.model.specs.Tablets.{Tablet};
-ghost use Rattle.model.specs.Parts.{Parts};
-ghost use Rattle.model.specs.RowActs as book;
-ghost use Rattle.cluster_core.specs.Plans.{outcome_of, AllSuit};
+ghost use Rattle.std.specs.Prelude.{ℕ, IfOk};
+ghost use Rattle.model.specs.Acts.{Restart};
+ghost use Rattle.cluster_core.specs.Held.{Holding};
+ghost use Rattle.cluster_core.specs.Plans.{IsPlan};
 
-use crate::master::MasterAct;
 use crate::outcome::EventPlan;
 use cluster_events::Reply;
+use master_part::MasterAct;
 use row_values::{NoMemory, Records};
 use std::alloc::Global;
 use tablet_acts::{TabletTold, TabletsPlan};
@@ -14,9 +13,11 @@ use versions::VersionStore;
 
 /// A restart of the master, whose slot is 0, or of a tablet.
 #[tactic(auto, unfolding(model::specs::RowActs::restart))]
-pub(crate) fn restart<V: VersionStore>(alloc: Global, slot: u32) -> Result<EventPlan<V>, NoMemory>
-    ensures plan { IfOk result (λ p. (n : ℕ) (ps : Parts) → outcome_of p ≡ book.restart slot n ps) }
-    ensures suits { IfOk result (λ p. (n : ℕ) (at : ℕ → Tablet) → AllSuit p.tablets n at) }
+pub(crate) fn plan_restart<V: VersionStore>(
+    alloc: Global,
+    slot: u32,
+) -> Result<EventPlan<V>, NoMemory>
+    ensures plan { IfOk result (λ p. (n : ℕ) (held : Holding) → IsPlan (Restart slot) n held p) }
 {
     let reply = Reply::Ok {
         made: Records::new(alloc),

@@ -5,8 +5,8 @@ ghost use Rattle.cluster_core.specs.Tellings.{meaning};
 ghost use Rattle.cluster_core.specs.Starts.{first_parts, vacant_part};
 
 use crate::machine::ClusterMachine;
-use crate::master::MasterPart;
 use crate::part::ClusterPart;
+use master_part::MasterPart;
 use row_values::{NoMemory, Records};
 use std::alloc::Global;
 use step_line::Line;
@@ -24,7 +24,8 @@ fn all_parts<V: VersionStore>(alloc: Global, slots: u32) -> Result<Vec<ClusterPa
     ensures exact { IfOk result (λ parts. map meaning parts.items ≡ first_parts slots) }
 {
     let mut parts = Vec::new(alloc);
-    parts.push(ClusterPart::of_master(alloc, MasterPart::empty(slots))?)?;
+    let master = MasterPart::empty(alloc, slots)?;
+    parts.push(ClusterPart::of_master(alloc, master)?)?;
     for _ in 0..slots {
         parts.push(vacant(alloc)?)?;
     }

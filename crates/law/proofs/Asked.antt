@@ -5,7 +5,7 @@ use Rattle.std.proofs.lemmas.Bool.{true≢false}
 use Rattle.model.specs.Cluster.{Id, same, In, Interval, holds_at, TableRecord, kept_from, owner_of, tables_at, Fencing, RestorationRecord, CloneRecord, Schedule as ScheduleRecord, schedule_with, Master, Parts, Outcome, If, decided, judged, refused, Fence, same_slots}
 use Rattle.model.specs.Restored.{record_at}
 use Rattle.model.specs.Journal.{Change as Made, TableView, is_in, table_at}
-use Rattle.model.specs.Acts.{Command, CreateNamespace, DropNamespace, CreateTable, AddColumn, DropColumn, RenameTable, DropTable, Split, CreateSchedule, EditSchedule, DeleteSchedule, TakeSnapshot, Restore, CloneNamespace, ListSchedules, ListSnapshots, ListRestorations, ListClones, ListTablets, Refusal, UnknownSchedule, StalePlan, making_of, Making, ANamespace, ATable, TwoTablets, ASchedule, ASnapshot, ARestoration, AClone, Nothing}
+use Rattle.model.specs.Acts.{Command, CreateNamespace, DropNamespace, CreateTable, AddColumn, DropColumn, RenameTable, DropTable, Split, CreateSchedule, EditSchedule, DeleteSchedule, TakeSnapshot, Restore, CloneNamespace, ListTablets, Refusal, UnknownSchedule, StalePlan, making_of, Making, ANamespace, ATable, TwoTablets, ASchedule, ASnapshot, ARestoration, AClone, Nothing}
 use Rattle.model.specs.Looks.{found_namespace, plan_of}
 use Rattle.model.specs.Changed.{clone_time, new_clone, next_restoration, pair_tables}
 use Rattle.model.specs.Lists.{active_tablets, listing}
@@ -247,11 +247,8 @@ planned_asks (RenameTable namespace table name) slots n ps activity changes le i
 planned_asks (DropTable namespace table) slots n ps activity changes le inv = decided_asks (judge_drop_table namespace table ps.master) _ (DropTable namespace table) n ps.master changes (λ a e. quiet_asks (DropTable namespace table) n ps.master changes _ refl refl refl refl refl)
 planned_asks (EditSchedule schedule interval retention) slots n ps activity changes le inv = decided_asks (judge_edit_schedule schedule interval retention ps.master) _ (EditSchedule schedule interval retention) n ps.master changes (λ a e. quiet_asks (EditSchedule schedule interval retention) n ps.master changes _ refl refl refl refl refl)
 planned_asks (DeleteSchedule schedule) slots n ps activity changes le inv = decided_asks (judge_delete_schedule schedule ps.master) _ (DeleteSchedule schedule) n ps.master changes (λ a e. quiet_asks (DeleteSchedule schedule) n ps.master changes _ refl refl refl refl refl)
-planned_asks ListSchedules slots n ps activity changes le inv = quiet_asks ListSchedules n ps.master changes _ refl refl refl refl refl
-planned_asks ListSnapshots slots n ps activity changes le inv = quiet_asks ListSnapshots n ps.master changes _ refl refl refl refl refl
-planned_asks ListRestorations slots n ps activity changes le inv = quiet_asks ListRestorations n ps.master changes _ refl refl refl refl refl
-planned_asks ListClones slots n ps activity changes le inv = quiet_asks ListClones n ps.master changes _ refl refl refl refl refl
 planned_asks (ListTablets namespace) slots n ps activity changes le inv = decided_asks (found_namespace ps.master namespace) _ (ListTablets namespace) n ps.master changes (λ a e. quiet_asks (ListTablets namespace) n ps.master changes _ refl refl refl refl refl)
+planned_asks command slots n ps activity changes le inv = quiet_asks command n ps.master changes _ refl refl refl refl refl
 
 pub change_asks : (command : Command) (slots : List ℕ) (n : ℕ) (ps : Parts) (activity : List Interval) (changes : List Made) → ps.master.clock ≤ n → Inv ps activity changes → Asks command n ps.master changes (change command slots n ps)
 unfolding change

@@ -3,7 +3,7 @@ use Rattle.std.proofs.Common.{ℕ, ◌≡◌, ◌≤◌, ◌+◌, List, [], ◌�
 use Rattle.std.specs.Prelude.{Ok as Granted}
 use Rattle.std.specs.List.{filter}
 use Rattle.std.proofs.lemmas.List.{length-map, append-nil, append_assoc}
-use Rattle.model.specs.Cluster.{Id, Kind, NamespaceKind as Namespace, TableKind as Table, TabletKind as Tablet, ScheduleKind as Schedule, Snapshot, RestorationKind as Restoration, CloneKind as Clone, same, holds_at, Interval, TableRecord, tables_at, CloneRecord, IdPair, TabletPair, Change, CloneNamespace, Master, Parts, BeginsClone}
+use Rattle.model.specs.Cluster.{Id, Kind, NamespaceKind as Namespace, TableKind as Table, TabletKind as Tablet, CloneKind as Clone, same, holds_at, Interval, TableRecord, tables_at, CloneRecord, IdPair, TabletPair, Change, CloneNamespace, Master, Parts, BeginsClone}
 use Rattle.model.specs.Journal.{Change as Made}
 use Rattle.model.specs.Lists.{tablets_active_at}
 use Rattle.model.specs.Looks.{free_slots}
@@ -67,7 +67,7 @@ begun_reserved Tablet ps activity changes ns least source target to n le may kin
     let then_ = filter (λ (r : TableRecord). holds_at to r.from r.to && same r.namespace ns) m.catalog.tables in
     ap (map {A = TabletPair} (λ p. p.target)) (order_same _ (tablets_of m ns to)
     (pair_tablets_chained (sources m ns to) (free_slots m) m.drawn.tablets m.drawn.tables ts (by_id_chained then_) (tables_then_apart m.catalog.tables ns to inv.master.tables.rise)
-    (λ t isin. kinds.tables t (then_is m.catalog.tables ns to t isin).0)
+    (λ t isin. kinds.made t (then_is m.catalog.tables ns to t isin).0)
     (λ i isin. let t = source_table ps activity changes ns least target to n i le may inv (source_then m ns to i isin) in (t.0, (t.1.0, t.1.1)))
     (order_chained by_place one_way_place (tablets_active_at m.catalog.owners m.activity ns to))))
 begun_reserved Clone ps activity changes ns least source target to n le may kinds inv apart = absurd (apart refl)
@@ -104,9 +104,6 @@ begun_given Tablet ps activity changes ns least source target to n le may kinds 
     let h = all_numbered ps activity changes inv in
     ap (λ ids. ids ++ beyond ps.master.drawn.tablets (reserved_by (ps.master.clones ++ new_clone ns source target to ps.master ∷ []) Tablet)) (recorded_none Tablet ps.master h)
     ∙ begun_new Tablet ps activity changes ns least source target to n le may kinds inv (λ q. let e = q in grind arith)
-begun_given Schedule ps activity changes ns least source target to n le may kinds inv after = none_new Schedule ps.master _ after refl
-begun_given Snapshot ps activity changes ns least source target to n le may kinds inv after = none_new Snapshot ps.master _ after refl
-begun_given Restoration ps activity changes ns least source target to n le may kinds inv after = none_new Restoration ps.master _ after refl
 begun_given Clone ps activity changes ns least source target to n le may kinds inv after =
     let m = ps.master in
     let h = all_numbered ps activity changes inv in
@@ -117,6 +114,7 @@ begun_given Clone ps activity changes ns least source target to n le may kinds i
     none_made : (cs : List CloneRecord) (drawn : ℕ) → beyond drawn (reserved_by cs Clone) ≡ []
     none_made [] drawn = refl
     none_made (c ∷ cs) drawn = none_made cs drawn
+begun_given kind ps activity changes ns least source target to n le may kinds inv after = none_new kind ps.master _ after refl
 
 -- an accepted command of a clone draws the next of each kind
 pub begun_next : (ps : Parts) (activity : List Interval) (changes : List Made) (source target : List ℕ) (at : Option ℕ) (slots : List ℕ) (n : ℕ) (s : CloneSource) → ps.master.clock ≤ n → KindsGood ps.master → Inv ps activity changes

@@ -5,7 +5,7 @@ use Rattle.std.specs.Option.{option_map, option_map_or}
 use Rattle.std.proofs.lemmas.Bool.{cond_both}
 use Rattle.model.specs.Cluster.{Id, Kind, Snapshot, RestorationKind as Restoration, CloneKind as Clone, has, same_slots, Interval, Schedule as ScheduleRecord, SnapshotRecord, RestorationRecord, RestorationState, Fencing, Snapshotting, Switching, Restoring, Releasing, Restored, CloneRecord, CloneState, Accepted, CloneSnapshot, Copying, CloneReleasing, CloneComplete, State, IsCreating, IsComplete, IsFencing, IsSnapshot, IsSwitching, IsRestoring, IsReleasing, IsRestored, IsAccepted, IsCopying, clone_state, first_unacked, is_cloned, is_restored, restoration_state, schedule_of, Master, Parts, Outcome, If, decided, refused, judged, MasterAct, Ticks, Sends, Acks, Unsends, Moves, Removes, Restarts, none_drawn}
 use Rattle.model.specs.Journal.{Change as Made}
-use Rattle.model.specs.Acts.{Act, Change, Command, CreateNamespace, DropNamespace, CreateTable, AddColumn, DropColumn, RenameTable, DropTable, Split, CreateSchedule, EditSchedule, DeleteSchedule, TakeSnapshot, Restore, CloneNamespace, ListSchedules, ListSnapshots, ListRestorations, ListClones, ListTablets, Refusal, StalePlan, Reply, Look, Write, Read, Cutoff, Compact, Send, Process, Ack, Advance, Remove, Prune, Restart, Stats, Advanced}
+use Rattle.model.specs.Acts.{Act, Change, Command, CreateNamespace, DropNamespace, CreateTable, AddColumn, DropColumn, RenameTable, DropTable, Split, CreateSchedule, EditSchedule, DeleteSchedule, TakeSnapshot, Restore, CloneNamespace, ListTablets, Refusal, StalePlan, Reply, Advance, Prune, Advanced}
 use Rattle.model.specs.Lists.{next_snapshot, numbered_as}
 use Rattle.model.specs.Looks.{found_namespace, plan_of}
 use Rattle.model.specs.Changed.{clone_begun, clone_time, restoration_begun, snapshot_taken}
@@ -211,17 +211,7 @@ act_enters (Change command plan) n ps activity changes inv draws = (by (same_slo
     by false = refused_enters command plan n ps.master (StalePlan (plan_of command ps.master))
 act_enters (Advance operation) n ps activity changes inv draws = (kind_enters operation.kind operation n ps activity changes refl inv).same draws
 act_enters Prune n ps activity changes inv draws = none_begun _ _ n ps.master _ draws refl refl refl
-act_enters (Look ask) n ps activity changes inv draws = plain_enters (Look ask) n ps refl refl refl draws
-act_enters (Write place version batch) n ps activity changes inv draws = plain_enters (Write place version batch) n ps refl refl refl draws
-act_enters (Read places version key at columns) n ps activity changes inv draws = plain_enters (Read places version key at columns) n ps refl refl refl draws
-act_enters (Cutoff slot) n ps activity changes inv draws = plain_enters (Cutoff slot) n ps refl refl refl draws
-act_enters (Compact slot) n ps activity changes inv draws = plain_enters (Compact slot) n ps refl refl refl draws
-act_enters (Send operation slot) n ps activity changes inv draws = plain_enters (Send operation slot) n ps refl refl refl draws
-act_enters (Process slot other) n ps activity changes inv draws = plain_enters (Process slot other) n ps refl refl refl draws
-act_enters (Ack operation slot) n ps activity changes inv draws = plain_enters (Ack operation slot) n ps refl refl refl draws
-act_enters (Remove target plan) n ps activity changes inv draws = plain_enters (Remove target plan) n ps refl refl refl draws
-act_enters (Restart slot) n ps activity changes inv draws = plain_enters (Restart slot) n ps refl refl refl draws
-act_enters (Stats slot) n ps activity changes inv draws = plain_enters (Stats slot) n ps refl refl refl draws
+act_enters act n ps activity changes inv draws = plain_enters act n ps refl refl refl draws
 
 -- which records enter which states by an entry of a legal history
 pub entry_enters : (e : Entry) (earlier : List Entry) (slots : ℕ) → Legal slots (e ∷ earlier)

@@ -5,7 +5,7 @@ use Rattle.std.proofs.lemmas.Bool.Decides.{nat_tests}
 use Rattle.model.specs.Cluster.{Id, has, Interval, Listed, Master, Parts, Outcome}
 use Rattle.model.specs.Journal.{Change as Made}
 use Rattle.model.specs.Tablets.{TabletAct, Clock, Offer, Tablet as TabletPart, Command as TabletCommand, BodyKind, act_for, effect, kind_of}
-use Rattle.model.specs.Acts.{Act, Change, Look, Write, Read, Cutoff, Compact, Send, Process, Ack, Advance, Remove, Prune, Restart, Stats}
+use Rattle.model.specs.Acts.{Act, Send}
 use Rattle.model.specs.Coordination.{command_for, pending, send, sending}
 use Rattle.model.specs.Stands.{was_given}
 use Rattle.model.specs.Entries.{Entry, slots_of}
@@ -45,19 +45,7 @@ sending_given (Some l) operation slot n ps activity changes es found less inv h 
 act_given : (act : Act) (n : ℕ) (ps : Parts) (activity : List Interval) (changes : List Made) (es : List Entering) → Later (slots_of act) ps n → Inv ps activity changes → AllTold ps.master es → OffersGiven act n ps es
 unfolding send
 act_given (Send operation slot) n ps activity changes es later inv h = sending_given (pending ps.master operation slot) operation slot n ps activity changes es refl (later 0 refl) inv h
-act_given (Change command plan) n ps activity changes es later inv h = said_given ps.master (outcome (Change command plan) n ps) n es (act_says (Change command plan) n ps refl)
-act_given (Advance operation) n ps activity changes es later inv h = said_given ps.master (outcome (Advance operation) n ps) n es (act_says (Advance operation) n ps refl)
-act_given Prune n ps activity changes es later inv h = said_given ps.master (outcome Prune n ps) n es (act_says Prune n ps refl)
-act_given (Process slot other) n ps activity changes es later inv h = said_given ps.master (outcome (Process slot other) n ps) n es (act_says (Process slot other) n ps refl)
-act_given (Ack operation slot) n ps activity changes es later inv h = said_given ps.master (outcome (Ack operation slot) n ps) n es (act_says (Ack operation slot) n ps refl)
-act_given (Remove target plan) n ps activity changes es later inv h = said_given ps.master (outcome (Remove target plan) n ps) n es (act_says (Remove target plan) n ps refl)
-act_given (Look ask) n ps activity changes es later inv h = said_given ps.master (outcome (Look ask) n ps) n es (act_says (Look ask) n ps refl)
-act_given (Write place version batch) n ps activity changes es later inv h = said_given ps.master (outcome (Write place version batch) n ps) n es (act_says (Write place version batch) n ps refl)
-act_given (Read places version key at columns) n ps activity changes es later inv h = said_given ps.master (outcome (Read places version key at columns) n ps) n es (act_says (Read places version key at columns) n ps refl)
-act_given (Cutoff slot) n ps activity changes es later inv h = said_given ps.master (outcome (Cutoff slot) n ps) n es (act_says (Cutoff slot) n ps refl)
-act_given (Compact slot) n ps activity changes es later inv h = said_given ps.master (outcome (Compact slot) n ps) n es (act_says (Compact slot) n ps refl)
-act_given (Stats slot) n ps activity changes es later inv h = said_given ps.master (outcome (Stats slot) n ps) n es (act_says (Stats slot) n ps refl)
-act_given (Restart slot) n ps activity changes es later inv h = said_given ps.master (outcome (Restart slot) n ps) n es (act_says (Restart slot) n ps refl)
+act_given act n ps activity changes es later inv h = said_given ps.master (outcome act n ps) n es (act_says act n ps refl)
 
 -- The induction
 

@@ -1,7 +1,7 @@
 -- How many identifiers a legal history draws: so few for each entry of the master's log that numbers stay below their bound.
 use Rattle.std.proofs.Common.{sym, subst, ap, ◌∙◌, refl, cond, ◌≡◌, ℕ, ◌≤◌, ◌<◌, ◌+◌, ◌*◌, Bool, true, false, List, [], ◌∷◌, if◌then◌else◌, arith, min, fold, eqb, eqb-true, le_trans, le_of_lt}
-use Rattle.model.specs.Cluster.{Id, Kind, NamespaceKind as Namespace, TableKind as Table, TabletKind as Tablet, ScheduleKind as Schedule, Snapshot, RestorationKind as Restoration, CloneKind as Clone, has, Master, Parts, BeginsClone, If, judged, decided, State, IsCreating, IsComplete, IsFencing, IsSnapshot, IsSwitching, IsRestoring, IsReleasing, IsRestored, IsAccepted, IsCopying, same_slots, Interval, Refusal, StalePlan}
-use Rattle.model.specs.Acts.{Act, Change, Advance, Command, CreateNamespace, DropNamespace, CreateTable, AddColumn, DropColumn, RenameTable, DropTable, Split, CreateSchedule, EditSchedule, DeleteSchedule, TakeSnapshot, Restore, CloneNamespace, ListSchedules, ListSnapshots, ListRestorations, ListClones, ListTablets}
+use Rattle.model.specs.Cluster.{Id, Kind, NamespaceKind as Namespace, TableKind as Table, TabletKind as Tablet, ScheduleKind as Schedule, Snapshot, RestorationKind as Restoration, CloneKind as Clone, has, Master, Parts, BeginsClone, If, judged, decided, State, IsSnapshot, same_slots, Interval, Refusal, StalePlan}
+use Rattle.model.specs.Acts.{Act, Change, Advance, Command, CreateNamespace, CreateTable, Split, CreateSchedule, TakeSnapshot, Restore, CloneNamespace}
 use Rattle.model.specs.Entries.{Entry, slots_of, log_of, least, ActAsked, CommandAsked}
 use Rattle.model.specs.History.{outcome, told, master_effect, replay, held, most_entries, Legal}
 use Rattle.model.specs.Drawn.{drawn_of, most_slots, DrawnWithin, DrawnBelow, drawn_by, drawn_entering, drawn_for, drawn_making, entered_by, ids_made}
@@ -82,7 +82,7 @@ zero_found (s ∷ ss) a e = either_way (eqb s 0)
     (λ other. zero_found ss (min a s) (rw other at e))
 
 -- what touches the master is in its log
-least_zero : (ss : List ℕ) → has ss 0 ≡ true → least ss ≡ 0
+pub least_zero : (ss : List ℕ) → has ss 0 ≡ true → least ss ≡ 0
 least_zero [] e = absurd (let q = e in grind arith)
 least_zero (s ∷ ss) e = either_way (eqb s 0)
     (λ is. let k : s ≡ 0 = eqb-true s 0 is in ap (λ j. fold min j ss) k ∙ zero_stays ss)
@@ -111,7 +111,7 @@ drawn_within (e ∷ earlier) slots legal most kind =
     held_grows true h = omega arith
     held_grows false h = omega arith
 
-held_within : (history : List Entry) (slots : ℕ) → Legal slots history → held 0 history ≤ most_entries
+pub held_within : (history : List Entry) (slots : ℕ) → Legal slots history → held 0 history ≤ most_entries
 held_within [] slots legal = omega arith
 held_within (e ∷ earlier) slots legal = either_way (eqb (log_of e.event.act) 0)
     (λ is. let room : held 0 earlier < most_entries = subst (λ k. held k earlier < most_entries) (eqb-true (log_of e.event.act) 0 is) legal.1.room in rw is (omega (arith, room)))

@@ -1,37 +1,38 @@
 -- After each entry of a legal history what its restores fixed is as it was, and nothing came too late for it.
 use Rattle.std.proofs.Common.{ℕ, ◌≡◌, ◌≤◌, ◌<◌, List, [], ◌∷◌, ◌++◌, Option, Some, None, true, false, not, refl, sym, ap, subst, ◌∙◌, arith, le_refl, eqb, eqb-true, Bool}
-use Rattle.std.specs.Option.{is_some, option_map_or}
+use Rattle.std.specs.Option.{is_some}
 use Rattle.std.proofs.lemmas.Bool.{true≢false, cond_both}
 use Rattle.std.proofs.lemmas.Bool.Decides.{nat_tests}
 use Rattle.row_values.specs.Slots.{has}
 use Rattle.row_values.specs.declared.value.Item.{Item}
-use Rattle.row_values.specs.Ids.{Id, Kind, Snapshot, Restoration, Clone, Tablet as TabletKind, same}
+use Rattle.row_values.specs.Ids.{Id, same}
 use Rattle.row_values.specs.Schema.{numbered}
 use Rattle.model.specs.Catalog.{Owner, is_owned_by, owner_of}
 use Rattle.model.specs.Activity.{Interval}
 use Rattle.model.specs.Tablets.{Told, Tablet, Write as WriteRows, is_serving, serves}
-use Rattle.model.specs.Records.{RestorationRecord, RestorationState, Switching, SnapshotRecord, CloneRecord, CloneState, Accepted, Copying, Schedule as ScheduleRecord, schedule_of, first_unacked}
+use Rattle.model.specs.Records.{RestorationRecord, RestorationState, Switching, CloneRecord, CloneState, Accepted, Copying, first_unacked}
 use Rattle.std.specs.Prelude.{Result, Ok, Err}
-use Rattle.model.specs.Acts.{ListSchedules, ListSnapshots, ListRestorations, ListClones, ListTablets, Split, CreateSchedule, EditSchedule, DeleteSchedule, TakeSnapshot, Restore, CloneNamespace, StaleSchema, Fenced, At, Command, CreateNamespace, DropNamespace, CreateTable, AddColumn, DropColumn, RenameTable, DropTable, Act, Change, Write, Advance, Ok, Refusal, Ok as ReplyOk}
+use Rattle.model.specs.Acts.{ListTablets, Split, CreateSchedule, EditSchedule, DeleteSchedule, TakeSnapshot, Restore, CloneNamespace, StaleSchema, Fenced, At, Command, CreateNamespace, DropNamespace, CreateTable, AddColumn, DropColumn, RenameTable, DropTable, Act, Change, Write, Advance, Ok, Refusal, Ok as ReplyOk}
 use Rattle.model.specs.Journal.{ChangeAct, TableView, table_at}
 use Rattle.model.specs.Parts.{Master, Parts, MasterAct, Acks, Removes, BeginsClone, MakesNamespace, DropsNamespace, MakesTable, AddsColumn, DropsColumn, RenamesTable, DropsTable, Moves, Ticks, Check, If, Names, Fault, Outcome, judged, decided, unless}
 use Rattle.model.specs.Looks.{found_namespace}
 use Rattle.model.specs.Changed.{next_table, clone_time}
 use Rattle.model.specs.Changes.{judge_create_namespace, judge_drop_namespace, judge_create_table, judge_add_column, judge_drop_column, judge_rename_table, judge_drop_table, judge_split, judge_create_schedule, judge_edit_schedule, judge_delete_schedule, judge_take_snapshot, judge_restore, judge_clone, create_namespace, drop_namespace, create_table, add_column, drop_column, rename_table, drop_table, split, create_schedule, edit_schedule, delete_schedule, take_snapshot, restore, clone_namespace, list_tablets, planned, change}
-use Rattle.model.specs.Moves.{Progress, progress_of, waits_for, moving, advancing, advance, moved_of, completed, restoration_moved, serving_clone, clone_goes, begins_clone, with_clones_snapshot, clone_moved}
-use Rattle.model.specs.Cleanup.{removed_of}
+use Rattle.model.specs.Moves.{Progress, progress_of, waits_for, moving, advancing, advance, restoration_moved, clone_moved}
 use Rattle.model.specs.RowActs.{has_moved, serves_all, write}
-use Rattle.model.specs.Coordination.{unfinished_snapshot, unfinished_restoration, unfinished_clone, acked_by}
+use Rattle.model.specs.Coordination.{unfinished_restoration, unfinished_clone}
 use Rattle.model.specs.Right.{fixes, is_fixed}
 use Rattle.model.specs.Right.{FixedStays}
 use Rattle.model.specs.Entries.{Entry, ActAsked, slots_of}
 use Rattle.model.specs.History.{outcome, master_effect, next, replay, journal_of, activity_of, Legal, with, with_rows, rows_made, with_master, with_restoration, with_clone, with_either, with_changes}
+use Rattle.law_invariants.proofs.Effects.{acked_each, begins_each, moved_each, removed_each}
 use Rattle.law_invariants.specs.Invariant.{Inv, Later, Passes}
 use Rattle.law_invariants.specs.Operations.{RestorationStateGood, takers}
 use Rattle.law_invariants.proofs.Finding.{both_pass, none_or_some, not_some_is, same_equal}
 use Rattle.law_invariants.proofs.Records.{owners_first}
 use Rattle.law_invariants.proofs.Told.{clock_before}
 use Rattle.law_invariants.proofs.Pending.{unfinished_restoration_is, unfinished_clone_is}
+use Rattle.law.proofs.Telling.{Commands, command_each}
 use Rattle.law.proofs.Law.{legal_holds, stamps_later}
 use Rattle.law.proofs.Fixing.{OwnersStand, plain_stand, made_stand, cloned_stand, rows_stand, ViewOwned, plain_owned, made_owned, restored_owned, cloned_owned, rows_owned, soon_fixed, later_fixed, rows_fixed, restore_fixed, stays_home}
 use Rattle.row_values.specs.Elements.{In}
@@ -65,44 +66,24 @@ restoration_owners (Switching point serving) r n m = refl
 restoration_owners _ r n m = refl
 
 clone_owners : (state : CloneState) (r : CloneRecord) (n : ℕ) (m : Master) → (clone_moved state r n m).catalog.owners ≡ m.catalog.owners
-clone_owners Accepted r n m = begun (serving_clone m r) (schedule_of m.schedules r.source)
-  where
-    own : (o : Option ScheduleRecord) → (clone_goes Accepted None r n m (with_clones_snapshot o r n m)).catalog.owners ≡ m.catalog.owners
-    own None = refl
-    own (Some s) = refl
-
-    begun : (o : Option SnapshotRecord) (s : Option ScheduleRecord) → (begins_clone o r n m).catalog.owners ≡ m.catalog.owners
-    begun (Some k) s = refl
-    begun None s = own (schedule_of m.schedules r.source)
+clone_owners Accepted r n m = begins_each (λ k. k.catalog.owners ≡ m.catalog.owners) r n m (λ serving. refl) (λ s. refl) refl
 clone_owners _ r n m = refl
 
-found_owners : {A : Type 0} (found : Option A) (moved : A → Master) (n : ℕ) (m : Master) → ((a : A) → (moved a).catalog.owners ≡ m.catalog.owners)
-    → (option_map_or moved found (record m { clock = n })).catalog.owners ≡ m.catalog.owners
-found_owners None moved n m each = refl
-found_owners (Some a) moved n m each = each a
+pub move_owners : (operation : Id) (n : ℕ) (m : Master) → (master_effect (Moves operation) n m).catalog.owners ≡ m.catalog.owners
+move_owners operation n m = moved_each (λ k. k.catalog.owners ≡ m.catalog.owners) operation.kind operation n m refl (λ r e. refl) (λ r e. restoration_owners r.state r n m) (λ c e. clone_owners c.state c n m)
 
-pub move_owners : (kind : Kind) (id : Id) (n : ℕ) (m : Master) → (moved_of kind id n m).catalog.owners ≡ m.catalog.owners
-move_owners Snapshot id n m = found_owners (unfinished_snapshot m.snapshots id) (λ r. completed r n m) n m (λ r. refl)
-move_owners Restoration id n m = found_owners (unfinished_restoration m.restorations id) (λ r. restoration_moved r.state r n m) n m (λ r. restoration_owners r.state r n m)
-move_owners Clone id n m = found_owners (unfinished_clone m.clones id) (λ r. clone_moved r.state r n m) n m (λ r. clone_owners r.state r n m)
-move_owners _ id n m = refl
+pub acked_owners : (operation : Id) (slot n : ℕ) (m : Master) → (master_effect (Acks operation slot) n m).catalog.owners ≡ m.catalog.owners
+acked_owners operation slot n m = acked_each (λ k. k.catalog.owners ≡ m.catalog.owners) operation.kind operation slot n m refl refl refl refl
 
-pub acked_owners : (kind : Kind) (operation : Id) (slot n : ℕ) (m : Master) → (acked_by kind operation slot n m).catalog.owners ≡ m.catalog.owners
-acked_owners Snapshot operation slot n m = refl
-acked_owners Restoration operation slot n m = refl
-acked_owners Clone operation slot n m = refl
-acked_owners _ operation slot n m = refl
-
-pub removed_owners : (kind : Kind) (target : Id) (n : ℕ) (m : Master) → (removed_of kind target n m).catalog.owners ≡ m.catalog.owners
-removed_owners TabletKind target n m = refl
-removed_owners _ target n m = refl
+pub removed_owners : (target : Id) (n : ℕ) (m : Master) → (master_effect (Removes target) n m).catalog.owners ≡ m.catalog.owners
+removed_owners target n m = removed_each (λ k. k.catalog.owners ≡ m.catalog.owners) target.kind target n m refl refl refl
 
 effect_owners : (a : MasterAct) (n : ℕ) (m : Master) → OwnersGrow m.catalog.owners (master_effect a n m).catalog.owners
 effect_owners (MakesTable namespace name columns slots) n m = grow_more m.catalog.owners _
 effect_owners (BeginsClone namespace source target to) n m = grow_more m.catalog.owners _
-effect_owners (Moves operation) n m = subst (OwnersGrow m.catalog.owners) (sym (move_owners operation.kind operation n m)) (grow_none m.catalog.owners)
-effect_owners (Acks operation slot) n m = subst (OwnersGrow m.catalog.owners) (sym (acked_owners operation.kind operation slot n m)) (grow_none m.catalog.owners)
-effect_owners (Removes target) n m = subst (OwnersGrow m.catalog.owners) (sym (removed_owners target.kind target n m)) (grow_none m.catalog.owners)
+effect_owners (Moves operation) n m = subst (OwnersGrow m.catalog.owners) (sym (move_owners operation n m)) (grow_none m.catalog.owners)
+effect_owners (Acks operation slot) n m = subst (OwnersGrow m.catalog.owners) (sym (acked_owners operation slot n m)) (grow_none m.catalog.owners)
+effect_owners (Removes target) n m = subst (OwnersGrow m.catalog.owners) (sym (removed_owners target n m)) (grow_none m.catalog.owners)
 effect_owners _ n m = grow_none m.catalog.owners
 
 owners_grow : (e : Entry) (ps : Parts) → OwnersGrow ps.master.catalog.owners (next e ps).master.catalog.owners
@@ -141,38 +122,9 @@ master_fixed (DropsTable table) n m changes os still past inside h = plain_fixed
 master_fixed (Moves operation) n m changes os still past inside h = absurd (true≢false still)
 master_fixed _ n m changes os still past inside h = h
 
--- no command moves a record
-
-decided_still : {A : Type 0} (found : Result A Refusal) (accept : A → Outcome) → ((a : A) → is_move (accept a).master ≡ false) → is_move (decided found accept).master ≡ false
-decided_still (Err why) accept each = refl
-decided_still (Ok a) accept each = each a
-
-unless_still : (why : Option Refusal) (o : Outcome) → is_move o.master ≡ false → is_move (unless why o).master ≡ false
-unless_still (Some why) o still = refl
-unless_still None o still = still
-
-planned_still : (command : Command) (slots : List ℕ) (n : ℕ) (ps : Parts) → is_move (planned command slots n ps).master ≡ false
-unfolding create_namespace drop_namespace create_table add_column drop_column rename_table drop_table split create_schedule edit_schedule delete_schedule take_snapshot restore clone_namespace list_tablets
-planned_still (CreateNamespace name) slots n ps = decided_still (judge_create_namespace name ps.master) _ (λ a. refl)
-planned_still (DropNamespace name) slots n ps = decided_still (judge_drop_namespace name ps.master) _ (λ a. refl)
-planned_still (CreateTable namespace table tablets columns) slots n ps = decided_still (judge_create_table namespace table tablets ps.master) _ (λ a. refl)
-planned_still (AddColumn namespace table name kind) slots n ps = decided_still (judge_add_column namespace table name ps.master) _ (λ a. refl)
-planned_still (DropColumn namespace table name) slots n ps = decided_still (judge_drop_column namespace table name ps.master) _ (λ a. refl)
-planned_still (RenameTable namespace table name) slots n ps = decided_still (judge_rename_table namespace table name ps.master) _ (λ a. refl)
-planned_still (DropTable namespace table) slots n ps = decided_still (judge_drop_table namespace table ps.master) _ (λ a. refl)
-planned_still (Split namespace table code) slots n ps = decided_still (judge_split namespace table code ps.master) _ (λ a. refl)
-planned_still (CreateSchedule interval retention namespace) slots n ps = decided_still (judge_create_schedule interval retention namespace ps.master) _ (λ a. refl)
-planned_still (EditSchedule schedule interval retention) slots n ps = decided_still (judge_edit_schedule schedule interval retention ps.master) _ (λ a. refl)
-planned_still (DeleteSchedule schedule) slots n ps = decided_still (judge_delete_schedule schedule ps.master) _ (λ a. refl)
-planned_still (TakeSnapshot schedule) slots n ps = decided_still (judge_take_snapshot schedule n ps.master) _ (λ a. refl)
-planned_still (Restore schedule to) slots n ps = decided_still (judge_restore schedule to n ps.master) _ (λ a. refl)
-planned_still (CloneNamespace source target at) slots n ps = decided_still (judge_clone source target (clone_time at n) n ps.master) _ (λ a. refl)
-planned_still (ListTablets namespace) slots n ps = decided_still (found_namespace ps.master namespace) _ (λ a. refl)
-planned_still _ slots n ps = refl
-
-change_still : (command : Command) (slots : List ℕ) (n : ℕ) (ps : Parts) → is_move (change command slots n ps).master ≡ false
-unfolding change
-change_still command slots n ps = unless_still _ (planned command slots n ps) (planned_still command slots n ps)
+still : (Asked : Type 0) (m : Master) (a : MasterAct) → Commands Asked m a → is_move a ≡ false
+still Asked m (Moves operation) told = absurd told
+still Asked m _ told = refl
 
 -- Writes
 
@@ -292,7 +244,7 @@ act_fixed : (act : Act) (slots n : ℕ) (ps : Parts) (activity : List Interval) 
     → Inside os (with_changes act (outcome act n ps) n ps changes) → JournalFixed os changes → JournalFixed os (with_changes act (outcome act n ps) n ps changes)
 unfolding advance
 act_fixed (Change command plan) slots n ps activity changes os grow later asked inv inside h =
-    master_fixed (change command plan n ps).master n ps.master changes os (change_still command plan n ps)
+    master_fixed (change command plan n ps).master n ps.master changes os (command_each (λ o. is_move o.master ≡ false) command plan n ps (λ why. refl) (λ o is. still _ ps.master o.master is.told))
     (λ ns t fixed. let past : t ≤ ps.master.clock = inv.master.past ns t fixed in let less : ps.master.clock < n = later 0 refl in omega arith) inside h
 act_fixed (Write place version batch) slots n ps activity changes os grow later asked inv inside h =
     if_written (write place version batch n ps).tablets n (ps.tablet place.slot).table batch changes os h

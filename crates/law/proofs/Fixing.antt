@@ -12,7 +12,7 @@ use Rattle.row_values.specs.Ids.{Id, same}
 use Rattle.std.specs.List.{filter}
 use Rattle.row_values.specs.Schema.{Column}
 use Rattle.model.specs.Catalog.{Owner, is_owned_by, owner_of}
-use Rattle.model.specs.Journal.{Change, ChangeAct, NamespaceMade, NamespaceDropped, TableMade, TableRenamed, TableDropped, ColumnAdded, ColumnDropped, RowChanged, NamespaceRestored, NamespaceCloned, TableView, is_in, renamed, with_column, without_column, moved_to, restored_table, restored_row, table_after, namespace_at, table_at, row_at, owner_by, owner_in, source_of}
+use Rattle.model.specs.Journal.{Change, ChangeAct, TableMade, TableRenamed, TableDropped, ColumnAdded, ColumnDropped, RowChanged, NamespaceRestored, NamespaceCloned, TableView, is_in, renamed, with_column, without_column, moved_to, restored_table, restored_row, table_after, namespace_at, table_at, row_at, owner_by, owner_in, source_of}
 use Rattle.model.specs.Right.{fixes, is_fixed, SameThen, StillSame}
 use Rattle.model.specs.Right.{FixedStays}
 use Rattle.model.specs.History.{with, rows_made}

@@ -18,7 +18,7 @@ use Rattle.model.specs.History.{look}
 use Rattle.model.specs.Settling.{left, coordinated}
 use Rattle.model.specs.Replies.{LookAnswer}
 use Rattle.model.specs.Answers.{TableLook, KeysAnswer, KeysPlaced, TableAnswer, TablePlaced, ArePlaces}
-use Rattle.model.specs.Scripts.{ScriptCommand, Tick, Lag, CreateNamespace, DropNamespace, CreateTable, AddColumn, DropColumn, RenameTable, DropTable, WriteRows, ReadRow, ReadTable, Split, CreateSchedule, DeleteSchedule, TakeSnapshot, Restore, CloneNamespace, ListSchedules, ListSnapshots, ListRestorations, ListClones, ListTablets, RaiseCutoffs, CompactTablets, CleanUp, Coordinate, Settle, RestartMaster, RestartTablet, ShowStats, ShowHistory, time_at, asked_at, EditSchedule}
+use Rattle.model.specs.Scripts.{ScriptCommand, Tick, Lag, CreateNamespace, DropNamespace, CreateTable, AddColumn, DropColumn, RenameTable, DropTable, WriteRows, ReadRow, ReadTable, Split, CreateSchedule, DeleteSchedule, TakeSnapshot, Restore, CloneNamespace, ListSchedules, ListSnapshots, ListRestorations, ListClones, ListTablets, RaiseCutoffs, CompactTablets, CleanUp, Coordinate, Settle, ShowHistory, time_at, asked_at, EditSchedule}
 use Rattle.model_runs.specs.Courses.{Found, found_by, Course, SetReading, SetLag, Perform, LookFor, WorkOff, ShowEntries, tell_alone, plan_and_tell, course_of, key_alone, at_place, cell_by_id, op_by_id, item_by_id, write_at, write_into, change_under, read_places, at_each, remove_each, CourseAsked}
 use Rattle.law_invariants.specs.Invariant.{Inv}
 use Rattle.law_invariants.proofs.Finding.{none_or_some, both_pass, same_equal, in_mapped, filter_in}
@@ -316,7 +316,7 @@ removals_follow : (slots : ℕ) → Follows slots AskRemovable remove_each
 removals_follow slots reply a =
     let m = a.parts.master in
     let inv = a.inv in
-    let stay : Stay slots m.activity = λ i isin. (a.kinds.activity i isin, subst (λ k. i.slot ≤ k) a.count ((inv.slots i.slot).each i isin refl).slot_to) in
+    let stay : Stay slots m.activity = λ i isin. (a.kinds.active i isin, subst (λ k. i.slot ≤ k) a.count ((inv.slots i.slot).each i isin refl).slot_to) in
     let tablets = removable_tablets m a.stamp in
     let of_snapshots : AllOf (IsOfTarget slots) (removable_snapshots m a.stamp tablets) =
     all_made (IsOfTarget slots) (λ (r : SnapshotRecord). record { target = r.id; slots = slots_where (λ tablet. not (list_any (λ t. same t.target tablet) tablets)) m r.listed }) (filter (is_removable_snapshot m a.stamp) m.snapshots)

@@ -5,13 +5,14 @@ use Rattle.std.proofs.lemmas.Bool.Decides.{nat_tests}
 use Rattle.std.proofs.Math.Nat.{div-mul-le_self}
 use Rattle.std.proofs.lemmas.Nat.{le-div}
 use Rattle.std.proofs.lemmas.List.Elements.{filter-append}
-use Rattle.model.specs.Cluster.{Id, Kind, NamespaceKind as Namespace, TableKind as Table, TabletKind as Tablet, ScheduleKind as Schedule, Snapshot, RestorationKind as Restoration, CloneKind as Clone, same, share_from, same_slots, has, Interval, end_tablet, ended, checked, Master, Parts, Outcome, If, decided, refused, judged, none_drawn, MasterAct, Ticks, Sends, Acks, Unsends, Removes, Restarts, NamespaceRecord, TableRecord, first_schema, in_range, Fence, Told, RestorationRecord, RestorationState, Fencing, Snapshotting, Switching, Restoring, SnapshotRecord, CloneRecord, CloneState, Accepted, CloneSnapshot, Copying, CloneReleasing, CloneComplete, Schedule as ScheduleRecord, schedule_of, is_cloned, State, IsComplete, IsSnapshot, IsSwitching, IsRestoring, IsReleasing, IsRestored, IsCopying, first_unacked, is_snapshotting, named_by_restoration, named_by_clone, restoration_state, clone_state}
+use Rattle.model.specs.Cluster.{Id, Kind, NamespaceKind as Namespace, TableKind as Table, TabletKind as Tablet, ScheduleKind as Schedule, Snapshot, RestorationKind as Restoration, CloneKind as Clone, same, share_from, same_slots, has, Interval, end_tablet, ended, checked, Master, Parts, Outcome, If, decided, refused, judged, none_drawn, MasterAct, Ticks, Sends, Acks, Unsends, Removes, Restarts, NamespaceRecord, TableRecord, first_schema, in_range, Fence, Told, RestorationRecord, RestorationState, Fencing, Snapshotting, Switching, Restoring, SnapshotRecord, CloneRecord, CloneState, Accepted, CloneSnapshot, Copying, Schedule as ScheduleRecord, schedule_of, is_cloned, State, IsComplete, IsSnapshot, IsSwitching, IsRestoring, IsReleasing, IsRestored, IsCopying, first_unacked, is_snapshotting, named_by_restoration, named_by_clone, restoration_state, clone_state}
 use Rattle.row_values.specs.Elements.{In, put_in}
-use Rattle.model.specs.Acts.{Act, Change, Command, CreateNamespace, DropNamespace, CreateTable, AddColumn, DropColumn, RenameTable, DropTable, Split, CreateSchedule, EditSchedule, DeleteSchedule, TakeSnapshot, Restore, CloneNamespace, ListSchedules, ListSnapshots, ListRestorations, ListClones, ListTablets, Refusal, StalePlan, Reply, Ok as Granted, Refused, Look, Write, Read, Cutoff, Compact, Send, Process, Ack, Advance, Remove, Prune, Restart, Stats, Advanced, Making, ANamespace, ATable, TwoTablets, ASchedule, ASnapshot, ARestoration, AClone, Nothing, making_of, Deed, Commands, Advances, Obeys, NoDeed, deed_of, SlotsFull}
+use Rattle.model.specs.Acts.{Act, Change, Command, CreateNamespace, DropNamespace, CreateTable, AddColumn, DropColumn, RenameTable, DropTable, Split, CreateSchedule, EditSchedule, DeleteSchedule, TakeSnapshot, Restore, CloneNamespace, ListTablets, Refusal, StalePlan, Reply, Ok as Granted, Refused, Advance, Prune, Advanced, Making, ANamespace, ATable, TwoTablets, ASchedule, ASnapshot, ARestoration, AClone, Nothing, making_of, Deed, Commands, Advances, Obeys, NoDeed, deed_of, SlotsFull}
 use Rattle.model.specs.Lists.{active_tablets, by_table_and_range, listing, new_snapshot, next_snapshot, numbered_as, with_snapshot}
 use Rattle.model.specs.Changed.{begins, children, shares, next_namespace, next_restoration, next_schedule, next_table, next_tablet, clone_time, namespace_made, restoration_begun, schedule_made, snapshot_taken, table_made, tablet_split}
 use Rattle.law_splits.proofs.Parents.{parent_found}
 use Rattle.law_splits.proofs.Splitting.{family_is}
+use Rattle.law_invariants.proofs.Effects.{acked_each, removed_each}
 use Rattle.law_invariants.proofs.Finding.{in_mapped}
 use Rattle.model.specs.Drawn.{AreNext, DrawsNext, DrawsInTurn, beyond, drawn_of, drawn_by, ids_made, named_by, new_ids, own_of, recorded_beyond, reserved_by, shown_of, to_name}
 use Rattle.law.proofs.Numbered.{Numbered, WithinTablets, all_numbered, next_tablets, none_new, none_new_tablets, none_reserved, one_beyond}
@@ -30,9 +31,9 @@ use Rattle.law.proofs.Begun.{begun_next}
 use Rattle.law_clones.proofs.Serving.{clone_scheduled}
 use Rattle.std.proofs.lemmas.List.{append-nil}
 use Rattle.law_store.proofs.Keys.{either_way}
-use Rattle.model.specs.Coordination.{unfinished_snapshot, unfinished_restoration, unfinished_clone, acked_by}
+use Rattle.model.specs.Coordination.{unfinished_snapshot, unfinished_restoration, unfinished_clone}
 use Rattle.model.specs.Moves.{advance, advancing, moving, moved, moved_of, progress_of, snapshot_progress, restoration_progress, awaited_by_restoration, after_restoration, waits_for, completed, restoration_enters, restoration_moved, restoration_next as restoration_goes, given_restoration, clone_progress, awaited_by_clone, after_clone, clone_next, given_clone, id_of_snapshot, serving_clone, with_clones_snapshot, clone_goes, begins_clone, clone_moved}
-use Rattle.model.specs.Cleanup.{prune, removed_of}
+use Rattle.model.specs.Cleanup.{prune}
 use Rattle.law_invariants.proofs.Advancing.{no_clone, no_restoration}
 use Rattle.law_invariants.proofs.Pending.{unfinished_restoration_is, unfinished_clone_is}
 use Rattle.law.proofs.Plain.{is_weighty, may_weigh, act_none}
@@ -410,22 +411,12 @@ kind_next _ operation n ps activity changes is inv after = record { next = none_
 
 -- Each act
 
-removed_drawn : (kind : Kind) (target : Id) (n : ℕ) (m : Master) → (removed_of kind target n m).drawn ≡ m.drawn
-removed_drawn Tablet target n m = refl
-removed_drawn _ target n m = refl
-
-acked_drawn : (kind : Kind) (operation : Id) (slot n : ℕ) (m : Master) → (acked_by kind operation slot n m).drawn ≡ m.drawn
-acked_drawn Snapshot operation slot n m = refl
-acked_drawn Restoration operation slot n m = refl
-acked_drawn Clone operation slot n m = refl
-acked_drawn _ operation slot n m = refl
-
 plain_drawn : (a : MasterAct) (n : ℕ) (m : Master) → is_weighty a ≡ false → (master_effect a n m).drawn ≡ m.drawn
 plain_drawn Ticks n m e = refl
 plain_drawn (Sends operation slot) n m e = refl
-plain_drawn (Acks operation slot) n m e = acked_drawn operation.kind operation slot n m
+plain_drawn (Acks operation slot) n m e = acked_each (λ k. k.drawn ≡ m.drawn) operation.kind operation slot n m refl refl refl refl
 plain_drawn (Unsends operation slot) n m e = refl
-plain_drawn (Removes target) n m e = removed_drawn target.kind target n m
+plain_drawn (Removes target) n m e = removed_each (λ k. k.drawn ≡ m.drawn) target.kind target n m refl refl refl
 plain_drawn Restarts n m e = refl
 plain_drawn _ n m e = absurd (let q = e in grind arith)
 
@@ -451,17 +442,7 @@ act_next (Change command plan) slots n ps activity changes asked later kinds inv
     by false e fit = refused_next command plan n ps.master (StalePlan (plan_of command ps.master)) (all_numbered ps activity changes inv)
 act_next (Advance operation) slots n ps activity changes asked later kinds inv after = (kind_next operation.kind operation n ps activity changes refl inv after).next
 act_next Prune slots n ps activity changes asked later kinds inv after = none_next _ _ n ps.master _ after refl refl refl
-act_next (Look ask) slots n ps activity changes asked later kinds inv after = plain_next (Look ask) n ps refl refl refl after
-act_next (Write place version batch) slots n ps activity changes asked later kinds inv after = plain_next (Write place version batch) n ps refl refl refl after
-act_next (Read places version key at columns) slots n ps activity changes asked later kinds inv after = plain_next (Read places version key at columns) n ps refl refl refl after
-act_next (Cutoff slot) slots n ps activity changes asked later kinds inv after = plain_next (Cutoff slot) n ps refl refl refl after
-act_next (Compact slot) slots n ps activity changes asked later kinds inv after = plain_next (Compact slot) n ps refl refl refl after
-act_next (Send operation slot) slots n ps activity changes asked later kinds inv after = plain_next (Send operation slot) n ps refl refl refl after
-act_next (Process slot other) slots n ps activity changes asked later kinds inv after = plain_next (Process slot other) n ps refl refl refl after
-act_next (Ack operation slot) slots n ps activity changes asked later kinds inv after = plain_next (Ack operation slot) n ps refl refl refl after
-act_next (Remove target plan) slots n ps activity changes asked later kinds inv after = plain_next (Remove target plan) n ps refl refl refl after
-act_next (Restart slot) slots n ps activity changes asked later kinds inv after = plain_next (Restart slot) n ps refl refl refl after
-act_next (Stats slot) slots n ps activity changes asked later kinds inv after = plain_next (Stats slot) n ps refl refl refl after
+act_next act slots n ps activity changes asked later kinds inv after = plain_next act n ps refl refl refl after
 
 -- an entry of a legal history draws the next numbers
 pub entry_next : (e : Entry) (earlier : List Entry) (slots : ℕ) → Legal slots (e ∷ earlier) → Turn e.event.act e.stamp (replay slots earlier)

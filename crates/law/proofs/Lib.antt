@@ -19,6 +19,7 @@ pub mod Apart
 pub mod Versions
 pub mod Schemas
 pub mod Numbering
+pub mod Bounded
 pub mod InTurn
 pub mod Chronicle
 pub mod Asked
@@ -33,6 +34,7 @@ pub mod PartMoves
 pub mod PartAdvances
 pub mod PartInTurn
 pub mod Plain
+pub mod Telling
 pub mod Fixing
 pub mod Fixed
 pub mod Owning

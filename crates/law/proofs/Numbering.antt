@@ -3,18 +3,19 @@ use Rattle.std.proofs.Common.{◌≡◌, ℕ, ◌≤◌, ◌<◌, ◌+◌, List,
 use Rattle.std.specs.Prelude.{Result, Ok as Granted, Err as Denied}
 use Rattle.std.specs.Option.{option_map_or}
 use Rattle.std.proofs.lemmas.Bool.{cond_both}
-use Rattle.model.specs.Cluster.{Id, Kind, NamespaceKind as Namespace, TableKind as Table, TabletKind as Tablet, ScheduleKind as Schedule, Snapshot, RestorationKind as Restoration, CloneKind as Clone, has, same_slots, first_schema, Interval, TableRecord, kept_from, RestorationRecord, RestorationState, Switching, SnapshotRecord, CloneRecord, CloneState, Accepted, CloneSnapshot, Copying, CloneReleasing, CloneComplete, Schedule as ScheduleRecord, schedule_of, State, is_restored, first_unacked, Item, Told, In}
-use Rattle.model.specs.Acts.{Act, Look, Change, Write, Read, Cutoff, Compact, Send, Process, Ack, Advance, Remove, Prune, Restart, Stats, Command, CreateNamespace, DropNamespace, CreateTable, AddColumn, DropColumn, RenameTable, DropTable, Split, CreateSchedule, DeleteSchedule, TakeSnapshot, Restore, CloneNamespace, ListSchedules, ListSnapshots, ListRestorations, ListClones, ListTablets, Refusal, StalePlan, UnknownColumn, EditSchedule}
-use Rattle.model.specs.Parts.{Master, Parts, Outcome, MasterAct, Ticks, Sends, Acks, Unsends, Removes, Restarts, If, unless, refused, decided, refusal_in}
+use Rattle.model.specs.Cluster.{Id, Kind, Snapshot, RestorationKind as Restoration, CloneKind as Clone, has, same_slots, first_schema, Interval, TableRecord, kept_from, RestorationRecord, RestorationState, Switching, SnapshotRecord, CloneRecord, CloneState, Accepted, CloneSnapshot, Copying, CloneReleasing, CloneComplete, Schedule as ScheduleRecord, schedule_of, State, is_restored, first_unacked, Item, Told, In}
+use Rattle.model.specs.Acts.{Act, Change, Write, Advance, Prune, Command, CreateNamespace, DropNamespace, CreateTable, AddColumn, DropColumn, RenameTable, DropTable, Split, CreateSchedule, DeleteSchedule, TakeSnapshot, Restore, CloneNamespace, ListTablets, Refusal, StalePlan, UnknownColumn, EditSchedule}
+use Rattle.model.specs.Parts.{Master, Parts, Outcome, MasterAct, Ticks, MakesNamespace, DropsNamespace, MakesTable, AddsColumn, DropsColumn, RenamesTable, DropsTable, Sends, Acks, Unsends, Moves, Removes, Prunes, Restarts, If, unless, refused, decided, refusal_in}
 use Rattle.model.specs.Changed.{next_namespace, next_table, clone_time}
 use Rattle.model.specs.Changes.{change, planned, create_namespace, drop_namespace, create_table, add_column, add_column_checks, drop_column, column_of, found_column, unheld_checks, rename_table, rename_table_checks, drop_table, split, create_schedule, delete_schedule, take_snapshot, restore, clone_namespace, list_tablets, judge_clone, judge_create_namespace, judge_drop_namespace, judge_create_table, judge_add_column, judge_drop_column, judge_rename_table, judge_drop_table, judge_split, judge_create_schedule, judge_delete_schedule, judge_take_snapshot, judge_restore, edit_schedule, judge_edit_schedule}
-use Rattle.model.specs.Cleanup.{prune, removed_of}
-use Rattle.model.specs.Coordination.{unfinished_snapshot, unfinished_restoration, unfinished_clone, acked_by}
+use Rattle.model.specs.Cleanup.{prune}
+use Rattle.model.specs.Coordination.{unfinished_snapshot, unfinished_restoration, unfinished_clone}
 use Rattle.model.specs.Drawn.{SchemasDrawn}
 use Rattle.model.specs.Entries.{Entry, slots_of}
-use Rattle.model.specs.History.{outcome, told, master_effect, replay, journal_of, activity_of, with_changes, with_rows, with_either, with_restoration, with_clone, Legal}
+use Rattle.model.specs.History.{with_master, outcome, told, master_effect, replay, journal_of, activity_of, with_changes, with_rows, with_either, with_restoration, with_clone, Legal}
 use Rattle.model.specs.Looks.{plan_of, found_namespace, found_table}
 use Rattle.model.specs.Moves.{Progress, advance, advancing, moving, moved_of, progress_of, waits_for, completed, restoration_moved, serving_clone, clone_goes, begins_clone, with_clones_snapshot, clone_moved}
+use Rattle.law_invariants.proofs.Effects.{acked_each, removed_each}
 use Rattle.law_invariants.specs.Invariant.{Inv, Later, TablesStand}
 use Rattle.law_invariants.specs.Operations.{RestorationStateGood}
 use Rattle.law_invariants.proofs.Cataloguing.{table_is}
@@ -23,6 +24,7 @@ use Rattle.law_changes.proofs.Schemas.{column_found}
 use Rattle.law_invariants.proofs.Advancing.{no_restoration, no_clone}
 use Rattle.law_invariants.proofs.Pending.{unfinished_restoration_is, unfinished_clone_is}
 use Rattle.law_invariants.proofs.Serving.{floor_restores}
+use Rattle.law.proofs.Telling.{Commands, command_each}
 use Rattle.law.proofs.Plain.{is_weighty, may_weigh, act_none}
 use Rattle.law.proofs.Schemas.{SchemasStand, namespace_changed, namespace_ended, rows_changed, table_made, column_added, column_dropped, table_renamed, table_dropped, tables_pruned, tables_restored, tables_cloned_on}
 use Rattle.law.proofs.Law.{legal_holds, stamps_later}
@@ -38,85 +40,34 @@ record GoesOn (act : Act) (n : ℕ) (ps : Parts) (changes : List made.Change) (o
 
 -- Commands
 
-refused_go : (command : Command) (slots : List ℕ) (n : ℕ) (ps : Parts) (changes : List made.Change) (why : Refusal) → Stand ps.master changes → GoesOn (Change command slots) n ps changes (refused why)
-refused_go command slots n ps changes why h = record { stand = h }
-
-unless_go : (refusal : Option Refusal) (command : Command) (slots : List ℕ) (n : ℕ) (ps : Parts) (changes : List made.Change) (o : Outcome) → Stand ps.master changes → GoesOn (Change command slots) n ps changes o
-    → GoesOn (Change command slots) n ps changes (unless refusal o)
-unless_go (Some why) command slots n ps changes o h go = refused_go command slots n ps changes why h
-unless_go None command slots n ps changes o h go = go
-
-decided_go : {A : Type 0} (judgement : Result A Refusal) (go : A → Outcome) (command : Command) (slots : List ℕ) (n : ℕ) (ps : Parts) (changes : List made.Change) → Stand ps.master changes → ((a : A) → judgement ≡ Granted a → GoesOn (Change command slots) n ps changes (go a))
-    → GoesOn (Change command slots) n ps changes (decided judgement go)
-decided_go (Denied why) go command slots n ps changes h accepted = refused_go command slots n ps changes why h
-decided_go (Granted a) go command slots n ps changes h accepted = accepted a refl
-
-planned_go : (command : Command) (slots : List ℕ) (n : ℕ) (ps : Parts) (activity : List Interval) (changes : List made.Change) → ps.master.clock < n → Inv ps activity changes → Stand ps.master changes
-    → GoesOn (Change command slots) n ps changes (planned command slots n ps)
-unfolding create_namespace drop_namespace create_table add_column drop_column rename_table drop_table split create_schedule edit_schedule delete_schedule take_snapshot restore clone_namespace list_tablets
-planned_go (CreateNamespace name) slots n ps activity changes less inv h =
-    decided_go (judge_create_namespace name ps.master) _ (CreateNamespace name) slots n ps changes h (λ id e. record { stand = namespace_changed ps.master.catalog.tables changes n (next_namespace ps.master) name h })
-planned_go (DropNamespace name) slots n ps activity changes less inv h =
-    decided_go (judge_drop_namespace name ps.master) _ (DropNamespace name) slots n ps changes h (λ ns e. record { stand = namespace_ended ps.master.catalog.tables changes n ns h })
-planned_go (CreateTable namespace table tablets columns) slots n ps activity changes less inv h =
-    decided_go (judge_create_table namespace table tablets ps.master) _ (CreateTable namespace table tablets columns) slots n ps changes h (λ ns e. record { stand = table_made ps.master.catalog.tables changes n (record { id = next_table ps.master; namespace = ns; name = table; schema = first_schema columns; from = n; to = None }) columns refl refl h })
-planned_go (AddColumn namespace table name kind) slots n ps activity changes less inv h =
-    let m = ps.master in
-    decided_go (judge_add_column namespace table name m) _ (AddColumn namespace table name kind) slots n ps changes h
-    (λ t e.
-    let is = table_is m namespace table t (checked_is (found_table m namespace table) (λ t. add_column_checks t name m) t e).0 in
-    record { stand = column_added m.catalog.tables changes n t name kind inv.master.tables.rise is.listed is.current (le_trans (inv.master.tables.past _ is.listed).begun (le_of_lt less)) h })
-planned_go (DropColumn namespace table name) slots n ps activity changes less inv h =
-    let m = ps.master in
-    decided_go (judge_drop_column namespace table name m) _ (DropColumn namespace table name) slots n ps changes h
-    (λ c e.
-    let found = and_found_is (found_table m namespace table) (column_of name) UnknownColumn c (checked_is (found_column m namespace table name) (λ c. unheld_checks c.table.namespace m) c e).0 in
-    let is = table_is m namespace table c.table (found.1.0 ∙ ap Granted (sym (column_found found.0 name c found.1.1).0)) in
-    record { stand = column_dropped m.catalog.tables changes n c.table c.column.name c.column.id inv.master.tables.rise is.listed is.current (le_trans (inv.master.tables.past _ is.listed).begun (le_of_lt less)) h })
-planned_go (RenameTable namespace table name) slots n ps activity changes less inv h =
-    let m = ps.master in
-    decided_go (judge_rename_table namespace table name m) _ (RenameTable namespace table name) slots n ps changes h
-    (λ t e.
-    let is = table_is m namespace table t (checked_is (found_table m namespace table) (λ t. rename_table_checks t name m) t e).0 in
-    record { stand = table_renamed m.catalog.tables changes n t name inv.master.tables.rise is.listed is.current (le_trans (inv.master.tables.past _ is.listed).begun (le_of_lt less)) h })
-planned_go (DropTable namespace table) slots n ps activity changes less inv h =
-    decided_go (judge_drop_table namespace table ps.master) _ (DropTable namespace table) slots n ps changes h (λ t e. record { stand = table_dropped ps.master.catalog.tables changes n t.id h })
-planned_go (Split namespace table code) slots n ps activity changes less inv h =
-    decided_go (judge_split namespace table code ps.master) _ (Split namespace table code) slots n ps changes h (λ f e. record { stand = h })
-planned_go (CreateSchedule interval retention namespace) slots n ps activity changes less inv h =
-    decided_go (judge_create_schedule interval retention namespace ps.master) _ (CreateSchedule interval retention namespace) slots n ps changes h (λ ns e. record { stand = h })
-planned_go (EditSchedule schedule interval retention) slots n ps activity changes less inv h =
-    decided_go (judge_edit_schedule schedule interval retention ps.master) _ (EditSchedule schedule interval retention) slots n ps changes h (λ s e. record { stand = h })
-planned_go (DeleteSchedule schedule) slots n ps activity changes less inv h =
-    decided_go (judge_delete_schedule schedule ps.master) _ (DeleteSchedule schedule) slots n ps changes h (λ s e. record { stand = h })
-planned_go (TakeSnapshot schedule) slots n ps activity changes less inv h =
-    decided_go (judge_take_snapshot schedule n ps.master) _ (TakeSnapshot schedule) slots n ps changes h (λ s e. record { stand = h })
-planned_go (Restore schedule to) slots n ps activity changes less inv h =
-    decided_go (judge_restore schedule to n ps.master) _ (Restore schedule to) slots n ps changes h (λ s e. record { stand = h })
-planned_go (CloneNamespace source target to) slots n ps activity changes less inv h =
-    decided_go (judge_clone source target (clone_time to n) n ps.master) _ (CloneNamespace source target to) slots n ps changes h (λ s e. record { stand = h })
-planned_go (ListTablets namespace) slots n ps activity changes less inv h =
-    decided_go (found_namespace ps.master namespace) _ (ListTablets namespace) slots n ps changes h (λ ns e. record { stand = h })
-planned_go _ slots n ps activity changes less inv h = record { stand = h }
+-- the schemas go on where the master is told what a command may tell it
+command_go : (Asked : Type 0) (a : MasterAct) (n : ℕ) (ps : Parts) (activity : List Interval) (changes : List made.Change) → Commands Asked ps.master a → ps.master.clock < n → Inv ps activity changes → Stand ps.master changes
+    → Stand (master_effect a n ps.master) (with_master a n ps.master changes)
+command_go Asked (MakesNamespace name) n ps activity changes told less inv h = namespace_changed ps.master.catalog.tables changes n (next_namespace ps.master) name h
+command_go Asked (DropsNamespace ns) n ps activity changes told less inv h = namespace_ended ps.master.catalog.tables changes n ns h
+command_go Asked (MakesTable ns table columns slots) n ps activity changes told less inv h =
+    table_made ps.master.catalog.tables changes n (record { id = next_table ps.master; namespace = ns; name = table; schema = first_schema columns; from = n; to = None }) columns refl refl h
+command_go Asked (AddsColumn t name kind) n ps activity changes told less inv h =
+    column_added ps.master.catalog.tables changes n t name kind inv.master.tables.rise told.0 told.1 (le_trans (inv.master.tables.past _ told.0).begun (le_of_lt less)) h
+command_go Asked (DropsColumn t column) n ps activity changes told less inv h =
+    column_dropped ps.master.catalog.tables changes n t column.name column.id inv.master.tables.rise told.0 told.1 (le_trans (inv.master.tables.past _ told.0).begun (le_of_lt less)) h
+command_go Asked (RenamesTable t name) n ps activity changes told less inv h =
+    table_renamed ps.master.catalog.tables changes n t name inv.master.tables.rise told.0 told.1 (le_trans (inv.master.tables.past _ told.0).begun (le_of_lt less)) h
+command_go Asked (DropsTable table) n ps activity changes told less inv h = table_dropped ps.master.catalog.tables changes n table h
+command_go Asked (Acks operation slot) n ps activity changes told less inv h = absurd told
+command_go Asked (Moves operation) n ps activity changes told less inv h = absurd told
+command_go Asked (Removes target) n ps activity changes told less inv h = absurd told
+command_go Asked Prunes n ps activity changes told less inv h = absurd told
+command_go Asked _ n ps activity changes told less inv h = h
 
 -- Acts that leave the tables
 
-removed_tables : (kind : Kind) (target : Id) (n : ℕ) (m : Master) → (removed_of kind target n m).catalog.tables ≡ m.catalog.tables
-removed_tables Tablet target n m = refl
-removed_tables _ target n m = refl
-
-acked_tables : (kind : Kind) (operation : Id) (slot n : ℕ) (m : Master) → (acked_by kind operation slot n m).catalog.tables ≡ m.catalog.tables
-acked_tables Snapshot operation slot n m = refl
-acked_tables Restoration operation slot n m = refl
-acked_tables Clone operation slot n m = refl
-acked_tables _ operation slot n m = refl
-
-plain_tables : (a : MasterAct) (n : ℕ) (m : Master) → is_weighty a ≡ false → (master_effect a n m).catalog.tables ≡ m.catalog.tables
+pub plain_tables : (a : MasterAct) (n : ℕ) (m : Master) → is_weighty a ≡ false → (master_effect a n m).catalog.tables ≡ m.catalog.tables
+plain_tables (Acks operation slot) n m e = acked_each (λ k. k.catalog.tables ≡ m.catalog.tables) operation.kind operation slot n m refl refl refl refl
+plain_tables (Removes target) n m e = removed_each (λ k. k.catalog.tables ≡ m.catalog.tables) target.kind target n m refl refl refl
 plain_tables Ticks n m e = refl
 plain_tables (Sends operation slot) n m e = refl
-plain_tables (Acks operation slot) n m e = acked_tables operation.kind operation slot n m
 plain_tables (Unsends operation slot) n m e = refl
-plain_tables (Removes target) n m e = removed_tables target.kind target n m
 plain_tables Restarts n m e = refl
 plain_tables _ n m e = absurd (let q = e in grind arith)
 
@@ -209,25 +160,16 @@ advancing_go (Some p) operation n ps changes h moved = moving_go (waits_for (fir
 -- Each act
 
 act_left : (act : Act) (n : ℕ) (ps : Parts) (activity : List Interval) (changes : List made.Change) → Later (slots_of act) ps n → Inv ps activity changes → Stand ps.master changes → Left act n ps changes
-unfolding change advance prune
+unfolding advance prune
 act_left (Change command slots) n ps activity changes later inv h =
-    (unless_go (refusal_in (If (not (same_slots slots (plan_of command ps.master))) (StalePlan (plan_of command ps.master)) ∷ [])) command slots n ps changes (planned command slots n ps) h
-    (planned_go command slots n ps activity changes (later 0 refl) inv h)).stand
+    (command_each (GoesOn (Change command slots) n ps changes) command slots n ps (λ why. record { stand = h })
+    (λ o is. record { stand = command_go _ o.master n ps activity changes is.told (later 0 refl) inv h })).stand
 act_left (Advance operation) n ps activity changes later inv h =
     (advancing_go (progress_of operation.kind ps.master operation) operation n ps changes h (kind_go operation.kind n ps activity changes operation refl inv h)).stand
 act_left Prune n ps activity changes later inv h = tables_pruned ps.master n changes inv.master.tables h
 act_left (Write place version batch) n ps activity changes later inv h =
     written (outcome (Write place version batch) n ps).tablets n (ps.tablet place.slot).table batch _ changes (plain_left (Write place version batch) n ps changes refl h)
-act_left (Look ask) n ps activity changes later inv h = plain_left (Look ask) n ps changes refl h
-act_left (Read places version key at columns) n ps activity changes later inv h = plain_left (Read places version key at columns) n ps changes refl h
-act_left (Cutoff slot) n ps activity changes later inv h = plain_left (Cutoff slot) n ps changes refl h
-act_left (Compact slot) n ps activity changes later inv h = plain_left (Compact slot) n ps changes refl h
-act_left (Send operation slot) n ps activity changes later inv h = plain_left (Send operation slot) n ps changes refl h
-act_left (Process slot other) n ps activity changes later inv h = plain_left (Process slot other) n ps changes refl h
-act_left (Ack operation slot) n ps activity changes later inv h = plain_left (Ack operation slot) n ps changes refl h
-act_left (Remove target slots) n ps activity changes later inv h = plain_left (Remove target slots) n ps changes refl h
-act_left (Restart slot) n ps activity changes later inv h = plain_left (Restart slot) n ps changes refl h
-act_left (Stats slot) n ps activity changes later inv h = plain_left (Stats slot) n ps changes refl h
+act_left act n ps activity changes later inv h = plain_left act n ps changes refl h
 
 pub all_stand : (history : List Entry) (slots : ℕ) → Legal slots history → Stand (replay slots history).master (journal_of slots history)
 unfolding replay journal_of

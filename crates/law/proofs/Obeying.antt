@@ -1,18 +1,16 @@
 -- No tablet does a command of an operation twice: where a tablet is that did one, its part has the mark.
 use Rattle.std.proofs.Common.{◌≡◌, ℕ, ◌+◌, length, ◌≤◌, ◌<◌, true, false, List, [], ◌∷◌, ◌++◌, map, Option, Some, None, ◌⊎◌, inl, inr, refl, sym, ap, subst, ◌∙◌, arith, cond, if◌then◌else◌, not, eqb, ◌&&◌, le_refl, le_trans}
-use Rattle.std.specs.Option.{option_map_or}
 use Rattle.std.proofs.lemmas.Bool.{cond_both, true≢false}
 use Rattle.std.proofs.lemmas.Bool.Decides.{nat_tests}
-use Rattle.model.specs.Cluster.{Id, Kind, NamespaceKind as Namespace, TableKind as Table, TabletKind as Tablet, ScheduleKind as Schedule, Snapshot, RestorationKind as Restoration, CloneKind as Clone, same, In, has, KeyedRow, ended, owns, Interval, active_at, end_tablet, Listed, Schedule as ScheduleRecord, acked_at, schedule_of, TabletPair, RestorationRecord, RestorationState, Fencing, Snapshotting, Switching, Restoring, Releasing, Restored, SnapshotRecord, CloneRecord, CloneState, Accepted, CloneSnapshot, Copying, CloneReleasing, CloneComplete, is_cloned, is_visible, Master, MasterAct, Ticks, MakesNamespace, DropsNamespace, MakesTable, AddsColumn, DropsColumn, RenamesTable, DropsTable, SplitsTablet, MakesSchedule, EditsSchedule, DeletesSchedule, TakesSnapshot, BeginsRestoration, BeginsClone, Sends, Acks, Unsends, Moves, Removes, Prunes, Restarts, Outcome, Parts, If}
+use Rattle.model.specs.Cluster.{Id, same, In, has, KeyedRow, ended, owns, Interval, active_at, end_tablet, Listed, acked_at, TabletPair, RestorationRecord, RestorationState, Switching, CloneRecord, CloneState, Accepted, CloneSnapshot, Copying, CloneReleasing, CloneComplete, is_cloned, is_visible, Master, MasterAct, MakesTable, DropsTable, SplitsTablet, BeginsClone, Acks, Moves, Removes, Outcome, Parts, If}
 use Rattle.model.specs.Journal.{Change as Made}
 use Rattle.model.specs.Restored.{begun_at, end_namespace_tablets, cloned_activity}
 use Rattle.model.specs.Lists.{tablets_active_at, intervals_in}
 use Rattle.model.specs.Changed.{next_table, shares, children, new_clone}
-use Rattle.model.specs.Coordination.{command_for, pending, send, sending, source_slot, rows_for, process, processing, unfinished_snapshot, unfinished_restoration, unfinished_clone, acked_by}
-use Rattle.model.specs.Moves.{completed, restoration_moved, clone_goes, begins_clone, with_clones_snapshot, clone_moved, moved_of, serving_clone}
-use Rattle.model.specs.Cleanup.{removed_of}
-use Rattle.model.specs.Tablets.{Tablet as TabletPart, TabletAct, Child, Clear, Clock, DropFrozen, Make, Offer, SetVersion, HideSince, Write as WriteRows, RaiseCutoff, Compact as CompactTablet, Process as ProcessTablet, Restart as RestartTablet, Body, Fence, Freeze, RestoreFrom, Hide, Copy, Release, BodyKind, CopyKind, Command as TabletCommand, Mark, act_for, effect, is_done, is_empty, kind_of, obeyed, processed}
-use Rattle.model.specs.Acts.{Act, Change, Look, Write, Read, Cutoff, Compact, Send, Process, Ack, Advance, Remove, Prune, Restart, Stats, Done, OtherSlot}
+use Rattle.model.specs.Coordination.{command_for, pending, send, sending, source_slot, rows_for, process, processing}
+use Rattle.model.specs.Moves.{restoration_moved, clone_moved}
+use Rattle.model.specs.Tablets.{Tablet as TabletPart, TabletAct, Child, Clear, Clock, Make, Offer, Process as ProcessTablet, Body, RestoreFrom, Hide, Copy, BodyKind, CopyKind, Command as TabletCommand, Mark, act_for, effect, is_done, is_empty, kind_of, obeyed, processed}
+use Rattle.model.specs.Acts.{Act, Send, Process, Done, OtherSlot}
 use Rattle.model.specs.Entries.{ActAsked, Entry, slots_of}
 use Rattle.model.specs.History.{Legal, master_effect, outcome, replay, told}
 use Rattle.model.specs.Once.{NoneAgain, Obeyed, commands_done, obeyed_by}
@@ -20,6 +18,7 @@ use Rattle.law_store.proofs.Keys.{either_way}
 use Rattle.law_invariants.specs.Invariant.{Inv}
 use Rattle.law_invariants.specs.Operations.{Alone, CloneStateGood, OperationsGood}
 use Rattle.law_invariants.specs.Orders.{CloneSlotIn}
+use Rattle.law_invariants.proofs.Effects.{acked_each, begins_each, moved_each, removed_each}
 use Rattle.law_invariants.proofs.Finding.{in_append, in_added, in_mapped, filter_in, same_equal}
 use Rattle.law_invariants.proofs.Pending.{unfinished_clone_is}
 use Rattle.law_invariants.proofs.DoneMarks.{done_now, done_still}
@@ -101,16 +100,11 @@ restoration_go (Switching point serving) r n m = activity_goes m _ (le_refl _) r
     (λ j isin. inl (j, ((filter_in m.activity (λ i. owns m.catalog.owners r.namespace i.table) j (filter_in (intervals_in m.catalog.owners m.activity r.namespace) (active_at r.to) j isin).0).0, (refl, refl))))))
 restoration_go _ r n m = same_go m _ (le_refl _) refl refl
 
-own_go : (o : Option ScheduleRecord) (r : CloneRecord) (n : ℕ) (m : Master) → Alone (λ c. c.id) m.clones → In r m.clones → is_visible r.state ≡ false → GoesOn m (clone_goes Accepted None r n m (with_clones_snapshot o r n m))
-own_go None r n m alone there hidden = entered_go m _ r _ _ alone there (λ e. hidden) (le_refl _) refl (knew m)
-own_go (Some s) r n m alone there hidden = entered_go m _ r _ _ alone there (λ e. hidden) (le_refl _) refl (knew m)
-
-begins_go : (o : Option SnapshotRecord) (r : CloneRecord) (n : ℕ) (m : Master) → Alone (λ c. c.id) m.clones → In r m.clones → is_visible r.state ≡ false → GoesOn m (begins_clone o r n m)
-begins_go (Some s) r n m alone there hidden = entered_go m _ r _ _ alone there (λ e. hidden) (le_refl _) refl (knew m)
-begins_go None r n m alone there hidden = own_go (schedule_of m.schedules r.source) r n m alone there hidden
-
 clone_go : (state : CloneState) (r : CloneRecord) (n : ℕ) (m : Master) → Alone (λ c. c.id) m.clones → In r m.clones → r.state ≡ state → GoesOn m (clone_moved state r n m)
-clone_go Accepted r n m alone there is = begins_go (serving_clone m r) r n m alone there (ap is_visible is)
+clone_go Accepted r n m alone there is = begins_each (GoesOn m) r n m
+    (λ serving. entered_go m _ r _ _ alone there (λ e. ap is_visible is) (le_refl _) refl (knew m))
+    (λ s. entered_go m _ r _ _ alone there (λ e. ap is_visible is) (le_refl _) refl (knew m))
+    (entered_go m _ r _ _ alone there (λ e. ap is_visible is) (le_refl _) refl (knew m))
 clone_go (CloneSnapshot own) r n m alone there is = entered_go m _ r _ _ alone there (λ e. ap is_visible is) (le_refl _) refl (knew m)
 clone_go (Copying serving at) r n m alone there is = entered_go m _ r _ _ alone there (λ e. ap is_visible is) (le_refl _) refl
     (more_came m m.activity (cloned_activity n r.tablets) (knew m)
@@ -118,37 +112,6 @@ clone_go (Copying serving at) r n m alone there is = entered_go m _ r _ _ alone 
     (λ p isin. inr (inr (p, (record { clone = r; kept = there; hidden = ap is_visible is; paired = isin }, (refl, refl)))))))
 clone_go (CloneReleasing serving at) r n m alone there is = entered_go m _ r _ _ alone there (λ e. absurd (true≢false e)) (le_refl _) refl (knew m)
 clone_go (CloneComplete serving at) r n m alone there is = same_go m _ (le_refl _) refl refl
-
-snapshot_go : (found : Option SnapshotRecord) (n : ℕ) (m : Master) → GoesOn m (option_map_or (λ r. completed r n m) found (record m { clock = n }))
-snapshot_go None n m = same_go m _ (le_refl _) refl refl
-snapshot_go (Some r) n m = same_go m _ (le_refl _) refl refl
-
-restored_go : (found : Option RestorationRecord) (n : ℕ) (m : Master) → GoesOn m (option_map_or (λ r. restoration_moved r.state r n m) found (record m { clock = n }))
-restored_go None n m = same_go m _ (le_refl _) refl refl
-restored_go (Some r) n m = restoration_go r.state r n m
-
-cloned_go : (found : Option CloneRecord) (n : ℕ) (m : Master) → Alone (λ c. c.id) m.clones → ((r : CloneRecord) → found ≡ Some r → In r m.clones) → GoesOn m (option_map_or (λ r. clone_moved r.state r n m) found (record m { clock = n }))
-cloned_go None n m alone there = same_go m _ (le_refl _) refl refl
-cloned_go (Some r) n m alone there = clone_go r.state r n m alone (there r refl) refl
-
-moved_go : (kind : Kind) (operation : Id) (n : ℕ) (m : Master) → Alone (λ c. c.id) m.clones → GoesOn m (moved_of kind operation n m)
-moved_go Snapshot operation n m alone = snapshot_go (unfinished_snapshot m.snapshots operation) n m
-moved_go Restoration operation n m alone = restored_go (unfinished_restoration m.restorations operation) n m
-moved_go Clone operation n m alone = cloned_go (unfinished_clone m.clones operation) n m alone (λ r found. (unfinished_clone_is m.clones operation r found).0)
-moved_go _ operation n m alone = same_go m _ (le_refl _) refl refl
-
-acked_go : (kind : Kind) (operation : Id) (slot n : ℕ) (m : Master) → GoesOn m (acked_by kind operation slot n m)
-acked_go Clone operation slot n m = record {
-  drawn = le_refl _;
-  activity = knew m;
-  targets = λ p h. inl (in_mapped {A = CloneRecord} {B = CloneRecord} (λ x. record x { listed = cond (same x.id operation) (acked_at slot x.listed) x.listed })
-      (λ c. is_visible c.state ≡ false → In p c.tablets → IsToCome m.clones p) m.clones (λ x isin hidden paired. record { clone = x; kept = isin; hidden = hidden; paired = paired }) h.clone h.kept h.hidden h.paired);
-}
-acked_go _ operation slot n m = same_go m _ (le_refl _) refl refl
-
-removed_go : (kind : Kind) (target : Id) (n : ℕ) (m : Master) → GoesOn m (removed_of kind target n m)
-removed_go Tablet target n m = activity_goes m _ (le_refl _) refl (λ i isin. knew m i (filter_in m.activity (λ i. not (same i.tablet target)) i isin).0)
-removed_go _ target n m = same_go m _ (le_refl _) refl refl
 
 -- Each act
 
@@ -168,9 +131,19 @@ effect_go (BeginsClone namespace source target to) n m alone = record {
   targets = λ p h. in_added (λ c. is_visible c.state ≡ false → In p c.tablets → IsToCome m.clones p ⊎ (m.drawn.tablets < p.target.number)) m.clones (new_clone namespace source target to m)
       (λ c there hidden paired. inl (record { clone = c; kept = there; hidden = hidden; paired = paired })) (λ hidden paired. inr (tablet_pair _ _ _ _ p paired).above) h.clone h.kept h.hidden h.paired;
 }
-effect_go (Acks operation slot) n m alone = acked_go operation.kind operation slot n m
-effect_go (Moves operation) n m alone = moved_go operation.kind operation n m alone
-effect_go (Removes target) n m alone = removed_go target.kind target n m
+effect_go (Acks operation slot) n m alone =
+    acked_each (GoesOn m) operation.kind operation slot n m (same_go m _ (le_refl _) refl refl) (same_go m _ (le_refl _) refl refl) (same_go m _ (le_refl _) refl refl) (record {
+      drawn = le_refl _;
+      activity = knew m;
+      targets = λ p h. inl (in_mapped {A = CloneRecord} {B = CloneRecord} (λ x. record x { listed = cond (same x.id operation) (acked_at slot x.listed) x.listed })
+          (λ c. is_visible c.state ≡ false → In p c.tablets → IsToCome m.clones p) m.clones (λ x isin hidden paired. record { clone = x; kept = isin; hidden = hidden; paired = paired }) h.clone h.kept h.hidden h.paired);
+    })
+effect_go (Moves operation) n m alone =
+    moved_each (GoesOn m) operation.kind operation n m (same_go m _ (le_refl _) refl refl) (λ r e. same_go m _ (le_refl _) refl refl) (λ r e. restoration_go r.state r n m)
+    (λ c e. clone_go c.state c n m alone (unfinished_clone_is m.clones operation c e).0 refl)
+effect_go (Removes target) n m alone =
+    removed_each (GoesOn m) target.kind target n m (same_go m _ (le_refl _) refl refl)
+    (activity_goes m _ (le_refl _) refl (λ i isin. knew m i (filter_in m.activity (λ i. not (same i.tablet target)) i isin).0)) (same_go m _ (le_refl _) refl refl)
 effect_go _ n m alone = same_go m _ (le_refl _) refl refl
 
 -- The parts
@@ -203,19 +176,7 @@ sending_goes m (Some l) operation slot n i t = cond_both (eqb slot i) (Offer (co
 tells_goes : (act : Act) (n : ℕ) (ps : Parts) (slot : ℕ) → PartGoes ps.master slot (ps.tablet slot) (effect (act_for (outcome act n ps).tablets slot) n (ps.tablet slot))
 unfolding send
 tells_goes (Send operation to) n ps slot = sending_goes ps.master (pending ps.master operation to) operation to n slot (ps.tablet slot)
-tells_goes (Change command plan) n ps slot = said_goes ps.master slot _ n (ps.tablet slot) ((act_says (Change command plan) n ps refl).says slot)
-tells_goes (Advance operation) n ps slot = said_goes ps.master slot _ n (ps.tablet slot) ((act_says (Advance operation) n ps refl).says slot)
-tells_goes Prune n ps slot = said_goes ps.master slot _ n (ps.tablet slot) ((act_says Prune n ps refl).says slot)
-tells_goes (Process at other) n ps slot = said_goes ps.master slot _ n (ps.tablet slot) ((act_says (Process at other) n ps refl).says slot)
-tells_goes (Ack operation at) n ps slot = said_goes ps.master slot _ n (ps.tablet slot) ((act_says (Ack operation at) n ps refl).says slot)
-tells_goes (Remove target plan) n ps slot = said_goes ps.master slot _ n (ps.tablet slot) ((act_says (Remove target plan) n ps refl).says slot)
-tells_goes (Look ask) n ps slot = said_goes ps.master slot _ n (ps.tablet slot) ((act_says (Look ask) n ps refl).says slot)
-tells_goes (Write place version batch) n ps slot = said_goes ps.master slot _ n (ps.tablet slot) ((act_says (Write place version batch) n ps refl).says slot)
-tells_goes (Read places version key at columns) n ps slot = said_goes ps.master slot _ n (ps.tablet slot) ((act_says (Read places version key at columns) n ps refl).says slot)
-tells_goes (Cutoff at) n ps slot = said_goes ps.master slot _ n (ps.tablet slot) ((act_says (Cutoff at) n ps refl).says slot)
-tells_goes (Compact at) n ps slot = said_goes ps.master slot _ n (ps.tablet slot) ((act_says (Compact at) n ps refl).says slot)
-tells_goes (Stats at) n ps slot = said_goes ps.master slot _ n (ps.tablet slot) ((act_says (Stats at) n ps refl).says slot)
-tells_goes (Restart at) n ps slot = said_goes ps.master slot _ n (ps.tablet slot) ((act_says (Restart at) n ps refl).says slot)
+tells_goes act n ps slot = said_goes ps.master slot _ n (ps.tablet slot) ((act_says act n ps refl).says slot)
 
 part_goes : (act : Act) (n : ℕ) (ps : Parts) (slot : ℕ) → PartGoes ps.master slot (ps.tablet slot) ((told act (outcome act n ps) n ps).tablet slot)
 part_goes act n ps slot = cond_both (has (slots_of act) slot && not (eqb slot 0)) (effect (act_for (outcome act n ps).tablets slot) n (ps.tablet slot)) (ps.tablet slot) (PartGoes ps.master slot (ps.tablet slot))

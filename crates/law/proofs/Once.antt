@@ -5,7 +5,7 @@ use Rattle.std.proofs.lemmas.Bool.{cond_both}
 use Rattle.std.proofs.lemmas.List.{map-append}
 use Rattle.model.specs.Cluster.{Item, Id, same, In, has, Interval, RestorationRecord, RestorationState, Fencing, Snapshotting, Switching, Restoring, Releasing, Restored, CloneRecord, CloneState, Accepted, CloneSnapshot, Copying, CloneReleasing, CloneComplete, first_unacked, Told, Master, Parts, MasterAct, Ticks, Sends, Acks, Unsends, Moves, Removes, Restarts}
 use Rattle.model.specs.Journal.{Change as Made}
-use Rattle.model.specs.Acts.{Act, Change, Look, Write, Read, Cutoff, Compact, Send, Process, Ack, Advance, Remove, Prune, Restart, Stats}
+use Rattle.model.specs.Acts.{Act, Change, Write, Advance, Prune}
 use Rattle.model.specs.Cleanup.{prune}
 use Rattle.model.specs.Coordination.{unfinished_restoration, unfinished_clone}
 use Rattle.model.specs.Moves.{Progress, advance, advancing, moving, progress_of, waits_for}
@@ -71,17 +71,7 @@ act_makes (Change command plan) n ps activity changes id made le inv =
 act_makes (Advance operation) n ps activity changes id made le inv =
     advanced_by (λ a. (if same operation id then with_master a n ps.master made else made) ≡ made_by a n ps.master id made) (progress_of operation.kind ps.master operation) operation (cond_both (same operation id) made made (λ cs. cs ≡ made) (λ _. refl) (λ _. refl)) refl
 act_makes Prune n ps activity changes id made le inv = refl
-act_makes (Look ask) n ps activity changes id made le inv = plain_makes (Look ask) n ps id made refl refl
-act_makes (Write place version batch) n ps activity changes id made le inv = plain_makes (Write place version batch) n ps id made refl refl
-act_makes (Read places version key at columns) n ps activity changes id made le inv = plain_makes (Read places version key at columns) n ps id made refl refl
-act_makes (Cutoff slot) n ps activity changes id made le inv = plain_makes (Cutoff slot) n ps id made refl refl
-act_makes (Compact slot) n ps activity changes id made le inv = plain_makes (Compact slot) n ps id made refl refl
-act_makes (Send operation slot) n ps activity changes id made le inv = plain_makes (Send operation slot) n ps id made refl refl
-act_makes (Process slot other) n ps activity changes id made le inv = plain_makes (Process slot other) n ps id made refl refl
-act_makes (Ack operation slot) n ps activity changes id made le inv = plain_makes (Ack operation slot) n ps id made refl refl
-act_makes (Remove target plan) n ps activity changes id made le inv = plain_makes (Remove target plan) n ps id made refl refl
-act_makes (Restart slot) n ps activity changes id made le inv = plain_makes (Restart slot) n ps id made refl refl
-act_makes (Stats slot) n ps activity changes id made le inv = plain_makes (Stats slot) n ps id made refl refl
+act_makes act n ps activity changes id made le inv = plain_makes act n ps id made refl refl
 
 made_alike : (m : Master) (es : List Entering) (f g : Id → List Made) → ((id : Id) → f id ≡ g id) → AllMade m es f → AllMade m es g
 made_alike m es f g is h = record {
@@ -174,17 +164,7 @@ act_asked (Change command plan) n ps activity changes restores clones le inv h =
 act_asked (Advance operation) n ps activity changes restores clones le inv h =
     nothing_asked (Advance operation) n ps changes restores clones _ refl refl (advanced_by (λ a. GoOn ps.master (master_effect a n ps.master)) (progress_of operation.kind ps.master operation) operation (stay ps.master _ refl refl) (told_goes (Moves operation) n ps.master refl)) h
 act_asked Prune n ps activity changes restores clones le inv h = nothing_asked Prune n ps changes restores clones _ refl refl (stay ps.master _ refl refl) h
-act_asked (Look ask) n ps activity changes restores clones le inv h = plain_asked (Look ask) n ps changes restores clones refl refl refl h
-act_asked (Write place version batch) n ps activity changes restores clones le inv h = plain_asked (Write place version batch) n ps changes restores clones refl refl refl h
-act_asked (Read places version key at columns) n ps activity changes restores clones le inv h = plain_asked (Read places version key at columns) n ps changes restores clones refl refl refl h
-act_asked (Cutoff slot) n ps activity changes restores clones le inv h = plain_asked (Cutoff slot) n ps changes restores clones refl refl refl h
-act_asked (Compact slot) n ps activity changes restores clones le inv h = plain_asked (Compact slot) n ps changes restores clones refl refl refl h
-act_asked (Send operation slot) n ps activity changes restores clones le inv h = plain_asked (Send operation slot) n ps changes restores clones refl refl refl h
-act_asked (Process slot other) n ps activity changes restores clones le inv h = plain_asked (Process slot other) n ps changes restores clones refl refl refl h
-act_asked (Ack operation slot) n ps activity changes restores clones le inv h = plain_asked (Ack operation slot) n ps changes restores clones refl refl refl h
-act_asked (Remove target plan) n ps activity changes restores clones le inv h = plain_asked (Remove target plan) n ps changes restores clones refl refl refl h
-act_asked (Restart slot) n ps activity changes restores clones le inv h = plain_asked (Restart slot) n ps changes restores clones refl refl refl h
-act_asked (Stats slot) n ps activity changes restores clones le inv h = plain_asked (Stats slot) n ps changes restores clones refl refl refl h
+act_asked act n ps activity changes restores clones le inv h = plain_asked act n ps changes restores clones refl refl refl h
 
 all_asked : (history : List Entry) (slots : ℕ) → Legal slots history → AskedBefore (replay slots history).master (restores_asked slots history) (clones_asked slots history)
 unfolding replay restores_asked clones_asked
@@ -294,17 +274,7 @@ act_whole (Advance operation) n ps activity changes ids made le inv restorations
     (λ q e. let is = unfinished_restoration_is m.restorations operation q e in is_any ids operation q.id (restorations q is.0) is.1.0)
     (λ q e. let is = unfinished_clone_is m.clones operation q e in is_any ids operation q.id (clones q is.0) is.1.0))
 act_whole (Write place version batch) n ps activity changes ids made le inv restorations clones h = plain_whole (Write place version batch) n ps changes ids made (λ id. refl) (written_whole _ n _ batch changes ∙ h)
-act_whole Prune n ps activity changes ids made le inv restorations clones h = plain_whole Prune n ps changes ids made (λ id. refl) h
-act_whole (Look ask) n ps activity changes ids made le inv restorations clones h = plain_whole (Look ask) n ps changes ids made (λ id. refl) h
-act_whole (Read places version key at columns) n ps activity changes ids made le inv restorations clones h = plain_whole (Read places version key at columns) n ps changes ids made (λ id. refl) h
-act_whole (Cutoff slot) n ps activity changes ids made le inv restorations clones h = plain_whole (Cutoff slot) n ps changes ids made (λ id. refl) h
-act_whole (Compact slot) n ps activity changes ids made le inv restorations clones h = plain_whole (Compact slot) n ps changes ids made (λ id. refl) h
-act_whole (Send operation slot) n ps activity changes ids made le inv restorations clones h = plain_whole (Send operation slot) n ps changes ids made (λ id. refl) h
-act_whole (Process slot other) n ps activity changes ids made le inv restorations clones h = plain_whole (Process slot other) n ps changes ids made (λ id. refl) h
-act_whole (Ack operation slot) n ps activity changes ids made le inv restorations clones h = plain_whole (Ack operation slot) n ps changes ids made (λ id. refl) h
-act_whole (Remove target plan) n ps activity changes ids made le inv restorations clones h = plain_whole (Remove target plan) n ps changes ids made (λ id. refl) h
-act_whole (Restart slot) n ps activity changes ids made le inv restorations clones h = plain_whole (Restart slot) n ps changes ids made (λ id. refl) h
-act_whole (Stats slot) n ps activity changes ids made le inv restorations clones h = plain_whole (Stats slot) n ps changes ids made (λ id. refl) h
+act_whole act n ps activity changes ids made le inv restorations clones h = plain_whole act n ps changes ids made (λ id. refl) h
 
 pub journal_asked : (history : List Entry) (slots : ℕ) → Legal slots history → filter (λ c. is_whole c.act) (journal_of slots history) ≡ changes_asked slots history
 unfolding replay journal_of changes_asked

@@ -130,9 +130,9 @@ told_made (BeginsClone namespace source target to) n m changes later more its h 
       | inr o ↦ inr (in_mapped {A = IdPair} {B = Owner} (λ d. record { table = d.target; namespace = new.target_id }) (λ q. q.table ≡ table → IsPaired (m.clones ++ new ∷ []) table) new.tables
           (λ d isin is. record { clone = new; kept = in_second m.clones (new ∷ []) new (inl refl); pair = d; paired = isin; target_is = is }) o.0 o.1.0 o.1.1)
     ]
-told_made (Moves operation) n m changes later more its h table e = goes_made m (master_effect (Moves operation) n m) changes later (move_owners operation.kind operation n m) (told_goes (Moves operation) n m refl).clones more h table e
-told_made (Acks operation slot) n m changes later more its h table e = goes_made m (master_effect (Acks operation slot) n m) changes later (acked_owners operation.kind operation slot n m) (told_goes (Acks operation slot) n m refl).clones more h table e
-told_made (Removes target) n m changes later more its h table e = goes_made m (master_effect (Removes target) n m) changes later (removed_owners target.kind target n m) (told_goes (Removes target) n m refl).clones more h table e
+told_made (Moves operation) n m changes later more its h table e = goes_made m (master_effect (Moves operation) n m) changes later (move_owners operation n m) (told_goes (Moves operation) n m refl).clones more h table e
+told_made (Acks operation slot) n m changes later more its h table e = goes_made m (master_effect (Acks operation slot) n m) changes later (acked_owners operation slot n m) (told_goes (Acks operation slot) n m refl).clones more h table e
+told_made (Removes target) n m changes later more its h table e = goes_made m (master_effect (Removes target) n m) changes later (removed_owners target n m) (told_goes (Removes target) n m refl).clones more h table e
 told_made _ n m changes later more its h table e = elim (h table e) [ inl made ↦ inl (more table made) | inr p ↦ inr p ]
 
 -- Each act

@@ -2,7 +2,7 @@
 use Rattle.std.proofs.Common.{◌≡◌, ℕ, ◌<◌, ◌+◌, Bool, true, false, List, ◌∷◌, ◌++◌, Option, Some, None, inl, inr, refl, sym, ap, subst, ◌∙◌, arith, cond, map, if◌then◌else◌}
 use Rattle.std.specs.Option.{option_map, option_map_or}
 use Rattle.std.proofs.lemmas.Bool.{true≢false}
-use Rattle.model.specs.Cluster.{Id, Kind, NamespaceKind as Namespace, TableKind as Table, TabletKind, ScheduleKind, Snapshot, RestorationKind as Restoration, CloneKind as Clone, same, In, Interval, active_at, TableRecord, owner_of, owns, is_owned_by, current_table, Tablet, Mark, RestoreFrom, Hide, CopyKind, is_done, Listed, Schedule, SnapshotRecord, RestorationRecord, RestorationState, Fencing, Snapshotting, Switching, Restoring, Releasing, Restored, CloneRecord, CloneState, Accepted, CloneSnapshot, Copying, CloneReleasing, CloneComplete, TabletPair, is_restored, is_cloned, is_visible, first_unacked, schedule_of, State, Advance, NotPending, Waiting, Master, Parts, refused}
+use Rattle.model.specs.Cluster.{Id, Kind, Snapshot, RestorationKind as Restoration, CloneKind as Clone, same, In, Interval, active_at, TableRecord, owner_of, owns, is_owned_by, current_table, Tablet, Mark, RestoreFrom, Hide, CopyKind, is_done, Listed, Schedule, SnapshotRecord, RestorationRecord, RestorationState, Fencing, Snapshotting, Switching, Restoring, Releasing, Restored, CloneRecord, CloneState, Accepted, CloneSnapshot, Copying, CloneReleasing, CloneComplete, TabletPair, is_restored, is_cloned, is_visible, first_unacked, schedule_of, State, Advance, NotPending, Waiting, Master, Parts, refused}
 use Rattle.model.specs.Journal as made
 use Rattle.model.specs.Journal.{NamespaceRestored, NamespaceCloned, TableView, table_at, is_in, source_of}
 use Rattle.model.specs.Stands.{awaited_in, awaited_of}

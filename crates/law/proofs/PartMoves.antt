@@ -1,7 +1,7 @@
 -- The parts' versions are those of the journal's schemas: through what tablets do of their commands.
 use Rattle.std.proofs.Common.{◌≡◌, ◌≢◌, ℕ, ◌≤◌, true, false, List, [], ◌∷◌, ◌++◌, None, inl, refl, sym, ap, subst, ◌∙◌, arith, not, eqb}
 use Rattle.std.proofs.lemmas.Bool.{cond_both}
-use Rattle.model.specs.Cluster.{KeyedRow, Id, In, has, Interval, Listed, RestorationRecord, RestorationState, Fencing, Snapshotting, Switching, Restoring, Releasing, Restored, CloneRecord, CloneState, Accepted, CloneSnapshot, Copying, CloneReleasing, CloneComplete, TabletPair, is_visible, Process, Idle, Done, OtherSlot, Master, Parts, If, refused}
+use Rattle.model.specs.Cluster.{KeyedRow, Id, In, has, Interval, Listed, RestorationRecord, RestorationState, Fencing, Restoring, Releasing, CloneRecord, CloneState, CloneSnapshot, Copying, CloneReleasing, TabletPair, is_visible, Process, Idle, Done, OtherSlot, Master, Parts, If, refused}
 use Rattle.model.specs.Journal as made
 use Rattle.model.specs.Tablets as tell
 use Rattle.model.specs.Tablets.{Tablet, Command, Body, Fence, Freeze, RestoreFrom, Hide, Copy, Release, BodyKind, RestoreFromKind, CopyKind, Mark, kind_of, is_done, processed, obeyed}

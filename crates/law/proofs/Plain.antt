@@ -2,8 +2,8 @@
 use Rattle.std.proofs.Common.{◌≡◌, ℕ, Bool, true, false, List, [], ◌∷◌, Option, Some, None, refl, arith, eqb, length, Result, Ok, Err}
 use Rattle.std.proofs.lemmas.Bool.{cond_both}
 use Rattle.model.specs.Cluster.{Id, Kind, TabletKind as Tablet, Snapshot, Listed, snapshot_with, SnapshotRecord, Interval, last_of}
-use Rattle.model.specs.Acts.{Act, Ask, AskPlan, AskKeys, AskTable, AskWork, AskRemovable, AskPresent, Look, Change, Write, Read, Cutoff, Compact, Send, Process, Ack, Advance, Remove, Prune, Restart, Stats, Refusal, NoTablet, Counts}
-use Rattle.model.specs.Parts.{Master, Parts, Outcome, MasterAct, Ticks, MakesNamespace, DropsNamespace, MakesTable, AddsColumn, DropsColumn, RenamesTable, DropsTable, SplitsTablet, MakesSchedule, EditsSchedule, DeletesSchedule, TakesSnapshot, BeginsRestoration, BeginsClone, Sends, Acks, Unsends, Moves, Removes, Prunes, Restarts, answered, unless, decided}
+use Rattle.model.specs.Acts.{Act, Ask, AskKeys, AskTable, Look, Change, Send, Process, Ack, Advance, Remove, Prune, Restart, Stats, Refusal, NoTablet, Counts}
+use Rattle.model.specs.Parts.{Master, Parts, Outcome, MasterAct, Ticks, Sends, Acks, Unsends, Removes, Restarts, answered, unless, decided}
 use Rattle.model.specs.History.{outcome, look}
 use Rattle.model.specs.Drawn.{ids_made}
 use Rattle.model.specs.Tablets.{Tablet as TabletPart, Command as TabletCommand, kind_of, is_done, is_empty}

@@ -4,7 +4,7 @@ use Rattle.std.specs.Prelude.{Result, Ok as Granted, Err as Denied}
 use Rattle.std.proofs.lemmas.Bool.{true≢false, cond_both}
 use Rattle.model.specs.Cluster.{Id, Kind, Snapshot, TabletKind as Tablet, has, Interval, last_of, Listed, SnapshotRecord, State, first_unacked, snapshot_with}
 use Rattle.model.specs.Tablets.{Tablet as Part, Command as Order, act_for, effect, is_done, is_empty, kind_of}
-use Rattle.model.specs.Acts.{Act, Look, Change, Write, Read, Cutoff, Compact, Send, Process, Ack, Advance, Remove, Prune, Restart, Stats, Ask, AskPlan, AskKeys, AskTable, AskWork, AskRemovable, AskPresent, Command, CreateNamespace, DropNamespace, CreateTable, AddColumn, DropColumn, RenameTable, DropTable, Split, CreateSchedule, EditSchedule, DeleteSchedule, TakeSnapshot, Restore, CloneNamespace, ListSchedules, ListSnapshots, ListRestorations, ListClones, ListTablets, Reply, Refused, Refusal, NotDone, Counts, NoTablet}
+use Rattle.model.specs.Acts.{Act, Look, Change, Send, Process, Ack, Advance, Remove, Prune, Restart, Stats, Ask, AskKeys, AskTable, Command, CreateNamespace, DropNamespace, CreateTable, AddColumn, DropColumn, RenameTable, DropTable, Split, CreateSchedule, EditSchedule, DeleteSchedule, TakeSnapshot, Restore, CloneNamespace, ListTablets, Reply, Refused, Refusal, NotDone, Counts, NoTablet}
 use Rattle.model.specs.Parts.{Parts, Ticks, Outcome, answered, decided, refused, unless}
 use Rattle.model.specs.Looks.{look_plan, look_keys, look_table, look_present, found_namespace, judge_keys, found_at}
 use Rattle.model.specs.Changed.{clone_time}
@@ -15,14 +15,11 @@ use Rattle.model.specs.Moves.{Progress, progress_of, waits_for, moving, advancin
 use Rattle.model.specs.Cleanup.{remove, removing, removing_tablet, removing_snapshot, prune}
 use Rattle.model.specs.Entries.{Entry, slots_of}
 use Rattle.model.specs.History.{Legal, RefusedTicks, look, master_effect, outcome, replay}
+use Rattle.law.proofs.Telling.{command_each, is_refused}
 
 -- where an outcome is a refusal, but not that of an ack too early, it tells the parts nothing but the time
 pub record TellsNone (o : Outcome) : Type 0 where
   pub none : (why : Refusal) → o.reply ≡ Refused why → (why ≡ NotDone → ⊥) → (o.master ≡ Ticks) × (o.tablets ≡ [])
-
-abbrev is_refused : Reply → Bool
-is_refused (Refused why) = true
-is_refused _ = false
 
 accepted_tells : (o : Outcome) → is_refused o.reply ≡ false → TellsNone o
 accepted_tells o e = record { none = λ why is other. absurd (true≢false (sym (ap is_refused is) ∙ e)) }
@@ -40,25 +37,6 @@ unless_accepted why o e = unless_tells why o (accepted_tells o e)
 decided_tells : {A : Type 0} (found : Result A Refusal) (accept : A → Outcome) → ((a : A) → is_refused (accept a).reply ≡ false) → TellsNone (decided found accept)
 decided_tells (Denied why) accept each = refused_tells why
 decided_tells (Granted a) accept each = accepted_tells (accept a) (each a)
-
-planned_tells : (command : Command) (slots : List ℕ) (n : ℕ) (ps : Parts) → TellsNone (planned command slots n ps)
-unfolding create_namespace drop_namespace create_table add_column drop_column rename_table drop_table split create_schedule edit_schedule delete_schedule take_snapshot restore clone_namespace list_tablets
-planned_tells (CreateNamespace name) slots n ps = decided_tells (judge_create_namespace name ps.master) _ (λ a. refl)
-planned_tells (DropNamespace name) slots n ps = decided_tells (judge_drop_namespace name ps.master) _ (λ a. refl)
-planned_tells (CreateTable namespace table tablets columns) slots n ps = decided_tells (judge_create_table namespace table tablets ps.master) _ (λ a. refl)
-planned_tells (AddColumn namespace table name kind) slots n ps = decided_tells (judge_add_column namespace table name ps.master) _ (λ a. refl)
-planned_tells (DropColumn namespace table name) slots n ps = decided_tells (judge_drop_column namespace table name ps.master) _ (λ a. refl)
-planned_tells (RenameTable namespace table name) slots n ps = decided_tells (judge_rename_table namespace table name ps.master) _ (λ a. refl)
-planned_tells (DropTable namespace table) slots n ps = decided_tells (judge_drop_table namespace table ps.master) _ (λ a. refl)
-planned_tells (Split namespace table code) slots n ps = decided_tells (judge_split namespace table code ps.master) _ (λ a. refl)
-planned_tells (CreateSchedule interval retention namespace) slots n ps = decided_tells (judge_create_schedule interval retention namespace ps.master) _ (λ a. refl)
-planned_tells (EditSchedule schedule interval retention) slots n ps = decided_tells (judge_edit_schedule schedule interval retention ps.master) _ (λ a. refl)
-planned_tells (DeleteSchedule schedule) slots n ps = decided_tells (judge_delete_schedule schedule ps.master) _ (λ a. refl)
-planned_tells (TakeSnapshot schedule) slots n ps = decided_tells (judge_take_snapshot schedule n ps.master) _ (λ a. refl)
-planned_tells (Restore schedule to) slots n ps = decided_tells (judge_restore schedule to n ps.master) _ (λ a. refl)
-planned_tells (CloneNamespace source target at) slots n ps = decided_tells (judge_clone source target (clone_time at n) n ps.master) _ (λ a. refl)
-planned_tells (ListTablets namespace) slots n ps = decided_tells (found_namespace ps.master namespace) _ (λ a. refl)
-planned_tells _ slots n ps = accepted_tells _ refl
 
 look_tells : (ask : Ask) (n : ℕ) (ps : Parts) → TellsNone (look ask n ps.master)
 unfolding look_plan look_keys look_table look_present
@@ -102,9 +80,9 @@ removing_tells Snapshot target slots n ps = removing_set (snapshot_with ps.maste
 removing_tells _ target slots n ps = search (unless_tells, refused_tells)
 
 act_tells : (act : Act) (n : ℕ) (ps : Parts) → TellsNone (outcome act n ps)
-unfolding change write read cutoff compact send process ack advance remove prune restart stats
+unfolding write read cutoff compact send process ack advance remove prune restart stats
 act_tells (Look ask) n ps = look_tells ask n ps
-act_tells (Change command slots) n ps = unless_tells _ (planned command slots n ps) (planned_tells command slots n ps)
+act_tells (Change command slots) n ps = command_each TellsNone command slots n ps refused_tells (λ o is. accepted_tells o is.accepted)
 act_tells (Send operation slot) n ps = sending_tells (pending ps.master operation slot) operation slot
 act_tells (Process slot other) n ps = processing_tells (ps.tablet slot).inbox slot other (ps.tablet other)
 act_tells (Ack operation slot) n ps = acknowledging_tells (pending ps.master operation slot) operation slot (ps.tablet slot)

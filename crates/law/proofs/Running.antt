@@ -40,10 +40,10 @@ event_keeps slots event r =
     (λ _. tail_itself r.history)
     (λ _. cond_both may (record r { history = e ∷ r.history }) (record r { stopped = true }) P (λ _. record { later = e ∷ []; is = refl }) (λ _. tail_itself r.history))
 
-performed_keeps : (slots : ℕ) (act : Act) (r : Run) → IsTail r.history (performed slots act r).history
+pub performed_keeps : (slots : ℕ) (act : Act) (r : Run) → IsTail r.history (performed slots act r).history
 performed_keeps slots act r = event_keeps slots (event_of (reading_for (touches act) r) act) r
 
-all_keep : (acts : List Act) (slots : ℕ) (r : Run) → IsTail r.history (performed_all slots acts r).history
+pub all_keep : (acts : List Act) (slots : ℕ) (r : Run) → IsTail r.history (performed_all slots acts r).history
 all_keep [] slots r = tail_itself r.history
 all_keep (act ∷ acts) slots r =
     let next = performed slots act r in tail_of_tail r.history next.history (performed_all slots acts next).history (performed_keeps slots act r) (all_keep acts slots next)
@@ -55,7 +55,7 @@ work_keeps (act ∷ acts) slots r =
     let next = with_event slots event r in
     tail_of_tail r.history next.history (worked_off slots acts next).history (event_keeps slots event r) (work_keeps acts slots next)
 
-taken_keeps : (course : Course) (slots : ℕ) (r : Run) → IsTail r.history (taken slots course r).history
+pub taken_keeps : (course : Course) (slots : ℕ) (r : Run) → IsTail r.history (taken slots course r).history
 taken_keeps (Perform act) slots r = performed_keeps slots act r
 taken_keeps (LookFor ask follow showing) slots r =
     let next = performed slots (Look ask) r in

@@ -31,7 +31,7 @@ entry_is_step slots event earlier asked may =
     record { asked = asked; number = refl; stamp = refl; before_end = ltb-true _ _ both.0; room = ltb-true _ _ both.1; reply = refl }
 
 -- the run with the entry of an event
-abbrev with_entry : ℕ → Event → Run → Run
+abbrev pub with_entry : ℕ → Event → Run → Run
 with_entry slots event r = record r { history = entry_of slots event r.history ∷ r.history }
 
 -- a lag takes from the reading
@@ -47,7 +47,7 @@ entry_legal slots event r h less fit may = record {
 }
 
 -- the event of an act of a command
-abbrev event_for : Act → Run → Event
+abbrev pub event_for : Act → Run → Event
 event_for act r = event_of (reading_for (touches act) r) act
 
 performed_legal : (slots : ℕ) (act : Act) (r : Run) → IsLegalRun slots r → IsFit slots act → IsLegalRun slots (performed slots act r)
@@ -64,7 +64,7 @@ all_legal [] slots r h fit = h
 all_legal (act ∷ acts) slots r h fit = all_legal acts slots (performed slots act r) (performed_legal slots act r h fit.0) fit.1
 
 -- a run that has stopped stays as it is
-stopped_stays : (acts : List Act) (slots : ℕ) (r : Run) → r.stopped ≡ true → performed_all slots acts r ≡ r
+pub stopped_stays : (acts : List Act) (slots : ℕ) (r : Run) → r.stopped ≡ true → performed_all slots acts r ≡ r
 stopped_stays [] slots r e = refl
 stopped_stays (act ∷ acts) slots r e =
     let once : performed slots act r ≡ r = ap (λ b. cond b r (cond (may_follow slots (event_for act r) r.history) (with_entry slots (event_for act r) r) (record r { stopped = true }))) e in
@@ -74,7 +74,7 @@ stopped_legal : (slots : ℕ) (follow : Found → List Act) (r : Run) → IsLega
 stopped_legal slots follow r h e = subst (IsLegalRun slots) (sym (stopped_stays (after_look follow r.history) slots r e)) h
 
 -- what holds of the reply of a look that follows
-look_answers : (slots : ℕ) (ask : Ask) (r : Run) → IsLegalRun slots (with_entry slots (event_for (Look ask) r) r) → IsAnswer slots ask (entry_of slots (event_for (Look ask) r) r.history).reply
+pub look_answers : (slots : ℕ) (ask : Ask) (r : Run) → IsLegalRun slots (with_entry slots (event_for (Look ask) r) r) → IsAnswer slots ask (entry_of slots (event_for (Look ask) r) r.history).reply
 unfolding entry_of
 look_answers slots ask r h =
     let before = legal_holds r.history slots h.legal.0 in

@@ -2,9 +2,9 @@
 -- a part is cleared where the master knows an interval.
 use Rattle.std.proofs.Common.{◌≡◌, ℕ, ◌+◌, length, ◌<◌, Bool, true, false, List, [], ◌∷◌, Option, Some, None, refl, sym, subst, not, Result, Ok, Err, eqb, eqb-true, inl, inr}
 use Rattle.std.proofs.lemmas.Bool.{cond_both, true≢false}
-use Rattle.model.specs.Cluster.{Id, Kind, NamespaceKind as Namespace, TableKind as Table, TabletKind as Tablet, ScheduleKind as Schedule, Snapshot, RestorationKind as Restoration, CloneKind as Clone, In, same_slots, part_of, Interval, last_of, Listed, SnapshotRecord, snapshot_with, first_unacked}
+use Rattle.model.specs.Cluster.{Id, Kind, TabletKind as Tablet, Snapshot, In, same_slots, part_of, Interval, last_of, Listed, SnapshotRecord, snapshot_with, first_unacked}
 use Rattle.model.specs.Tablets.{Told, TabletAct, Child, Clear, Clock, DropFrozen, Make, Offer, SetVersion, HideSince, Write as WriteRows, RaiseCutoff, Compact as CompactTablet, Process as ProcessTablet, Restart as RestartTablet, Tablet as TabletPart, Command as TabletCommand, act_for, is_done, kind_of}
-use Rattle.model.specs.Acts.{Act, Change, Command, CreateNamespace, DropNamespace, CreateTable, AddColumn, DropColumn, RenameTable, DropTable, Split, CreateSchedule, EditSchedule, DeleteSchedule, TakeSnapshot, Restore, CloneNamespace, ListSchedules, ListSnapshots, ListRestorations, ListClones, ListTablets, Refusal, StalePlan, OtherSlot, Removed, Look, Write, Read, Cutoff, Compact, Send, Process, Ack, Advance, Remove, Prune, Restart, Stats}
+use Rattle.model.specs.Acts.{Act, Change, Command, CreateNamespace, DropNamespace, CreateTable, AddColumn, DropColumn, RenameTable, DropTable, Split, CreateSchedule, EditSchedule, DeleteSchedule, TakeSnapshot, Restore, CloneNamespace, ListTablets, Refusal, StalePlan, OtherSlot, Removed, Look, Write, Read, Cutoff, Compact, Send, Process, Ack, Advance, Remove, Prune, Restart, Stats}
 use Rattle.model.specs.Parts.{Master, Parts, Outcome, If, decided, judged, Removes, refusal_in, refused, unless}
 use Rattle.model.specs.Looks.{found_namespace, plan_of}
 use Rattle.model.specs.Changed.{children, clone_time, next_table, shares}

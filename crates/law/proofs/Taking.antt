@@ -1,17 +1,15 @@
 -- Kept snapshots are as they were taken, in their order: nothing but their acks, and whether they are complete, changes.
-use Rattle.std.proofs.Common.{◌≡◌, ℕ, ◌<◌, Bool, true, false, List, [], ◌∷◌, ◌++◌, Option, Some, None, inl, inr, refl, sym, ap, ◌∙◌, subst, map, arith, ltb, not, cond}
-use Rattle.std.specs.Option.{option_map_or}
+use Rattle.std.proofs.Common.{◌≡◌, ℕ, ◌<◌, Bool, true, false, List, [], ◌∷◌, ◌++◌, inl, inr, refl, sym, ap, ◌∙◌, subst, map, arith, ltb, not, cond}
 use Rattle.std.specs.List.{filter}
 use Rattle.std.proofs.lemmas.Bool.{cond_both}
 use Rattle.std.proofs.lemmas.Bool.Decides.{nat_tests}
-use Rattle.model.specs.Cluster.{Id, Kind, Snapshot, RestorationKind as Restoration, CloneKind as Clone, same, has, Schedule as ScheduleRecord, Listed, SnapshotRecord, RestorationRecord, RestorationState, Fencing, CloneRecord, CloneState, Accepted, acked_at, schedule_of, Master, Parts, MasterAct, TakesSnapshot, Acks, Moves, Removes}
-use Rattle.model.specs.Cleanup.{removed_of}
-use Rattle.model.specs.Coordination.{acked_by, unfinished_snapshot, unfinished_restoration, unfinished_clone}
+use Rattle.model.specs.Cluster.{Id, same, has, Listed, SnapshotRecord, RestorationRecord, RestorationState, Fencing, CloneRecord, CloneState, Accepted, acked_at, Master, Parts, MasterAct, TakesSnapshot, Acks, Moves, Removes}
 use Rattle.model.specs.Drawn.{IsPartOf, SnapshotsAsTaken, as_taken}
 use Rattle.model.specs.Entries.{Entry, slots_of}
 use Rattle.model.specs.History.{master_effect, next, outcome, replay, snapshots_taken}
 use Rattle.model.specs.Lists.{new_snapshot, with_snapshot}
-use Rattle.model.specs.Moves.{anew, begins_clone, clone_moved, completed, moved_of, restoration_moved, serving_clone, with_clones_snapshot}
+use Rattle.model.specs.Moves.{anew, clone_moved, restoration_moved}
+use Rattle.law_invariants.proofs.Effects.{acked_each, begins_each, moved_each, removed_each}
 use Rattle.law_invariants.proofs.Parting.{part_append, part_left, part_mapped, part_same}
 
 abbrev pub Taken : List SnapshotRecord → List SnapshotRecord → Type 0
@@ -50,58 +48,26 @@ either_anew false ks ls e = refl
 added : (m : Master) (ns schedule : Id) (n : ℕ) → Goes m (with_snapshot ns schedule n m).snapshots
 added m ns schedule n = Adds (new_snapshot m ns schedule n) (omega arith) refl
 
-clones_own_goes : (s : Option ScheduleRecord) (c : CloneRecord) (n : ℕ) (m : Master) → Goes m (with_clones_snapshot s c n m).snapshots
-clones_own_goes None c n m = stays m
-clones_own_goes (Some s) c n m = added m c.source s.id n
-
 restoration_goes : (state : RestorationState) (r : RestorationRecord) (n : ℕ) (m : Master) → Goes m (restoration_moved state r n m).snapshots
 restoration_goes Fencing r n m = added m r.namespace r.schedule n
 restoration_goes _ r n m = stays m
 
-begun_goes : (serving : Option SnapshotRecord) (c : CloneRecord) (n : ℕ) (m : Master) → Goes m (begins_clone serving c n m).snapshots
-begun_goes (Some s) c n m = stays m
-begun_goes None c n m = clones_own_goes (schedule_of m.schedules c.source) c n m
-
 clone_goes : (state : CloneState) (c : CloneRecord) (n : ℕ) (m : Master) → Goes m (clone_moved state c n m).snapshots
-clone_goes Accepted c n m = begun_goes (serving_clone m c) c n m
+clone_goes Accepted c n m = begins_each (λ k. Goes m k.snapshots) c n m (λ serving. stays m) (λ s. added m c.source s.id n) (stays m)
 clone_goes _ c n m = stays m
-
-found_snapshot : (found : Option SnapshotRecord) (n : ℕ) (m : Master) → Goes m (option_map_or (λ r. completed r n m) found (record m { clock = n })).snapshots
-found_snapshot None n m = stays m
-found_snapshot (Some r) n m = updated m _ _ (λ x. either_anew (same x.id r.id) (anew x.listed) x.listed (anew_twice x.listed))
-
-found_restoration : (found : Option RestorationRecord) (n : ℕ) (m : Master) → Goes m (option_map_or (λ r. restoration_moved r.state r n m) found (record m { clock = n })).snapshots
-found_restoration None n m = stays m
-found_restoration (Some r) n m = restoration_goes r.state r n m
-
-found_clone : (found : Option CloneRecord) (n : ℕ) (m : Master) → Goes m (option_map_or (λ c. clone_moved c.state c n m) found (record m { clock = n })).snapshots
-found_clone None n m = stays m
-found_clone (Some c) n m = clone_goes c.state c n m
-
-move_goes : (kind : Kind) (id : Id) (n : ℕ) (m : Master) → Goes m (moved_of kind id n m).snapshots
-move_goes Snapshot id n m = found_snapshot (unfinished_snapshot m.snapshots id) n m
-move_goes Restoration id n m = found_restoration (unfinished_restoration m.restorations id) n m
-move_goes Clone id n m = found_clone (unfinished_clone m.clones id) n m
-move_goes _ id n m = stays m
-
-acked_goes : (kind : Kind) (operation : Id) (slot n : ℕ) (m : Master) → Goes m (acked_by kind operation slot n m).snapshots
-acked_goes Snapshot operation slot n m = updated m (λ x. x.complete) _ (λ x. either_anew (same x.id operation) (acked_at slot x.listed) x.listed (anew_acked slot x.listed))
-acked_goes Restoration operation slot n m = stays m
-acked_goes Clone operation slot n m = stays m
-acked_goes _ operation slot n m = stays m
 
 left_taken : (test : SnapshotRecord → Bool) (rs : List SnapshotRecord) → Taken (filter test rs) rs
 left_taken test rs = part_mapped as_taken rs (filter test rs) (part_left test rs rs (part_same rs))
 
-removed_goes : (kind : Kind) (target : Id) (n : ℕ) (m : Master) → Goes m (removed_of kind target n m).snapshots
-removed_goes Snapshot target n m = Stays (left_taken (λ q. not (same q.id target)) m.snapshots)
-removed_goes _ target n m = stays m
-
 told_goes : (a : MasterAct) (n : ℕ) (m : Master) → Goes m (master_effect a n m).snapshots
 told_goes (TakesSnapshot schedule) n m = added m schedule.namespace schedule.id n
-told_goes (Acks operation slot) n m = acked_goes operation.kind operation slot n m
-told_goes (Moves operation) n m = move_goes operation.kind operation n m
-told_goes (Removes target) n m = removed_goes target.kind target n m
+told_goes (Acks operation slot) n m =
+    acked_each (λ k. Goes m k.snapshots) operation.kind operation slot n m (stays m)
+    (updated m (λ x. x.complete) _ (λ x. either_anew (same x.id operation) (acked_at slot x.listed) x.listed (anew_acked slot x.listed))) (stays m) (stays m)
+told_goes (Moves operation) n m =
+    moved_each (λ k. Goes m k.snapshots) operation.kind operation n m (stays m) (λ r e. updated m _ _ (λ x. either_anew (same x.id r.id) (anew x.listed) x.listed (anew_twice x.listed)))
+    (λ r e. restoration_goes r.state r n m) (λ c e. clone_goes c.state c n m)
+told_goes (Removes target) n m = removed_each (λ k. Goes m k.snapshots) target.kind target n m (stays m) (stays m) (Stays (left_taken (λ q. not (same q.id target)) m.snapshots))
 told_goes _ n m = stays m
 
 entry_goes : (e : Entry) (ps : Parts) → Goes ps.master (next e ps).master.snapshots

@@ -3,7 +3,7 @@ use Rattle.std.proofs.Common.{ℕ, ◌≡◌, ◌≤◌, List, [], ◌∷◌, �
 use Rattle.std.specs.Option.{option_or, option_map}
 use Rattle.std.specs.List.{filter}
 use Rattle.std.proofs.lemmas.Bool.{cond_both}
-use Rattle.model.specs.Cluster.{Id, In, AllOf, Listed, Sent, RestorationRecord, RestorationState, Fencing, Restoring, Releasing, CloneRecord, CloneState, Accepted, CloneSnapshot, Copying, CloneReleasing, CloneComplete, is_restored, is_cloned, is_sent, first_unacked, Interval, Act, WorkItem, SendWork, CollectWork, AdvanceWork, Master, Parts}
+use Rattle.model.specs.Cluster.{Id, In, AllOf, Listed, Sent, RestorationRecord, RestorationState, Fencing, Restoring, Releasing, CloneRecord, CloneState, CloneSnapshot, Copying, CloneReleasing, is_restored, is_cloned, is_sent, first_unacked, Interval, Act, WorkItem, SendWork, CollectWork, AdvanceWork, Master, Parts}
 use Rattle.model.specs.Tablets.{Command, Body, Fence, Freeze, RestoreFrom, Hide, Release}
 use Rattle.model.specs.Journal.{Change as Made}
 use Rattle.model.specs.Coordination.{source_slot}

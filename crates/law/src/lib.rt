@@ -2,17 +2,17 @@
 //! of definitions alone, and so of no code. Each act has a lemma that it keeps what holds, and a line in the dispatch.
 #![tactic(auto)]
 
-ghost use Rattle.std.specs.Prelude.{◌≡◌, ◌⊎◌, ℕ, ◌≤◌, Some, true, is_some, List, ◌∷◌, ◌++◌};
+ghost use Rattle.std.specs.Prelude.{◌≡◌, ◌⊎◌, ℕ, ◌+◌, ◌≤◌, Some, true, is_some, List, ◌∷◌, ◌++◌};
 ghost use Rattle.model.specs.Scripts.{Numbered};
 ghost use Rattle.model_runs.specs.Courses.{ScriptAsked};
 ghost use Rattle.model_runs.specs.Running.{run_of};
 ghost use Rattle.model.specs.Entries.{Entry};
 ghost use Rattle.row_values.specs.Elements.{AllOf, In};
 ghost use Rattle.row_values.specs.Ids.{Id};
-ghost use Rattle.model.specs.Catalog.{owner_of};
+ghost use Rattle.model.specs.Catalog.{TableRecord, owner_of};
 ghost use Rattle.model.specs.Journal.{owner_in, source_of};
 ghost use Rattle.model.specs.Records.{CloneRecord};
-ghost use Rattle.model.specs.History.{Legal, RefusedTicks, replay, journal_of, activity_of, scheduled_since, snapshots_taken};
+ghost use Rattle.model.specs.History.{Legal, RefusedTicks, held, replay, journal_of, activity_of, scheduled_since, snapshots_taken};
 ghost use Rattle.model.specs.Cleanup.{pruned};
 ghost use Rattle.model.specs.Retained.{Retained, RowsFound};
 ghost use Rattle.model.specs.Taking.{MarkRaised, TakesNothingNeeded};
@@ -52,13 +52,15 @@ pub fn legal_is_right()
 /// draws few: at most so many of each kind, for each entry of the master's log. So numbers of identifiers stay below
 /// their bound, of which code makes its identifiers. A new column gets one more than the greatest id that was ever
 /// given to its table; and the newest schema that the catalog keeps of a table has as its version the changes of
-/// columns, and the restores and the clone, that made the table current, counted from 1. Kept snapshots are as they
-/// were taken, and in that order, in any history.
+/// columns, and the restores and the clone, that made the table current, counted from 1. Versions and ids of columns are
+/// few too: a version is at most the entries of the master's log, and a next column has at most 16 more. Kept snapshots
+/// are as they were taken, and in that order, in any history.
 pub fn numbers_are_drawn()
     ensures drawn { (slots : ℕ) (history : List Entry) → Legal slots history → DrawsInTurn slots history }
     ensures within { (slots : ℕ) (history : List Entry) → Legal slots history → slots ≤ most_slots → DrawnWithin slots history }
     ensures below { (slots : ℕ) (history : List Entry) → Legal slots history → slots ≤ most_slots → DrawnBelow (replay slots history).master }
     ensures schemas { (slots : ℕ) (history : List Entry) → Legal slots history → SchemasDrawn (replay slots history).master (journal_of slots history) }
+    ensures versions { (slots : ℕ) (history : List Entry) (t : TableRecord) → Legal slots history → In t (replay slots history).master.catalog.tables → (t.schema.version ≤ held 0 history) × (t.schema.next ≤ held 0 history + 16) }
     ensures taken { (slots : ℕ) (history : List Entry) → SnapshotsAsTaken slots history }
 {}
 

@@ -33,12 +33,9 @@ use Rattle.law_answers.proofs.Commanding.{change_answered, slots_apart}
 look_answered : (ask : Ask) (n : ℕ) (ps : Parts) (activity : List Interval) (changes : List Made) → ps.master.clock < n → Inv ps activity changes → VersionsThen ps.master.catalog.tables changes
     → LookAnswer ask (outcome (Look ask) n ps).reply n ps activity changes
 unfolding look_plan look_present
-look_answered (AskPlan command) n ps activity changes before inv versions = refl
 look_answered (AskKeys namespace table batch at) n ps activity changes before inv versions = keys_answered ps n activity changes namespace table batch at before inv versions
 look_answered (AskTable namespace table at) n ps activity changes before inv versions = table_answered ps n activity changes namespace table at before inv versions
-look_answered AskWork n ps activity changes before inv versions = refl
-look_answered AskRemovable n ps activity changes before inv versions = refl
-look_answered AskPresent n ps activity changes before inv versions = refl
+look_answered _ n ps activity changes before inv versions = refl
 
 -- Acts on tablets
 
@@ -159,11 +156,7 @@ remove_snapshot_answered (Some r) target slots n ps activity changes =
 remove_answered : (kind : Kind) (target : Id) (slots : List ℕ) (n : ℕ) (ps : Parts) (activity : List Interval) (changes : List Made) → AnswerRight (Remove target slots) (removing kind target slots n ps).reply n ps activity changes
 remove_answered Tablet target slots n ps activity changes = remove_tablet_answered (last_of ps.master.activity target) target slots n ps activity changes
 remove_answered Snapshot target slots n ps activity changes = remove_snapshot_answered (snapshot_with ps.master.snapshots target) target slots n ps activity changes
-remove_answered Namespace target slots n ps activity changes = unknown_answered target slots UnknownSnapshot n ps activity changes (inr (inr (inl refl)))
-remove_answered Table target slots n ps activity changes = unknown_answered target slots UnknownSnapshot n ps activity changes (inr (inr (inl refl)))
-remove_answered Schedule target slots n ps activity changes = unknown_answered target slots UnknownSnapshot n ps activity changes (inr (inr (inl refl)))
-remove_answered Restoration target slots n ps activity changes = unknown_answered target slots UnknownSnapshot n ps activity changes (inr (inr (inl refl)))
-remove_answered Clone target slots n ps activity changes = unknown_answered target slots UnknownSnapshot n ps activity changes (inr (inr (inl refl)))
+remove_answered _ target slots n ps activity changes = unknown_answered target slots UnknownSnapshot n ps activity changes (inr (inr (inl refl)))
 
 -- what the replies go by, beside what holds: the versions of schemas, and that no two records are of one namespace
 pub record IsKnown (m : Master) (changes : List Made) : Type 0 where

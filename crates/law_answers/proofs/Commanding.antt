@@ -131,10 +131,6 @@ command_answered (TakeSnapshot schedule) slots n ps activity changes before inv 
     (λ s. (next_snapshot m, refl))
 command_answered (Restore schedule to) slots n ps activity changes before inv apart = restore_answered schedule to n ps.master
 command_answered (CloneNamespace source target at) slots n ps activity changes before inv apart = clone_answered ps activity changes n source target at before inv apart
-command_answered ListSchedules slots n ps activity changes before inv apart = refl
-command_answered ListSnapshots slots n ps activity changes before inv apart = refl
-command_answered ListRestorations slots n ps activity changes before inv apart = refl
-command_answered ListClones slots n ps activity changes before inv apart = refl
 command_answered (ListTablets namespace) slots n ps activity changes before inv apart =
     let h = asked ps.master n changes before inv.master in
     by (namespace_named ps.master.catalog.namespaces namespace) (λ none. no_namespace ps.master n changes namespace h none) (λ id some. namespace_found ps.master n changes namespace id h some)
@@ -144,6 +140,7 @@ command_answered (ListTablets namespace) slots n ps activity changes before inv 
         ⊎ ((NamespaceFound changes n namespace → ⊥) × ((decided (ok_or found UnknownNamespace) (λ ns. answered (Tablets (tablet_lines ps.master ns)))).reply ≡ Refused UnknownNamespace))
     by None missing there = inr (missing refl, refl)
     by (Some ns) missing there = inl (record { id = ns; named = there ns refl }, refl)
+command_answered _ slots n ps activity changes before inv apart = refl
 
 -- The plan
 

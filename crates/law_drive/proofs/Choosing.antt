@@ -200,17 +200,12 @@ complete_now m id r all isin is =
 restoration_free : (state : RestorationState) (m : Master) (changes : List Made) (r : RestorationRecord) → AllComplete m → RestorationStateGood state m changes r → awaited_by_restoration state m r ≡ None
 restoration_free Fencing m changes r all h = no_unfinished m.snapshots r.namespace all
 restoration_free (Snapshotting point own) m changes r all h = complete_now m own h.snapshot all h.kept h.id_is
-restoration_free (Switching point serving) m changes r all h = refl
-restoration_free (Restoring point serving) m changes r all h = refl
-restoration_free (Releasing point serving) m changes r all h = refl
-restoration_free (Restored point serving) m changes r all h = refl
+restoration_free _ m changes r all h = refl
 
 clone_free : (state : CloneState) (m : Master) (r : CloneRecord) → AllComplete m → CloneStateGood state m r → awaited_by_clone state m r ≡ None
 clone_free Accepted m r all h = cond_both (is_some (serving_clone m r)) None (unfinished_of m.snapshots r.source) (λ o. o ≡ None) (λ _. refl) (λ _. no_unfinished m.snapshots r.source all)
 clone_free (CloneSnapshot own) m r all h = complete_now m own h.snapshot all h.kept h.id_is
-clone_free (Copying serving at) m r all h = refl
-clone_free (CloneReleasing serving at) m r all h = refl
-clone_free (CloneComplete serving at) m r all h = refl
+clone_free _ m r all h = refl
 
 waits : (o : Option Id) → o ≡ None → is_some o ≡ true → ⊥
 waits o e is = true≢false (sym is ∙ ap is_some e)

@@ -85,11 +85,7 @@ processed_kept ps slot other n =
 
 restoration_kept : (state : RestorationState) (m : Master) (r : RestorationRecord) (n : ℕ) → Keeps m (restoration_moved state r n m)
 restoration_kept Fencing m r n = added_kept m (restoration_moved Fencing r n m) (new_snapshot m r.namespace r.schedule n) refl
-restoration_kept (Snapshotting point own) m r n = same_kept m (restoration_moved (Snapshotting point own) r n m) refl
-restoration_kept (Switching point serving) m r n = same_kept m (restoration_moved (Switching point serving) r n m) refl
-restoration_kept (Restoring point serving) m r n = same_kept m (restoration_moved (Restoring point serving) r n m) refl
-restoration_kept (Releasing point serving) m r n = same_kept m (restoration_moved (Releasing point serving) r n m) refl
-restoration_kept (Restored point serving) m r n = same_kept m (restoration_moved (Restored point serving) r n m) refl
+restoration_kept state m r n = same_kept m (restoration_moved state r n m) refl
 
 begins_kept : (serving : Option SnapshotRecord) (schedule : Option Schedule) (m : Master) (r : CloneRecord) (n : ℕ) → schedule_of m.schedules r.source ≡ schedule → Keeps m (begins_clone serving r n m)
 begins_kept (Some s) schedule m r n by = same_kept m (begins_clone (Some s) r n m) refl
@@ -99,10 +95,7 @@ begins_kept None (Some s) m r n by =
 
 clone_kept : (state : CloneState) (m : Master) (r : CloneRecord) (n : ℕ) → Keeps m (clone_moved state r n m)
 clone_kept Accepted m r n = begins_kept (serving_clone m r) (schedule_of m.schedules r.source) m r n refl
-clone_kept (CloneSnapshot own) m r n = same_kept m (clone_moved (CloneSnapshot own) r n m) refl
-clone_kept (Copying serving at) m r n = same_kept m (clone_moved (Copying serving at) r n m) refl
-clone_kept (CloneReleasing serving at) m r n = same_kept m (clone_moved (CloneReleasing serving at) r n m) refl
-clone_kept (CloneComplete serving at) m r n = same_kept m (clone_moved (CloneComplete serving at) r n m) refl
+clone_kept state m r n = same_kept m (clone_moved state r n m) refl
 
 moved_kept : (m : Master) (changes : List Made) (n : ℕ) (p : Progress) → OperationsGood m changes → Unfinished m p → Keeps m (moved p.id n m)
 moved_kept m changes n p ops (OfSnapshot r kept still is) = subst (λ q. Keeps m (moved q.id n m)) is

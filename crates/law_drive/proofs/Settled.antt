@@ -109,11 +109,7 @@ snapshots_finished slots reading history legal less runs = snapshot_done (replay
 
 restored_once : (state : RestorationState) (ns : Id) (to : ℕ) → is_restored state ≡ true → (point : ℕ) × (restored_by state ns to ≡ one_restore point ns to)
 restored_once (Restored point serving) ns to e = (point, refl)
-restored_once Fencing ns to e = cc
-restored_once (Snapshotting point own) ns to e = cc
-restored_once (Switching point serving) ns to e = cc
-restored_once (Restoring point serving) ns to e = cc
-restored_once (Releasing point serving) ns to e = cc
+restored_once _ ns to e = cc
 
 pub restore_finished : (slots reading : ℕ) (history : List Entry) (asked : RestoreAsked) → Legal slots history → reading < 2 ^ 50 → SettleRuns slots reading history → In asked (restores_asked slots history) → RestoreFinished slots (settled slots reading history) asked
 restore_finished slots reading history asked legal less runs isin =

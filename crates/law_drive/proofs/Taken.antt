@@ -185,12 +185,8 @@ switch_takes m r point serving n = record { slots = refl; each = λ slot taken. 
     by_taken slot (inr there) = inr there
 
 restoration_takes : (state : RestorationState) (m : Master) (r : RestorationRecord) (n : ℕ) → TakesNone m (restoration_moved state r n m)
-restoration_takes Fencing m r n = record { slots = refl; each = λ slot taken. taken }
-restoration_takes (Snapshotting point own) m r n = record { slots = refl; each = λ slot taken. taken }
 restoration_takes (Switching point serving) m r n = switch_takes m r point serving n
-restoration_takes (Restoring point serving) m r n = record { slots = refl; each = λ slot taken. taken }
-restoration_takes (Releasing point serving) m r n = record { slots = refl; each = λ slot taken. taken }
-restoration_takes (Restored point serving) m r n = record { slots = refl; each = λ slot taken. taken }
+restoration_takes _ m r n = record { slots = refl; each = λ slot taken. taken }
 
 -- a clone that moves was unfinished, and has the slots that it had
 clones_took : (m : Master) (changes : List Made) (r : CloneRecord) (state : CloneState) (listed : List Listed) (slot : ℕ) → OperationsGood m changes → In r m.clones → is_cloned r.state ≡ false → (c : CloneRecord) → In c (map (clone_then r state listed) m.clones)

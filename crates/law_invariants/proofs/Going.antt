@@ -260,14 +260,12 @@ pub restoration_slot_goes : (state : RestorationState) (r : RestorationRecord) (
     → (is_restored state ≡ false → (i : Interval) → IsOpenIn b ps r.namespace i → IsOpenIn a os r.namespace i)
     → ((point : ℕ) (serving : Id) → state ≡ Restoring point serving → before_restore new r.namespace point new ≡ before_restore changes r.namespace point changes)
     → RestorationSlotIn state a os changes r slot t → RestorationSlotIn state b ps new r slot t
-restoration_slot_goes Fencing r a b os ps changes new slot t opens before h = h
 restoration_slot_goes (Snapshotting point own) r a b os ps changes new slot t opens before h = record { fenced = λ i opened is. h.fenced i (opens refl i opened) is }
 restoration_slot_goes (Switching point serving) r a b os ps changes new slot t opens before h = record { fenced = λ i opened is. h.fenced i (opens refl i opened) is; past = λ i opened is. h.past i (opens refl i opened) is }
 restoration_slot_goes (Restoring point serving) r a b os ps changes new slot t opens before h = λ l lists is. (
     let k = h l lists is in
     record { acked = k.acked; fenced = k.fenced; restored = λ restores did. restored_goes changes new r point t (before point serving refl) (k.restored restores did); hidden = k.hidden })
-restoration_slot_goes (Releasing point serving) r a b os ps changes new slot t opens before h = h
-restoration_slot_goes (Restored point serving) r a b os ps changes new slot t opens before h = h
+restoration_slot_goes _ r a b os ps changes new slot t opens before h = h
 
 -- the rows of a clone's copies, by a journal that has the same of their source at the clone's time
 copy_goes : (changes new : List Change) (c : CloneRecord) (at : ℕ) (p : TabletPair) (t : Tablet) → ((d : IdPair) (key : List ℕ) → In d c.tables → row_at new c.to d.source key ≡ row_at changes c.to d.source key)

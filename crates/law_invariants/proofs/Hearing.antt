@@ -20,17 +20,10 @@ processed_clock (c ∷ cs) rows n t = refl
 pub effect_clock : (a : TabletAct) (n : ℕ) (t : Tablet) → (effect a n t).clock ≡ n
 effect_clock (tell.Process rows) n t = processed_clock t.inbox rows n t
 effect_clock tell.Clock n t = refl
-effect_clock (tell.Make tablet table low high version) n t = refl
-effect_clock (tell.Child tablet table low high version versions cutoff) n t = refl
-effect_clock (tell.SetVersion version) n t = refl
-effect_clock (tell.HideSince ended) n t = refl
-effect_clock (tell.Write batch) n t = refl
-effect_clock (tell.RaiseCutoff to) n t = refl
 effect_clock tell.Compact n t = refl
-effect_clock (tell.Offer command) n t = refl
 effect_clock tell.Clear n t = refl
-effect_clock (tell.DropFrozen snapshot) n t = refl
 effect_clock tell.Restart n t = refl
+effect_clock _ n t = refl
 
 -- no act sets a clock back, where the touched ones are at most its stamp
 pub clocks_rise : (act : Act) (o : Outcome) (n : ℕ) (ps : Parts) → ((slot : ℕ) → (has (slots_of act) slot && not (eqb slot 0)) ≡ true → (ps.tablet slot).clock ≤ n) → (slot : ℕ) → (ps.tablet slot).clock ≤ ((told act o n ps).tablet slot).clock

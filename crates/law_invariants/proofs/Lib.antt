@@ -38,3 +38,4 @@ pub mod Taking
 pub mod Commanded
 pub mod Bodies
 pub mod Unneeded
+pub mod Effects

@@ -20,10 +20,7 @@ by_kind : (kind : Kind) (ps : Parts) (activity : List Interval) (changes : List 
 by_kind Snapshot ps activity changes n operation is later inv clones = advance_snapshot_keeps ps activity changes n operation later is inv
 by_kind Restoration ps activity changes n operation is later inv clones = advance_restoration_keeps ps activity changes n operation later is inv
 by_kind Clone ps activity changes n operation is later inv clones = clones is
-by_kind Namespace ps activity changes n operation is later inv clones = no_operation Namespace ps activity changes n operation is (λ q e. let k = e in grind arith) later inv
-by_kind Table ps activity changes n operation is later inv clones = no_operation Table ps activity changes n operation is (λ q e. let k = e in grind arith) later inv
-by_kind Tablet ps activity changes n operation is later inv clones = no_operation Tablet ps activity changes n operation is (λ q e. let k = e in grind arith) later inv
-by_kind Schedule ps activity changes n operation is later inv clones = no_operation Schedule ps activity changes n operation is (λ q e. let k = e in grind arith) later inv
+by_kind kind ps activity changes n operation is later inv clones = no_operation kind ps activity changes n operation is (λ q e. let k = e in grind arith) later inv
 
 pub advance_keeps : (ps : Parts) (activity : List Interval) (changes : List Made) (n : ℕ) (operation : Id) → Later (0 ∷ []) ps n → Inv ps activity changes
     → (operation.kind ≡ Clone → KeepsAll (Advance operation) n ps activity changes (advance operation n ps)) → KeepsAll (Advance operation) n ps activity changes (advance operation n ps)

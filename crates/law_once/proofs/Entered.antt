@@ -1,6 +1,6 @@
 -- What is told of the master's records goes on, whatever the master is told.
 use Rattle.std.proofs.Common.{◌≡◌, ◌≢◌, ℕ, ◌≤◌, ◌+◌, Bool, true, false, List, [], ◌∷◌, inl, inr, refl, sym, ap, subst, ◌∙◌, arith, not, le_trans, le_refl, if◌then◌else◌, ◌++◌, Option, Some, None}
-use Rattle.model.specs.Cluster.{Id, Kind, NamespaceKind as Namespace, TableKind as Table, TabletKind as Tablet, ScheduleKind as Schedule, Snapshot, RestorationKind as Restoration, CloneKind as Clone, same, In, Release, Listed, Schedule as ScheduleRecord, SnapshotRecord, RestorationRecord, RestorationState, CloneRecord, CloneState, State, IsCreating, IsFencing, IsAccepted, acked_at, point_of, restoration_state, Fencing, Snapshotting, Switching, Restoring, Releasing, Restored, Accepted, CloneSnapshot, Copying, CloneReleasing, CloneComplete, IsComplete, IsSnapshot, IsSwitching, IsRestoring, IsReleasing, IsRestored, IsCopying, TabletPair, schedule_of, Drawn, Master, BeginsRestoration, BeginsClone, Ticks, MakesNamespace, DropsNamespace, MakesTable, AddsColumn, DropsColumn, RenamesTable, DropsTable, SplitsTablet, MakesSchedule, EditsSchedule, DeletesSchedule, TakesSnapshot, Sends, Acks, Unsends, Moves, Removes, Prunes, Restarts, MasterAct}
+use Rattle.model.specs.Cluster.{Id, Kind, NamespaceKind as Namespace, TableKind as Table, TabletKind as Tablet, ScheduleKind as Schedule, Snapshot, RestorationKind as Restoration, CloneKind as Clone, same, In, Release, Listed, Schedule as ScheduleRecord, SnapshotRecord, RestorationRecord, RestorationState, CloneRecord, CloneState, State, IsCreating, IsFencing, IsAccepted, acked_at, point_of, restoration_state, Fencing, Snapshotting, Switching, Restoring, Releasing, Restored, Accepted, CloneSnapshot, Copying, CloneReleasing, CloneComplete, IsComplete, IsSnapshot, IsSwitching, IsRestoring, IsReleasing, IsRestored, IsCopying, TabletPair, schedule_of, Drawn, Master, BeginsRestoration, BeginsClone, MakesNamespace, MakesTable, SplitsTablet, MakesSchedule, TakesSnapshot, Acks, Moves, Removes, MasterAct}
 use Rattle.model.specs.Journal.{Change}
 use Rattle.model.specs.Lists.{new_snapshot, next_snapshot, with_snapshot}
 use Rattle.model.specs.Changed.{new_clone, next_clone, next_restoration}
@@ -11,6 +11,7 @@ use Rattle.model.specs.Drawn.{drawn_of}
 use Rattle.model.specs.History.{master_effect}
 use Rattle.std.specs.Option.{option_map_or}
 use Rattle.model.specs.Stands.{copied_at}
+use Rattle.law_invariants.proofs.Effects.{acked_each, begins_each, moved_each, removed_each}
 use Rattle.law_invariants.proofs.Pending.{unfinished_snapshot_is, unfinished_restoration_is, unfinished_clone_is}
 use Rattle.law_invariants.proofs.Using.{one_snapshot}
 use Rattle.model.specs.Entering.{Entering, IsAfterOwn, states_of, states_to, states_of_snapshot, clone_states_to}
@@ -380,57 +381,14 @@ told_on _ n m changes es le ops h = quiet m _ es le (same_drawn m.drawn) refl re
 
 -- and numbers only grow
 
-moved_grows : (kind : Kind) (operation : Id) (n : ℕ) (m : Master) (of : Kind) → drawn_of of m.drawn ≤ drawn_of of (moved_of kind operation n m).drawn
-moved_grows Snapshot operation n m of = snapshot_ (unfinished_snapshot m.snapshots operation)
-  where
-    snapshot_ : (o : Option SnapshotRecord) → drawn_of of m.drawn ≤ drawn_of of (option_map_or (λ r. completed r n m) o (record m { clock = n })).drawn
-    snapshot_ None = le_refl _
-    snapshot_ (Some r) = le_refl _
-moved_grows Restoration operation n m of = found (unfinished_restoration m.restorations operation)
-  where
-    state_grows : (state : RestorationState) (r : RestorationRecord) → drawn_of of m.drawn ≤ drawn_of of (restoration_moved state r n m).drawn
-    state_grows Fencing r = grown m.drawn (with_snapshot r.namespace r.schedule n m).drawn (omega arith) (omega arith) (omega arith) (omega arith) (omega arith) (omega arith) (omega arith) of
-    state_grows (Snapshotting point own) r = le_refl _
-    state_grows (Switching point serving) r = le_refl _
-    state_grows (Restoring point serving) r = le_refl _
-    state_grows (Releasing point serving) r = le_refl _
-    state_grows (Restored point serving) r = le_refl _
+restoration_grows : (state : RestorationState) (r : RestorationRecord) (n : ℕ) (m : Master) (of : Kind) → drawn_of of m.drawn ≤ drawn_of of (restoration_moved state r n m).drawn
+restoration_grows Fencing r n m of = grown m.drawn (with_snapshot r.namespace r.schedule n m).drawn (omega arith) (omega arith) (omega arith) (omega arith) (omega arith) (omega arith) (omega arith) of
+restoration_grows _ r n m of = le_refl _
 
-    found : (o : Option RestorationRecord) → drawn_of of m.drawn ≤ drawn_of of (option_map_or (λ r. restoration_moved r.state r n m) o (record m { clock = n })).drawn
-    found None = le_refl _
-    found (Some r) = state_grows r.state r
-moved_grows Clone operation n m of = found (unfinished_clone m.clones operation)
-  where
-    own_grows : (s : Option ScheduleRecord) (c : CloneRecord) → drawn_of of m.drawn ≤ drawn_of of (with_clones_snapshot s c n m).drawn
-    own_grows None c = le_refl _
-    own_grows (Some s) c = grown m.drawn (with_snapshot c.source s.id n m).drawn (omega arith) (omega arith) (omega arith) (omega arith) (omega arith) (omega arith) (omega arith) of
-
-    begun_grows : (o : Option SnapshotRecord) (c : CloneRecord) → drawn_of of m.drawn ≤ drawn_of of (begins_clone o c n m).drawn
-    begun_grows (Some q) c = le_refl _
-    begun_grows None c = own_grows (schedule_of m.schedules c.source) c
-
-    state_grows : (state : CloneState) (c : CloneRecord) → drawn_of of m.drawn ≤ drawn_of of (clone_moved state c n m).drawn
-    state_grows Accepted c = begun_grows (serving_clone m c) c
-    state_grows _ c = le_refl _
-
-    found : (o : Option CloneRecord) → drawn_of of m.drawn ≤ drawn_of of (option_map_or (λ c. clone_moved c.state c n m) o (record m { clock = n })).drawn
-    found None = le_refl _
-    found (Some c) = state_grows c.state c
-moved_grows Namespace operation n m of = le_refl _
-moved_grows Table operation n m of = le_refl _
-moved_grows Tablet operation n m of = le_refl _
-moved_grows Schedule operation n m of = le_refl _
-
-acked_grows : (kind : Kind) (operation : Id) (slot n : ℕ) (m : Master) (of : Kind) → drawn_of of m.drawn ≤ drawn_of of (acked_by kind operation slot n m).drawn
-acked_grows Snapshot operation slot n m of = le_refl _
-acked_grows Restoration operation slot n m of = le_refl _
-acked_grows Clone operation slot n m of = le_refl _
-acked_grows _ operation slot n m of = le_refl _
-
-removed_grows : (kind : Kind) (target : Id) (n : ℕ) (m : Master) (of : Kind) → drawn_of of m.drawn ≤ drawn_of of (removed_of kind target n m).drawn
-removed_grows Snapshot target n m of = le_refl _
-removed_grows Tablet target n m of = le_refl _
-removed_grows _ target n m of = le_refl _
+clone_grows : (state : CloneState) (c : CloneRecord) (n : ℕ) (m : Master) (of : Kind) → drawn_of of m.drawn ≤ drawn_of of (clone_moved state c n m).drawn
+clone_grows Accepted c n m of = begins_each (λ k. drawn_of of m.drawn ≤ drawn_of of k.drawn) c n m (λ serving. le_refl _)
+    (λ s. grown m.drawn (with_snapshot c.source s.id n m).drawn (omega arith) (omega arith) (omega arith) (omega arith) (omega arith) (omega arith) (omega arith) of) (le_refl _)
+clone_grows _ c n m of = le_refl _
 
 pub drawn_grows : (a : MasterAct) (n : ℕ) (m : Master) (of : Kind) → drawn_of of m.drawn ≤ drawn_of of (master_effect a n m).drawn
 drawn_grows (MakesNamespace name) n m of = grown m.drawn (master_effect (MakesNamespace name) n m).drawn (omega arith) (omega arith) (omega arith) (omega arith) (omega arith) (omega arith) (omega arith) of
@@ -440,7 +398,8 @@ drawn_grows (MakesSchedule namespace interval retention) n m of = grown m.drawn 
 drawn_grows (TakesSnapshot schedule) n m of = grown m.drawn (master_effect (TakesSnapshot schedule) n m).drawn (omega arith) (omega arith) (omega arith) (omega arith) (omega arith) (omega arith) (omega arith) of
 drawn_grows (BeginsRestoration schedule to) n m of = grown m.drawn (master_effect (BeginsRestoration schedule to) n m).drawn (omega arith) (omega arith) (omega arith) (omega arith) (omega arith) (omega arith) (omega arith) of
 drawn_grows (BeginsClone namespace source target to) n m of = grown m.drawn (master_effect (BeginsClone namespace source target to) n m).drawn (omega arith) (omega arith) (omega arith) (omega arith) (omega arith) (omega arith) (omega arith) of
-drawn_grows (Acks operation slot) n m of = acked_grows operation.kind operation slot n m of
-drawn_grows (Removes target) n m of = removed_grows target.kind target n m of
-drawn_grows (Moves operation) n m of = moved_grows operation.kind operation n m of
+drawn_grows (Acks operation slot) n m of = acked_each (λ k. drawn_of of m.drawn ≤ drawn_of of k.drawn) operation.kind operation slot n m (le_refl _) (le_refl _) (le_refl _) (le_refl _)
+drawn_grows (Removes target) n m of = removed_each (λ k. drawn_of of m.drawn ≤ drawn_of of k.drawn) target.kind target n m (le_refl _) (le_refl _) (le_refl _)
+drawn_grows (Moves operation) n m of =
+    moved_each (λ k. drawn_of of m.drawn ≤ drawn_of of k.drawn) operation.kind operation n m (le_refl _) (λ r found. le_refl _) (λ r found. restoration_grows r.state r n m of) (λ c found. clone_grows c.state c n m of)
 drawn_grows _ n m of = le_refl _

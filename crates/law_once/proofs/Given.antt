@@ -1,9 +1,9 @@
 -- Where a command that a tablet was given comes from, and that the record of its operation entered the state that gives it.
 use Rattle.std.proofs.Common.{◌≡◌, ℕ, ◌<◌, lt_trans, Bool, true, false, List, [], ◌∷◌, ◌++◌, ◌||◌, ◌⊎◌, inl, inr, refl, sym, ap, subst, ◌∙◌, arith, if◌then◌else◌}
 use Rattle.std.proofs.lemmas.Bool.{true≢false}
-use Rattle.model.specs.Cluster.{Id, same, In, KeyedRow, Listed, RestorationRecord, RestorationState, Fencing, Snapshotting, Switching, Restoring, Releasing, Restored, CloneRecord, CloneState, Accepted, CloneSnapshot, Copying, CloneReleasing, CloneComplete, State, IsFencing, IsRestoring, IsReleasing, IsCopying, is_restored, is_cloned, Master}
+use Rattle.model.specs.Cluster.{Id, same, In, KeyedRow, Listed, RestorationRecord, RestorationState, Fencing, Restoring, Releasing, Restored, CloneRecord, CloneState, Accepted, CloneSnapshot, Copying, CloneReleasing, CloneComplete, State, IsFencing, IsRestoring, IsReleasing, IsCopying, is_restored, is_cloned, Master}
 use Rattle.model.specs.Journal.{Change}
-use Rattle.model.specs.Tablets.{Tablet, TabletAct, Clock, Make, Child, SetVersion, HideSince, Write, RaiseCutoff, Compact, Offer, Process, Clear, DropFrozen, Restart, Body, Fence, Freeze, RestoreFrom, Hide, Copy, Release, BodyKind, Command, Mark, kind_of, holds_command, is_done, effect, obeyed, processed}
+use Rattle.model.specs.Tablets.{Tablet, TabletAct, Make, Child, Offer, Process, Clear, Restart, Body, Fence, RestoreFrom, Hide, BodyKind, Command, Mark, kind_of, holds_command, is_done, effect, obeyed, processed}
 use Rattle.model.specs.Stands.{was_given}
 use Rattle.model.specs.Entering.{EnteredBefore, Entering, state_giving, states_of, states_to}
 use Rattle.law_store.proofs.Keys.{either_way}

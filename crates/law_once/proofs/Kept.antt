@@ -1,17 +1,14 @@
 -- Records of restorations and clones are never removed: each goes on, and each was there or is one that a command made.
-use Rattle.std.proofs.Common.{◌≡◌, ℕ, true, false, List, Option, Some, None, refl, sym, subst, arith, map}
-use Rattle.std.specs.Option.{option_map_or}
+use Rattle.std.proofs.Common.{◌≡◌, ℕ, true, false, List, refl, sym, subst, arith, map}
 use Rattle.std.specs.List.{filter}
-use Rattle.model.specs.Cluster.{Id, Kind, NamespaceKind as Namespace, TableKind as Table, TabletKind as Tablet, ScheduleKind as Schedule, Snapshot, RestorationKind as Restoration, CloneKind as Clone, In, Listed, Schedule as ScheduleRecord, SnapshotRecord, RestorationRecord, RestorationState, Fencing, Snapshotting, Switching, Restoring, Releasing, Restored, CloneRecord, CloneState, Accepted, CloneSnapshot, Copying, CloneReleasing, CloneComplete, schedule_of, Master, MasterAct, Sends, Acks, Unsends, Moves, Removes, Prunes, Restarts}
+use Rattle.model.specs.Cluster.{Id, In, Listed, RestorationRecord, RestorationState, Restored, CloneRecord, CloneState, Accepted, CloneComplete, Master, MasterAct, Sends, Acks, Unsends, Moves, Removes, Prunes, Restarts}
 use Rattle.model.specs.Journal.{Change}
-use Rattle.model.specs.Cleanup.{removed_of}
-use Rattle.model.specs.Coordination.{acked_by, unfinished_snapshot, unfinished_restoration, unfinished_clone}
-use Rattle.model.specs.Moves.{begins_clone, clone_goes, clone_moved, moved_of, restoration_moved, serving_clone, with_clones_snapshot}
+use Rattle.model.specs.Moves.{clone_moved, restoration_moved}
 use Rattle.model.specs.History.{master_effect, with_master}
 use Rattle.model.specs.Once.{is_whole}
+use Rattle.law_invariants.proofs.Effects.{acked_each, begins_each, moved_each, removed_each}
 use Rattle.law_invariants.proofs.Finding.{in_mapped, map_in}
 use Rattle.law_once.specs.Made.{is_command, made_by}
-use Rattle.law_once.proofs.Made.{snapshot_leaves}
 
 -- a restoration goes on under its identifier, schedule, namespace and time
 pub record RestorationGoes (r : RestorationRecord) (rs : List RestorationRecord) : Type 0 where
@@ -83,51 +80,22 @@ edit_clones m after listed state restorations clones = record {
   clones_were = λ c isin. clones_edited_were m.clones listed state c (subst (In c) clones isin);
 }
 
-acked_goes : (kind : Kind) (operation : Id) (slot n : ℕ) (m : Master) → GoOn m (acked_by kind operation slot n m)
-acked_goes Restoration operation slot n m = edit_restorations m _ _ (λ r. r.state) refl refl
-acked_goes Clone operation slot n m = edit_clones m _ _ (λ c. c.state) refl refl
-acked_goes _ operation slot n m = stay m _ refl refl
-
-removed_goes : (kind : Kind) (target : Id) (n : ℕ) (m : Master) → GoOn m (removed_of kind target n m)
-removed_goes Snapshot target n m = stay m _ refl refl
-removed_goes _ target n m = stay m _ refl refl
-
 restoration_goes : (state : RestorationState) (r : RestorationRecord) (n : ℕ) (m : Master) → GoOn m (restoration_moved state r n m)
 restoration_goes (Restored point serving) r n m = stay m _ refl refl
 restoration_goes _ r n m = edit_restorations m _ _ _ refl refl
 
-own_goes : (s : Option ScheduleRecord) (c : CloneRecord) (n : ℕ) (m : Master) → GoOn m (clone_goes Accepted None c n m (with_clones_snapshot s c n m))
-own_goes None c n m = edit_clones m _ _ _ refl refl
-own_goes (Some s) c n m = edit_clones m _ _ _ refl refl
-
-begun_goes : (o : Option SnapshotRecord) (c : CloneRecord) (n : ℕ) (m : Master) → GoOn m (begins_clone o c n m)
-begun_goes (Some q) c n m = edit_clones m _ _ _ refl refl
-begun_goes None c n m = own_goes (schedule_of m.schedules c.source) c n m
-
 copies_go : (state : CloneState) (c : CloneRecord) (n : ℕ) (m : Master) → GoOn m (clone_moved state c n m)
-copies_go Accepted c n m = begun_goes (serving_clone m c) c n m
+copies_go Accepted c n m = begins_each (GoOn m) c n m (λ serving. edit_clones m _ _ _ refl refl) (λ s. edit_clones m _ _ _ refl refl) (edit_clones m _ _ _ refl refl)
 copies_go (CloneComplete serving at) c n m = stay m _ refl refl
 copies_go _ c n m = edit_clones m _ _ _ refl refl
 
-moved_goes : (kind : Kind) (operation : Id) (n : ℕ) (m : Master) → GoOn m (moved_of kind operation n m)
-moved_goes Restoration operation n m = by (unfinished_restoration m.restorations operation)
-  where
-    by : (o : Option RestorationRecord) → GoOn m (option_map_or (λ r. restoration_moved r.state r n m) o (record m { clock = n }))
-    by None = stay m _ refl refl
-    by (Some r) = restoration_goes r.state r n m
-moved_goes Clone operation n m = by (unfinished_clone m.clones operation)
-  where
-    by : (o : Option CloneRecord) → GoOn m (option_map_or (λ c. clone_moved c.state c n m) o (record m { clock = n }))
-    by None = stay m _ refl refl
-    by (Some c) = copies_go c.state c n m
-moved_goes Snapshot operation n m = let left = snapshot_leaves (unfinished_snapshot m.snapshots operation) n m in stay m _ left.0 left.1
-moved_goes _ operation n m = stay m _ refl refl
-
 -- what no command tells leaves no record out, and makes none
 pub told_goes : (a : MasterAct) (n : ℕ) (m : Master) → is_command a ≡ false → GoOn m (master_effect a n m)
-told_goes (Moves operation) n m e = moved_goes operation.kind operation n m
-told_goes (Acks operation slot) n m e = acked_goes operation.kind operation slot n m
-told_goes (Removes target) n m e = removed_goes target.kind target n m
+told_goes (Moves operation) n m e =
+    moved_each (GoOn m) operation.kind operation n m (stay m _ refl refl) (λ r found. stay m _ refl refl) (λ r found. restoration_goes r.state r n m) (λ c found. copies_go c.state c n m)
+told_goes (Acks operation slot) n m e =
+    acked_each (GoOn m) operation.kind operation slot n m (stay m _ refl refl) (stay m _ refl refl) (edit_restorations m _ _ (λ r. r.state) refl refl) (edit_clones m _ _ (λ c. c.state) refl refl)
+told_goes (Removes target) n m e = removed_each (GoOn m) target.kind target n m (stay m _ refl refl) (stay m _ refl refl) (stay m _ refl refl)
 told_goes (Sends operation slot) n m e = stay m _ refl refl
 told_goes (Unsends operation slot) n m e = stay m _ refl refl
 told_goes Prunes n m e = stay m _ refl refl

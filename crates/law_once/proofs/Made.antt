@@ -1,6 +1,6 @@
 -- What the moves of records made goes on, whatever the master is told.
 use Rattle.std.proofs.Common.{◌≡◌, ◌≢◌, ℕ, ◌≤◌, ◌<◌, List, [], ◌∷◌, ◌++◌, Option, Some, None, inl, inr, refl, sym, ap, subst, ◌∙◌, arith, lt_of_le_of_lt, true, false, map, if◌then◌else◌}
-use Rattle.model.specs.Cluster.{Id, Kind, NamespaceKind as Namespace, TableKind as Table, TabletKind as Tablet, ScheduleKind as Schedule, Snapshot, RestorationKind as Restoration, CloneKind as Clone, same, In, Schedule as ScheduleRecord, RestorationRecord, CloneRecord, CloneState, Accepted, CloneSnapshot, Copying, CloneReleasing, CloneComplete, IsReleasing, Listed, SnapshotRecord, RestorationState, Fencing, Snapshotting, Switching, Restoring, Releasing, Restored, schedule_of, Master, BeginsRestoration, BeginsClone, Moves, MasterAct, Ticks, MakesNamespace, DropsNamespace, MakesTable, AddsColumn, DropsColumn, RenamesTable, DropsTable, SplitsTablet, MakesSchedule, EditsSchedule, DeletesSchedule, TakesSnapshot, Sends, Acks, Unsends, Removes, Prunes, Restarts}
+use Rattle.model.specs.Cluster.{Id, Kind, Snapshot, RestorationKind as Restoration, CloneKind as Clone, same, In, Schedule as ScheduleRecord, RestorationRecord, CloneRecord, CloneState, Accepted, CloneSnapshot, Copying, CloneReleasing, CloneComplete, IsReleasing, Listed, SnapshotRecord, RestorationState, Fencing, Snapshotting, Switching, Restoring, Releasing, Restored, schedule_of, Master, BeginsRestoration, BeginsClone, Moves, MasterAct, Acks, Removes}
 use Rattle.model.specs.Journal.{Change, NamespaceCloned}
 use Rattle.model.specs.Changed.{new_clone, next_clone, next_restoration}
 use Rattle.model.specs.Cleanup.{removed_of}
@@ -13,6 +13,7 @@ use Rattle.model.specs.Moves.{begins_clone, clone_goes, clone_moved, restoration
 use Rattle.std.specs.Option.{option_map_or}
 use Rattle.law_once.proofs.States.{other_kind}
 use Rattle.law_store.proofs.Keys.{either_way}
+use Rattle.law_invariants.proofs.Effects.{begins_each}
 use Rattle.law_invariants.specs.Operations.{OperationsGood, Alone}
 use Rattle.law_invariants.proofs.Finding.{in_append, in_mapped, in_second, not_same, same_equal, same_self}
 use Rattle.law_invariants.proofs.Pending.{unfinished_restoration_is, unfinished_clone_is}
@@ -241,16 +242,8 @@ pub found_clones_left : (found : Option RestorationRecord) (n : ℕ) (m : Master
 found_clones_left None n m = refl
 found_clones_left (Some r) n m = clones_left r.state r n m
 
-own_left : (s : Option ScheduleRecord) (c : CloneRecord) (n : ℕ) (m : Master) → (with_clones_snapshot s c n m).restorations ≡ m.restorations
-own_left None c n m = refl
-own_left (Some s) c n m = refl
-
-begun_left : (o : Option SnapshotRecord) (c : CloneRecord) (n : ℕ) (m : Master) → (begins_clone o c n m).restorations ≡ m.restorations
-begun_left (Some q) c n m = refl
-begun_left None c n m = own_left (schedule_of m.schedules c.source) c n m
-
 restorations_left : (state : CloneState) (c : CloneRecord) (n : ℕ) (m : Master) → (clone_moved state c n m).restorations ≡ m.restorations
-restorations_left Accepted c n m = begun_left (serving_clone m c) c n m
+restorations_left Accepted c n m = begins_each (λ k. k.restorations ≡ m.restorations) c n m (λ serving. refl) (λ s. refl) refl
 restorations_left _ c n m = refl
 
 pub found_restorations_left : (found : Option CloneRecord) (n : ℕ) (m : Master) → (option_map_or (λ c. clone_moved c.state c n m) found (record m { clock = n })).restorations ≡ m.restorations
@@ -290,25 +283,10 @@ moved_on Snapshot operation n m changes es made is grows ops h =
       restorations = λ q isin. restorations_apart Snapshot operation n m changes es made is (λ e. (let k = e in grind arith)) ops h q (subst (In q) left.0 isin);
       clones = λ q isin. clones_apart Snapshot operation n m changes es (moved_entered Snapshot operation n m) made is (λ e. (let k = e in grind arith)) ops h q (subst (In q) left.1 isin);
     }
-moved_on Namespace operation n m changes es made is grows ops h = record {
-  fresh = fresh_made operation n m (moved_of Namespace operation n m) changes es made ops grows h;
-  restorations = λ q isin. restorations_apart Namespace operation n m changes es made is (λ e. (let k = e in grind arith)) ops h q isin;
-  clones = λ q isin. clones_apart Namespace operation n m changes es [] made is (λ e. (let k = e in grind arith)) ops h q isin;
-}
-moved_on Table operation n m changes es made is grows ops h = record {
-  fresh = fresh_made operation n m (moved_of Table operation n m) changes es made ops grows h;
-  restorations = λ q isin. restorations_apart Table operation n m changes es made is (λ e. (let k = e in grind arith)) ops h q isin;
-  clones = λ q isin. clones_apart Table operation n m changes es [] made is (λ e. (let k = e in grind arith)) ops h q isin;
-}
-moved_on Tablet operation n m changes es made is grows ops h = record {
-  fresh = fresh_made operation n m (moved_of Tablet operation n m) changes es made ops grows h;
-  restorations = λ q isin. restorations_apart Tablet operation n m changes es made is (λ e. (let k = e in grind arith)) ops h q isin;
-  clones = λ q isin. clones_apart Tablet operation n m changes es [] made is (λ e. (let k = e in grind arith)) ops h q isin;
-}
-moved_on Schedule operation n m changes es made is grows ops h = record {
-  fresh = fresh_made operation n m (moved_of Schedule operation n m) changes es made ops grows h;
-  restorations = λ q isin. restorations_apart Schedule operation n m changes es made is (λ e. (let k = e in grind arith)) ops h q isin;
-  clones = λ q isin. clones_apart Schedule operation n m changes es [] made is (λ e. (let k = e in grind arith)) ops h q isin;
+moved_on kind operation n m changes es made is grows ops h = record {
+  fresh = fresh_made operation n m (moved_of kind operation n m) changes es made ops grows h;
+  restorations = λ q isin. restorations_apart kind operation n m changes es made is (λ e. (let k = e in grind arith)) ops h q isin;
+  clones = λ q isin. clones_apart kind operation n m changes es [] made is (λ e. (let k = e in grind arith)) ops h q isin;
 }
 
 -- Whatever the master is told
@@ -319,20 +297,4 @@ made_on (BeginsClone ns source target to) n m changes es made ops h = cloned_mad
 made_on (Moves operation) n m changes es made ops h = moved_on operation.kind operation n m changes es made refl (drawn_grows (Moves operation) n m) ops h
 made_on (Acks operation slot) n m changes es made ops h = acked_made operation.kind operation slot n m es made h
 made_on (Removes target) n m changes es made ops h = removed_made target.kind target n m es made h
-made_on (TakesSnapshot s) n m changes es made ops h = quiet m (master_effect (TakesSnapshot s) n m) es (told_entered (TakesSnapshot s) n m) made (drawn_grows (TakesSnapshot s) n m) refl refl h
-made_on (MakesNamespace name) n m changes es made ops h = quiet m (master_effect (MakesNamespace name) n m) es (told_entered (MakesNamespace name) n m) made (drawn_grows (MakesNamespace name) n m) refl refl h
-made_on (MakesTable namespace name columns slots) n m changes es made ops h = quiet m (master_effect (MakesTable namespace name columns slots) n m) es (told_entered (MakesTable namespace name columns slots) n m) made (drawn_grows (MakesTable namespace name columns slots) n m) refl refl h
-made_on (SplitsTablet parent code low_slot high_slot) n m changes es made ops h = quiet m (master_effect (SplitsTablet parent code low_slot high_slot) n m) es (told_entered (SplitsTablet parent code low_slot high_slot) n m) made (drawn_grows (SplitsTablet parent code low_slot high_slot) n m) refl refl h
-made_on (MakesSchedule namespace interval retention) n m changes es made ops h = quiet m (master_effect (MakesSchedule namespace interval retention) n m) es (told_entered (MakesSchedule namespace interval retention) n m) made (drawn_grows (MakesSchedule namespace interval retention) n m) refl refl h
-made_on Ticks n m changes es made ops h = quiet m (master_effect Ticks n m) es (told_entered Ticks n m) made (drawn_grows Ticks n m) refl refl h
-made_on (DropsNamespace namespace) n m changes es made ops h = quiet m (master_effect (DropsNamespace namespace) n m) es (told_entered (DropsNamespace namespace) n m) made (drawn_grows (DropsNamespace namespace) n m) refl refl h
-made_on (AddsColumn table name kind) n m changes es made ops h = quiet m (master_effect (AddsColumn table name kind) n m) es (told_entered (AddsColumn table name kind) n m) made (drawn_grows (AddsColumn table name kind) n m) refl refl h
-made_on (DropsColumn table column) n m changes es made ops h = quiet m (master_effect (DropsColumn table column) n m) es (told_entered (DropsColumn table column) n m) made (drawn_grows (DropsColumn table column) n m) refl refl h
-made_on (RenamesTable table name) n m changes es made ops h = quiet m (master_effect (RenamesTable table name) n m) es (told_entered (RenamesTable table name) n m) made (drawn_grows (RenamesTable table name) n m) refl refl h
-made_on (DropsTable table) n m changes es made ops h = quiet m (master_effect (DropsTable table) n m) es (told_entered (DropsTable table) n m) made (drawn_grows (DropsTable table) n m) refl refl h
-made_on (EditsSchedule schedule interval retention) n m changes es made ops h = quiet m (master_effect (EditsSchedule schedule interval retention) n m) es (told_entered (EditsSchedule schedule interval retention) n m) made (drawn_grows (EditsSchedule schedule interval retention) n m) refl refl h
-made_on (DeletesSchedule schedule) n m changes es made ops h = quiet m (master_effect (DeletesSchedule schedule) n m) es (told_entered (DeletesSchedule schedule) n m) made (drawn_grows (DeletesSchedule schedule) n m) refl refl h
-made_on (Sends operation slot) n m changes es made ops h = quiet m (master_effect (Sends operation slot) n m) es (told_entered (Sends operation slot) n m) made (drawn_grows (Sends operation slot) n m) refl refl h
-made_on (Unsends operation slot) n m changes es made ops h = quiet m (master_effect (Unsends operation slot) n m) es (told_entered (Unsends operation slot) n m) made (drawn_grows (Unsends operation slot) n m) refl refl h
-made_on Prunes n m changes es made ops h = quiet m (master_effect Prunes n m) es (told_entered Prunes n m) made (drawn_grows Prunes n m) refl refl h
-made_on Restarts n m changes es made ops h = quiet m (master_effect Restarts n m) es (told_entered Restarts n m) made (drawn_grows Restarts n m) refl refl h
+made_on a n m changes es made ops h = quiet m (master_effect a n m) es (told_entered a n m) made (drawn_grows a n m) refl refl h

@@ -226,10 +226,7 @@ times_like m k s like times = record {
 own_begun : (state : RestorationState) (m : Master) (changes : List Change) (r : RestorationRecord) (point : ℕ) → own_point state ≡ Some point → RestorationStateGood state m changes r → point ≤ m.clock
 own_begun (Switching at serving) m changes r point is good = let e : at ≡ point = cc in subst (λ p. p ≤ m.clock) e good.begun
 own_begun (Restoring at serving) m changes r point is good = let e : at ≡ point = cc in subst (λ p. p ≤ m.clock) e good.begun
-own_begun Fencing m changes r point is good = absurd (let q = is in grind arith)
-own_begun (Snapshotting at own) m changes r point is good = absurd (let q = is in grind arith)
-own_begun (Releasing at serving) m changes r point is good = absurd (let q = is in grind arith)
-own_begun (Restored at serving) m changes r point is good = absurd (let q = is in grind arith)
+own_begun _ m changes r point is good = absurd (let q = is in grind arith)
 
 -- where a restoration's own snapshot is complete, it is so still
 pub own_goes_on : (ps : Parts) (activity : List Interval) (changes : List Change) (k : Master) → Inv ps activity changes → OwnComplete ps.master → ((s : ScheduledNamespace) → In s k.scheduled → WasScheduled ps.master s ⊎ (ps.master.clock ≤ complete_to s))

@@ -81,14 +81,11 @@ copy_reaches ps activity changes slot operation tablet source snapshot to stamp 
 
 body_finds : (b : Body) (ps : Parts) (activity : List Interval) (changes : List Change) (slot : ℕ) (operation tablet : Id) → Inv ps activity changes → Facts ps
     → IsPending ps.master operation slot (record { tablet = tablet; slot = slot; body = b; acked = false }) → FindsRows b (ps.tablet (source_slot slot b)).frozen
-body_finds Fence ps activity changes slot operation tablet inv facts pends = tt
-body_finds (Freeze snapshot at) ps activity changes slot operation tablet inv facts pends = tt
-body_finds (Hide ended) ps activity changes slot operation tablet inv facts pends = tt
-body_finds (Release cutoff) ps activity changes slot operation tablet inv facts pends = tt
 body_finds (RestoreFrom snapshot to point version) ps activity changes slot operation tablet inv facts pends =
     restore_reaches ps activity changes slot operation tablet snapshot to point version inv facts pends
 body_finds (Copy source snapshot to stamp table low high version) ps activity changes slot operation tablet inv facts pends =
     copy_reaches ps activity changes slot operation tablet source snapshot to stamp table low high version inv facts pends
+body_finds _ ps activity changes slot operation tablet inv facts pends = tt
 
 -- a command that lies in an inbox finds its rows
 pub rows_found : (ps : Parts) (activity : List Interval) (changes : List Change) → Inv ps activity changes → Facts ps → RowsFound ps

@@ -124,11 +124,7 @@ mapped_known m complete listed = in_mapped {A = SnapshotRecord} {B = SnapshotRec
 
 restoration_makes : (state : RestorationState) (r : RestorationRecord) (n : ℕ) (m : Master) → m.clock < n → Makes m n (restoration_moved state r n m)
 restoration_makes Fencing r n m before = inr (record { namespace = r.namespace; schedule = r.schedule; at = n; later = before; clock_is = refl; snapshots_are = refl; scheduled_are = refl })
-restoration_makes (Snapshotting point own) r n m before = makes_none m n _ (le_of_lt before) refl refl
-restoration_makes (Switching point serving) r n m before = makes_none m n _ (le_of_lt before) refl refl
-restoration_makes (Restoring point serving) r n m before = makes_none m n _ (le_of_lt before) refl refl
-restoration_makes (Releasing point serving) r n m before = makes_none m n _ (le_of_lt before) refl refl
-restoration_makes (Restored point serving) r n m before = makes_none m n _ (le_of_lt before) refl refl
+restoration_makes _ r n m before = makes_none m n _ (le_of_lt before) refl refl
 
 own_makes : (s : Option Schedule) (c : CloneRecord) (n : ℕ) (m : Master) → m.clock < n → Makes m n (clone_goes Accepted None c n m (with_clones_snapshot s c n m))
 own_makes None c n m before = makes_none m n _ (le_of_lt before) refl refl
@@ -140,10 +136,7 @@ begins_makes None c n m before = own_makes (schedule_of m.schedules c.source) c 
 
 clone_makes : (state : CloneState) (c : CloneRecord) (n : ℕ) (m : Master) → m.clock < n → Makes m n (clone_moved state c n m)
 clone_makes Accepted c n m before = begins_makes (serving_clone m c) c n m before
-clone_makes (CloneSnapshot own) c n m before = makes_none m n _ (le_of_lt before) refl refl
-clone_makes (Copying serving at) c n m before = makes_none m n _ (le_of_lt before) refl refl
-clone_makes (CloneReleasing serving at) c n m before = makes_none m n _ (le_of_lt before) refl refl
-clone_makes (CloneComplete serving at) c n m before = makes_none m n _ (le_of_lt before) refl refl
+clone_makes _ c n m before = makes_none m n _ (le_of_lt before) refl refl
 
 of_found : {A : Type 0} (m : Master) (n : ℕ) (move : A → Master) (idle : Master) (o : Option A) → ((a : A) → o ≡ Some a → Makes m n (move a)) → Makes m n idle → Makes m n (option_map_or move o idle)
 of_found m n move idle None each none = none

@@ -1,7 +1,7 @@
 -- What is accepted, and the law, allow what the master is told.
 use Rattle.std.proofs.Common.{ℕ, ◌≡◌, ◌≤◌, ◌<◌, ◌+◌, ◌&&◌, Bool, true, false, cond, nat_le, List, [], ◌∷◌, length, Option, Some, None, Result, Ok as Granted, Err as Denied, if◌then◌else◌, not, ok_or, ◌==◌, subst, refl, sym, ap, ◌∙◌, arith}
 use Rattle.std.specs.Option.{option_map, option_or}
-use Rattle.row_values.specs.Ids.{Id, Namespace, Table, Tablet, Schedule, id_bound}
+use Rattle.row_values.specs.Ids.{Id, Namespace, Table, Tablet, Schedule, Snapshot, Restoration, id_bound}
 use Rattle.model.specs.Acts.{Refusal}
 use Rattle.std.specs.List.{find}
 use Rattle.std.proofs.lemmas.Grind.{common_steps}
@@ -57,6 +57,12 @@ few_tablets m count lawful few = omega (arith, lawful.few Tablet, few)
 pub few_schedules : (m : Master) → IsLawful m → m.drawn.schedules + 1 < id_bound
 few_schedules m lawful = omega (arith, lawful.few Schedule)
 
+pub few_snapshots : (m : Master) → IsLawful m → m.drawn.snapshots + 1 < id_bound
+few_snapshots m lawful = omega (arith, lawful.few Snapshot)
+
+pub few_restorations : (m : Master) → IsLawful m → m.drawn.restorations + 1 < id_bound
+few_restorations m lawful = omega (arith, lawful.few Restoration)
+
 -- What they allow
 
 pub namespace_fits : (name : List ℕ) (m : Master) (id : Id) → judge_create_namespace name m ≡ Granted id → IsLawful m → NamespaceFits name m
@@ -103,7 +109,7 @@ ends_step (Some to) a b p q le rest is =
     let t : nat_le to b ≡ true = grind (arith, nat_tests, common_steps, h.0, le) in
     ap (λ c. c && q) t ∙ rest h.1
 
-ends_later : (ts : List TableRecord) (a b : ℕ) → a ≤ b → ends_by a ts ≡ true → ends_by b ts ≡ true
+pub ends_later : (ts : List TableRecord) (a b : ℕ) → a ≤ b → ends_by a ts ≡ true → ends_by b ts ≡ true
 ends_later [] a b le is = refl
 ends_later (t ∷ ts) a b le is = ends_step t.to a b (ends_by a ts) (ends_by b ts) le (λ h. ends_later ts a b le h) is
 

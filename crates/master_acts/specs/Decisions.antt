@@ -1,8 +1,10 @@
 -- What a command comes to, as the book's.
-use Rattle.std.specs.Prelude.{ℕ, map}
+use Rattle.std.specs.Prelude.{ℕ, Bool, false, List, Option, Some, None, map}
+use Rattle.row_values.specs.Ids.{Id}
 use Rattle.row_values.specs.Store.{part_of}
 use Rattle.model.specs.Tablets as tell
-use Rattle.model.specs.Tablets.{Tablet, Told}
+use Rattle.model.specs.Tablets.{Tablet, Told, Mark, is_done, kind_of}
+use Rattle.model.specs.Records.{Listed}
 use Rattle.model.specs.Parts.{Master, Outcome, answered}
 use Rattle.cluster_events.specs.SeenReplies.{reply_of}
 use Rattle.master_part.specs.Acts.{act_of, May}
@@ -34,3 +36,8 @@ outcome_by parts (decision.Accepts act changes reply) =
 abbrev pub MayDo : Decision → ℕ → Master → Type 0
 MayDo (decision.Answers reply) n m = Unit {0}
 MayDo (decision.Accepts act changes reply) n m = May act n m
+
+-- whether a tablet's marks have that of an operation's command which is pending there
+abbrev pub is_marked : List Mark → Id → Option Listed → Bool
+is_marked done operation None = false
+is_marked done operation (Some l) = is_done done operation (kind_of l.body)

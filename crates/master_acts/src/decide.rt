@@ -320,8 +320,12 @@ fn tablets_made(
     Ok(made)
 }
 
-// All these slots' parts get the same.
-fn told_all(alloc: Global, slots: &[u32], kind: &PartKind) -> Result<Records<PartChange>, NoMemory>
+/// All these slots' parts get the same.
+pub fn told_all(
+    alloc: Global,
+    slots: &[u32],
+    kind: &PartKind,
+) -> Result<Records<PartChange>, NoMemory>
     ensures exact { IfOk result (λ made. (parts : ℕ → Tablet) → map (told_by parts) made ≡ tell slots.now (act_by parts kind.now)) }
 {
     let mut made = Records::new(alloc);

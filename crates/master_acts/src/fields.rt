@@ -3,7 +3,7 @@ ghost use Rattle.std.specs.Prelude.{◌≡◌, length};
 
 use catalog_core::TableRecord;
 use catalog_tablets::Interval;
-use row_values::Records;
+use row_values::{Name, Records};
 use table_schema::{Column, Schema};
 use yb_ident::Ident;
 
@@ -11,6 +11,13 @@ pub fn namespace_of(table: &TableRecord) -> Ident
     ensures exact { result ≡ table.now.namespace }
 {
     table.namespace
+}
+
+/// The name of a table.
+pub fn name_of(table: &TableRecord) -> &Name
+    ensures exact { result.now ≡ table.now.name }
+{
+    &table.name
 }
 
 pub fn schema_of(table: &TableRecord) -> &Schema
@@ -35,6 +42,20 @@ pub fn low_of(interval: &Interval) -> u32
     ensures exact { result ≡ interval.now.low }
 {
     interval.range.low
+}
+
+/// The number of a tablet.
+pub fn number_of(interval: &Interval) -> u64
+    ensures exact { result ≡ interval.now.tablet.number }
+{
+    interval.tablet.number
+}
+
+/// The number of a tablet's table.
+pub fn table_number(interval: &Interval) -> u64
+    ensures exact { result ≡ interval.now.table.number }
+{
+    interval.table.number
 }
 
 pub fn slot_of(interval: &Interval) -> u32

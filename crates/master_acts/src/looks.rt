@@ -1,20 +1,24 @@
 //! What looks at the master answer. They change nothing.
 ghost use Rattle.std.specs.Prelude.{◌≡◌, IfOk, map, option_to_list};
-ghost use Rattle.model.specs.Acts.{Placed, Planned};
+ghost use Rattle.model.specs.Acts.{Placed};
 ghost use Rattle.model.specs.Parts.{answered};
 ghost use Rattle.model.specs.Lists.{by_range};
+ghost use Rattle.model.specs.Rules as rules;
 ghost use Rattle.model.specs.Looks as book;
-ghost use Rattle.commands.specs.Seen.{command_of};
+ghost use Rattle.commands.specs.Seen.{ask_of};
 ghost use Rattle.cluster_events.specs.SeenReplies.{reply_of};
+ghost use Rattle.master_part.specs.Acts.{IsLawful};
 ghost use Rattle.master_acts.specs.Seen.{answer_at};
+ghost use Rattle.master_acts.specs.Decided.{IsLooked};
 
 use crate::batches::{batch_fault, code_outside, first_code};
 use crate::fields::schema_of;
 use crate::found::found_table;
 use crate::places::{by_range, place_list};
+use crate::plans::plan_of;
 use catalog_core::TableRecord;
 use cluster_events::{Refusal, Reply, TabletPlace};
-use commands::NamedItem;
+use commands::{Ask, NamedItem};
 use hybrid_time::HybridTime;
 use master_part::{MasterPart, table_id};
 use row_values::{Copied, Name, NoMemory, Records};
@@ -83,6 +87,32 @@ fn judge_keys<'a>(
     Ok(found)
 }
 
+/// What a look answers.
+#[tactic(auto, unfolding(model::specs::Looks::look_plan))]
+pub fn look(master: &MasterPart, ask: &Ask, stamp: HybridTime) -> Result<Reply, NoMemory>
+    requires looked { IsLooked (ask_of ask.now) }
+    requires lawful { IsLawful master.now.master }
+    ensures plan { IfOk result (λ reply. rules.look (ask_of ask.now) stamp master.now.master ≡ answered (reply_of reply)) }
+{
+    match ask {
+        Ask::Plan(command) => Ok(Reply::Planned(plan_of(master, command)?)),
+        Ask::Keys {
+            namespace,
+            table,
+            batch,
+            at,
+        } => look_keys(master, namespace, table, batch.as_slice(), *at, stamp),
+        Ask::Table {
+            namespace,
+            table,
+            at,
+        } => look_table(master, namespace, table, *at, stamp),
+        Ask::Work => unreachable!(),
+        Ask::Removable => unreachable!(),
+        Ask::Present => look_present(master),
+    }
+}
+
 /// A look for the tablet that holds the keys of a batch.
 #[tactic(auto, unfolding(model::specs::Looks::look_keys))]
 pub fn look_keys(
@@ -124,6 +154,17 @@ pub fn look_table(
     let active = master.tablets().active_in(&table_id(found))?;
     let places = by_range(master.alloc(), active.as_slice())?;
     placed(places, schema_of(found))
+}
+
+/// A look for the slots of all tablets that the master knows. It looks at the count of each slot.
+#[tactic(auto, using(crate::proofs::Looking::present_is))]
+pub fn look_present(master: &MasterPart) -> Result<Reply, NoMemory>
+    requires lawful { IsLawful master.now.master }
+    ensures plan { IfOk result (λ reply. book.look_present master.now.master ≡ answered (reply_of reply)) }
+{
+    let tablets = master.tablets();
+    let slots = tablets.used_slots(master.alloc(), master.slots())?;
+    Ok(Reply::Present(slots))
 }
 
 // The reply of a look that finds places, with the columns of the table.

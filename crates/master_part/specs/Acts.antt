@@ -1,17 +1,20 @@
 -- What the master is told, as the book's; what it needs of the master, and of the room that was made.
-use Rattle.std.specs.Prelude.{ℕ, ◌≡◌, ◌≤◌, ◌<◌, ◌+◌, true, List, None, length}
+use Rattle.std.specs.Prelude.{ℕ, ◌≡◌, ◌≤◌, ◌<◌, ◌+◌, ◌^◌, true, List, None, length}
+use Rattle.row_values.specs.Elements.{In}
 use Rattle.row_values.specs.Ids.{Id, Kind, Snapshot, id_bound}
-use Rattle.row_values.specs.Schema.{first_schema}
+use Rattle.row_values.specs.Schema.{Schema, first_schema, with_column, without_column}
+use Rattle.table_schema.specs.Seen.{column_kind_of}
 use Rattle.model.specs.Activity.{Interval}
-use Rattle.model.specs.Catalog.{namespace_named, name_of, current_named, current_table, owner_of}
+use Rattle.model.specs.Catalog.{TableRecord, namespace_named, name_of, current_named, current_table, owner_of}
 use Rattle.model.specs.Parts as book
 use Rattle.model.specs.Parts.{Master}
 use Rattle.model.specs.Tablets.{Fence}
-use Rattle.model.specs.Records.{Schedule, RestorationRecord, Fencing}
+use Rattle.model.specs.Records.{Schedule, ScheduledNamespace, RestorationRecord, Fencing}
+use Rattle.model.specs.Schedules.{complete_to}
 use Rattle.model.specs.Lists.{new_snapshot, listing, active_tablets}
 use Rattle.model.specs.Changed.{next_namespace, next_table, next_restoration}
 use Rattle.model.specs.Drawn.{drawn_of, most_slots}
-use Rattle.catalog_core.specs.Kept.{ends_by}
+use Rattle.catalog_core.specs.Kept.{ends_by, is_free_for}
 use Rattle.schedules.specs.Periods.{IsPeriod}
 use Rattle.master_part.specs.View.{MasterView}
 use Rattle.master_part.specs.declared.act.MasterAct.{MasterAct}
@@ -22,6 +25,9 @@ act_of act.Ticks = book.Ticks
 act_of (act.MakesNamespace name) = book.MakesNamespace name
 act_of (act.DropsNamespace namespace) = book.DropsNamespace namespace
 act_of (act.MakesTable namespace name columns schema slots) = book.MakesTable namespace name columns slots
+act_of (act.AddsColumn table name kind made) = book.AddsColumn table name (column_kind_of kind)
+act_of (act.DropsColumn table column made) = book.DropsColumn table column
+act_of (act.RenamesTable table name made) = book.RenamesTable table name
 act_of (act.DropsTable table) = book.DropsTable table
 act_of (act.SplitsTablet parent code low_slot high_slot) = book.SplitsTablet parent code low_slot high_slot
 act_of (act.MakesSchedule namespace interval retention) = book.MakesSchedule namespace interval retention
@@ -36,13 +42,19 @@ act_of (act.CompletesSnapshot operation) = book.Moves operation
 act_of act.Restarts = book.Restarts
 
 -- What the law says of the master that a legal history leaves: few identifiers were drawn (`numbers_are_drawn`), what
--- the catalog has was drawn before, and no record of a table ends after the clock (`legal_is_right`)
+-- the catalog has was drawn before, a table's schema changed less often than entries were made, no record of a table ends
+-- after the clock, each tablet is in one of the slots, and the last complete snapshot of a namespace is over
+-- (`legal_is_right`)
 pub record IsLawful (m : Master) : Type 0 where
   pub few : (kind : Kind) → drawn_of kind m.drawn + most_slots < id_bound
   pub namespaces : name_of m.catalog.namespaces (next_namespace m) ≡ None
   pub tables : current_table m.catalog.tables (next_table m) ≡ None
   pub owners : owner_of m.catalog.owners (next_table m) ≡ None
+  pub columns : (t : TableRecord) → In t m.catalog.tables
+      → (t.schema.version + 1 < 2 ^ 32) × (t.schema.next + 1 < 2 ^ 32)
   pub past : ends_by m.clock m.catalog.tables ≡ true
+  pub placed : (i : Interval) → In i m.activity → (1 ≤ i.slot) × (i.slot ≤ m.slots)
+  pub complete : (k : ScheduledNamespace) → In k m.scheduled → complete_to k + 1 ≤ m.clock
 
 -- a namespace of the name may be made
 pub record NamespaceFits (name : List ℕ) (m : Master) : Type 0 where
@@ -59,6 +71,17 @@ pub record TableFits (ns : Id) (name slots : List ℕ) (n : ℕ) (m : Master) : 
   pub fresh : current_table m.catalog.tables (next_table m) ≡ None
   pub unowned : owner_of m.catalog.owners (next_table m) ≡ None
   pub past : ends_by n m.catalog.tables ≡ true
+
+-- the record under which a table goes on from a stamp
+abbrev pub goes_on : TableRecord → List ℕ → Schema → ℕ → TableRecord
+goes_on t name schema n = record t { name = name; schema = schema; from = n; to = None }
+
+-- the record of a stamp may follow its table's current one
+pub record ChangeFits (made : TableRecord) (n : ℕ) (m : Master) : Type 0 where
+  pub from : made.from ≡ n
+  pub current : made.to ≡ None
+  pub past : ends_by n m.catalog.tables ≡ true
+  pub free : is_free_for made.id (current_named m.catalog.tables made.namespace made.name) ≡ true
 
 -- a restoration that begins by fencing the namespace's active tablets
 abbrev pub new_restoration : Master → Schedule → ℕ → RestorationRecord
@@ -84,6 +107,11 @@ May (act.MakesNamespace name) n m = NamespaceFits name m
 May (act.DropsNamespace namespace) n m = Unit {0}
 May (act.MakesTable namespace name columns schema slots) n m =
     TableFits namespace name slots n m × (first_schema columns ≡ schema)
+May (act.AddsColumn table name kind made) n m =
+    ChangeFits made n m × (goes_on table table.name (with_column name (column_kind_of kind) table.schema) n ≡ made)
+May (act.DropsColumn table column made) n m =
+    ChangeFits made n m × (goes_on table table.name (without_column column.name table.schema) n ≡ made)
+May (act.RenamesTable table name made) n m = ChangeFits made n m × (goes_on table name table.schema n ≡ made)
 May (act.DropsTable table) n m = Unit {0}
 May (act.SplitsTablet parent code low_slot high_slot) n m = SplitFits parent code m
 May (act.MakesSchedule namespace interval retention) n m =
@@ -107,6 +135,9 @@ HasRoom (act.MakesNamespace name) p = 1 ≤ p.catalog_room
 HasRoom (act.DropsNamespace namespace) p = Unit {0}
 HasRoom (act.MakesTable namespace name columns schema slots) p =
     (1 ≤ p.catalog_room) × (length slots ≤ p.activity_room)
+HasRoom (act.AddsColumn table name kind made) p = 1 ≤ p.catalog_room
+HasRoom (act.DropsColumn table column made) p = 1 ≤ p.catalog_room
+HasRoom (act.RenamesTable table name made) p = 1 ≤ p.catalog_room
 HasRoom (act.DropsTable table) p = Unit {0}
 HasRoom (act.SplitsTablet parent code low_slot high_slot) p = 2 ≤ p.activity_room
 HasRoom (act.MakesSchedule namespace interval retention) p = (1 ≤ p.schedule_room) × (1 ≤ p.scheduled_room)

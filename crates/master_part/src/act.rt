@@ -1,10 +1,11 @@
+use catalog_core::TableRecord;
 use catalog_tablets::Interval;
 use hybrid_time::HybridTime;
 use restore_coord::RestorationRecord;
 use row_values::{Name, Records, Slots};
 use schedules::Schedule;
 use snapshot_coord::SnapshotRecord;
-use table_schema::{NewColumn, Schema};
+use table_schema::{Column, Kind, NewColumn, Schema};
 use yb_ident::Ident;
 
 /// What the master is told: of a command what was found, so that no name is resolved again, and what
@@ -26,6 +27,25 @@ pub enum MasterAct {
         columns: Records<NewColumn>,
         schema: Schema,
         slots: Slots,
+    },
+    /// A table goes on with one more column, under the record that was made.
+    AddsColumn {
+        table: TableRecord,
+        name: Name,
+        kind: Kind,
+        made: TableRecord,
+    },
+    /// The same without a column.
+    DropsColumn {
+        table: TableRecord,
+        column: Column,
+        made: TableRecord,
+    },
+    /// The same under another name.
+    RenamesTable {
+        table: TableRecord,
+        name: Name,
+        made: TableRecord,
     },
     DropsTable {
         table: Ident,

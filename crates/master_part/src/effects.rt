@@ -1,11 +1,13 @@
 //! What the master's part does when it is told, under a stamp.
-ghost use Rattle.std.specs.Prelude.{◌≡◌, ◌≤◌, ◌<◌, ◌+◌, OnOk, List, length};
+ghost use Rattle.std.specs.Prelude.{ℕ, ◌≡◌, ◌≤◌, ◌<◌, ◌+◌, OnOk, List, length};
 ghost use Rattle.row_values.specs.Ids.{id_bound};
-ghost use Rattle.row_values.specs.Schema.{NewColumn, first_schema};
+ghost use Rattle.row_values.specs.Schema.{NewColumn, Schema, first_schema};
+ghost use Rattle.model.specs.Catalog.{TableRecord};
+ghost use Rattle.model.specs.Changed.{table_changed};
 ghost use Rattle.model.specs.Parts.{Ticks, MakesNamespace, DropsNamespace, MakesTable, DropsTable, SplitsTablet, MakesSchedule, EditsSchedule, DeletesSchedule, Restarts};
 ghost use Rattle.model.specs.History.{master_effect};
 ghost use Rattle.schedules.specs.Periods.{IsPeriod};
-ghost use Rattle.master_part.specs.Acts.{NamespaceFits, TableFits, SplitFits};
+ghost use Rattle.master_part.specs.Acts.{NamespaceFits, TableFits, SplitFits, ChangeFits, goes_on};
 
 use crate::fields::tablet_of;
 use crate::part::MasterPart;
@@ -97,6 +99,24 @@ impl MasterPart {
             from: stamp,
             to: None,
         });
+    }
+
+    /// Makes room for the next record of a table.
+    pub fn prepare_change(&mut self) -> Result<(), NoMemory>
+        ensures master { self.new.master ≡ self.old.master }
+        ensures room { OnOk result (1 ≤ self.new.catalog_room) }
+    {
+        self.catalog.prepare(1)
+    }
+
+    /// A table goes on under another name or schema, in the room that was made.
+    pub fn change_table(&mut self, made: TableRecord, stamp: HybridTime)
+        requires room { 1 ≤ self.old.catalog_room }
+        requires fits { ChangeFits made stamp self.old.master }
+        ensures master { (t : TableRecord) (name : List ℕ) (schema : Schema) → goes_on t name schema stamp ≡ made → self.new.master ≡ table_changed t name schema stamp self.old.master }
+    {
+        self.clock = stamp;
+        self.catalog.replace_table(made);
     }
 
     /// Ends a table, and hides its tablets.

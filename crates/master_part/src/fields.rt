@@ -30,6 +30,7 @@ pub fn table_id(table: &TableRecord) -> Ident
     table.id
 }
 
+/// The tablet of an interval.
 pub fn tablet_of(interval: &Interval) -> Ident
     ensures exact { result ≡ interval.now.tablet }
 {

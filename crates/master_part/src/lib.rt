@@ -20,6 +20,6 @@ mod told;
 
 pub use act::MasterAct;
 pub use drawn::Drawn;
-pub use fields::{schedule_id, scheduled_namespace, table_id};
+pub use fields::{schedule_id, scheduled_namespace, table_id, tablet_of};
 pub use part::MasterPart;
 pub use sent::Sent;

@@ -19,6 +19,9 @@ impl MasterPart {
             MasterAct::MakesNamespace { .. } => self.prepare_namespace(),
             MasterAct::DropsNamespace { .. } => Ok(()),
             MasterAct::MakesTable { slots, .. } => self.prepare_table(slots.len() as usize),
+            MasterAct::AddsColumn { .. } => self.prepare_change(),
+            MasterAct::DropsColumn { .. } => self.prepare_change(),
+            MasterAct::RenamesTable { .. } => self.prepare_change(),
             MasterAct::DropsTable { .. } => Ok(()),
             MasterAct::SplitsTablet { .. } => self.prepare_split(),
             MasterAct::MakesSchedule { .. } => self.prepare_schedule(),
@@ -51,6 +54,22 @@ impl MasterPart {
                 schema,
                 slots,
             } => self.make_table(namespace, name, schema, slots.as_slice(), stamp),
+            MasterAct::AddsColumn {
+                table: _table,
+                name: _name,
+                kind: _kind,
+                made,
+            } => self.change_table(made, stamp),
+            MasterAct::DropsColumn {
+                table: _table,
+                column: _column,
+                made,
+            } => self.change_table(made, stamp),
+            MasterAct::RenamesTable {
+                table: _table,
+                name: _name,
+                made,
+            } => self.change_table(made, stamp),
             MasterAct::DropsTable { table } => self.drop_table(&table, stamp),
             MasterAct::SplitsTablet {
                 parent,

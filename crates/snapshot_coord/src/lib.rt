@@ -6,6 +6,7 @@
 #![tactic(auto)]
 
 mod list;
+mod looks;
 mod record;
 
 pub use list::Snapshots;

@@ -1,4 +1,5 @@
-ghost use Rattle.std.specs.Prelude.{◌≡◌, ◌≤◌, true, [], ◌∷◌, ◌++◌, OnOk, map, if◌then◌else◌};
+ghost use Rattle.std.specs.Prelude.{◌≡◌, ◌≤◌, true, [], ◌∷◌, ◌++◌, OnOk, map, not, if◌then◌else◌};
+ghost use Rattle.std.specs.List.{filter};
 ghost use Rattle.std.specs.Option.{option_copied, option_and_then};
 ghost use Rattle.row_values.specs.Ids.{same};
 ghost use Rattle.model.specs.Records as book;
@@ -113,6 +114,13 @@ impl Snapshots {
         }
     }
 
+    /// The record of a snapshot goes. It takes no memory.
+    pub fn remove(&mut self, id: &Ident)
+        ensures snapshots { self.new.snapshots ≡ filter (λ r. not (same r.id id.now)) self.old.snapshots }
+    {
+        forget(&mut self.records, id);
+    }
+
     /// Makes room for one more record.
     pub fn prepare(&mut self) -> Result<(), NoMemory>
         ensures snapshots { self.new.snapshots ≡ self.old.snapshots }
@@ -129,6 +137,20 @@ impl Snapshots {
     {
         self.records.push(made).unwrap();
     }
+}
+
+// The record of a snapshot goes.
+fn forget(records: &mut Vec<SnapshotRecord>, id: &Ident)
+    ensures items { records.new.items ≡ filter (λ r. not (same r.id id.now)) records.old.items }
+{
+    records.retain(|record| is_another(record, id));
+}
+
+// Whether a record is not that of a snapshot.
+fn is_another(snapshot: &SnapshotRecord, id: &Ident) -> bool
+    ensures exact { result ≡ not (same snapshot.now.id id.now) }
+{
+    snapshot.id != *id
 }
 
 fn unacked_in(snapshot: &SnapshotRecord, slot: u32) -> Option<Listed>

@@ -6,6 +6,7 @@ ghost use Rattle.step_line.specs.Lines.{Stepped, Declined, Holds};
 use crate::places::placed;
 use crate::steps::perform_in;
 use row_values::{NoMemory, Records};
+use std::alloc::Global;
 use std::marker::Model;
 use step_table::{Machine, count_entries};
 
@@ -61,6 +62,28 @@ impl<M: Machine> Line<M> {
         let reply = perform_in::<M>(alloc, &mut self.places, self.last, event)?;
         self.last += 1;
         Ok(reply)
+    }
+
+    /// The number of parts.
+    pub fn size(&self) -> u32
+        ensures size { result ≡ length self.now.parts }
+    {
+        self.places.len() as u32
+    }
+
+    /// The number of entries in all logs. It is that of the last.
+    pub fn len(&self) -> u64
+        ensures count { result ≡ length (history_of M.core self.now.parts) }
+        ensures numbered { IsNumbered 1 (history_of M.core self.now.parts) }
+    {
+        self.last
+    }
+
+    /// The allocator of the places. No clause speaks of an allocator.
+    pub fn allocator(&self) -> Global
+        ensures kept { self.now ≡ self.now }
+    {
+        *self.places.allocator()
     }
 
     /// The part in this slot.

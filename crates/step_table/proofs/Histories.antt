@@ -113,11 +113,11 @@ module _ {P E D R F : Type 0} (c : Core P E D R F) where
       let split : (n : ℕ) → counted n (history_of c ps) + counted n (c.log p) ≤ 1 = λ n. let o = once n in let t : counted n (merged (history_of c ps) (c.log p)) ≡ counted n (history_of c ps) + counted n (c.log p) = total_merged (λ (e : Entry E R). cond {A = ℕ} (nat_eq n e.number) 1 0) (history_of c ps) (c.log p) in omega arith in
       rising_merged (history_of c ps) (c.log p) (rising_history ps (λ n. let s = split n in omega arith)) split
 
-  every_history : (G : Entry E R → Type 0) (ps : List P) → Every (λ p. Every G (c.log p)) ps → Every G (history_of c ps)
+  pub every_history : (G : Entry E R → Type 0) (ps : List P) → Every (λ p. Every G (c.log p)) ps → Every G (history_of c ps)
   every_history G [] all = tt
   every_history G (p ∷ ps) all = every_merged G (history_of c ps) (c.log p) (every_history G ps all.1) all.0
 
-  every_log : (G : Entry E R → Type 0) (ps : List P) → ((x : Entry E R) → In x (history_of c ps) → G x) → Every (λ p. Every G (c.log p)) ps
+  pub every_log : (G : Entry E R → Type 0) (ps : List P) → ((x : Entry E R) → In x (history_of c ps) → G x) → Every (λ p. Every G (c.log p)) ps
   every_log G [] f = tt
   every_log G (p ∷ ps) f = (every_from G (c.log p) (λ x here. f x (in_merged_second x (history_of c ps) (c.log p) here)), every_log G ps (λ x here. f x (in_merged_first x (history_of c ps) (c.log p) here)))
 

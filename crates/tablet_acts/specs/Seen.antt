@@ -1,7 +1,7 @@
 -- What a tablet's part is told, as contracts see it.
 use Rattle.tablet_acts.specs.declared.told.TabletTold.{TabletTold}
 use Rattle.tablet_acts.specs.declared.told.TabletTold.TheVariants as told
-use Rattle.tablet_acts.specs.Tellings.{Telling, Ticks, Makes, MakesChild, Sets, Hides, Writes, Raises, Compacts, Offers, Restarts}
+use Rattle.tablet_acts.specs.Tellings.{Telling, Ticks, Makes, MakesChild, Sets, Hides, Writes, Raises, Compacts, Offers, Processes, Clears, DropsFrozen, Restarts}
 
 abbrev pub telling_of : {V : Type 0} → TabletTold V → Telling
 telling_of told.Clock = Ticks
@@ -14,4 +14,7 @@ telling_of (told.Write batch) = Writes batch
 telling_of (told.RaiseCutoff to) = Raises to
 telling_of (told.Compact store) = Compacts store
 telling_of (told.Offer command) = Offers command
+telling_of (told.Process command store) = Processes command store
+telling_of (told.Clear store) = Clears store
+telling_of (told.DropFrozen snapshot) = DropsFrozen snapshot
 telling_of told.Restart = Restarts

@@ -4,11 +4,11 @@
 
 mod plan;
 mod plans;
+mod processing;
 mod refused;
-mod store;
 mod told;
 
 pub use plan::{SlotTold, TabletsPlan};
-pub use plans::{compact, stats, write};
-pub use store::ReadyStore;
+pub use plans::{compact, cutoff, stats, write};
+pub use processing::process;
 pub use told::TabletTold;

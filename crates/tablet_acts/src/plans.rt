@@ -1,18 +1,20 @@
 //! What acts on one tablet come to. These calls change nothing.
-ghost use Rattle.std.specs.Prelude.{ℕ, ◌≡◌, IfOk};
+ghost use Rattle.std.specs.Prelude.{ℕ, ◌≡◌, ◌≤◌, IfOk};
 ghost use Rattle.row_values.specs.Batches.{FitsStore};
+ghost use Rattle.model.specs.Parts.{Parts};
+ghost use Rattle.model.specs.RowActs.{allowed_of, scheduled_at};
 ghost use Rattle.model.specs.RowActs as book;
 ghost use Rattle.tablet_part.specs.Plans.{alone};
 ghost use Rattle.tablet_acts.specs.Tellings.{outcome_of, SuitAt};
 
 use crate::plan::TabletsPlan;
 use crate::refused::refusal;
-use crate::store::ReadyStore;
 use crate::told::TabletTold;
 use cluster_events::{At, Reply};
+use hybrid_time::HybridTime;
 use row_values::{Batch, Copied, NoMemory, Records};
 use std::alloc::Global;
-use tablet_part::TabletPart;
+use tablet_part::{ReadyStore, TabletPart};
 use versions::VersionStore;
 
 /// A write of a batch into the tablet that is expected in its place.
@@ -39,6 +41,28 @@ pub fn write<V: VersionStore>(
                 Reply::Ok { made },
             )
         }
+    }
+}
+
+/// A raise of a tablet's cutoff, as far as the master allows at the act's stamp.
+#[tactic(auto, using(crate::proofs::Beside::cutoff_beside))]
+pub fn cutoff<V: VersionStore>(
+    alloc: Global,
+    part: &TabletPart<V>,
+    slot: u32,
+    to: HybridTime,
+) -> Result<TabletsPlan<V>, NoMemory>
+    ensures plan { IfOk result (λ p. (n : ℕ) (ps : Parts) → ps.tablet slot ≡ part.now.tablet → allowed_of (scheduled_at ps.master slot) n ≡ to → outcome_of p ≡ book.cutoff slot n ps) }
+    ensures suits { IfOk result (λ p. (n : ℕ) → to ≤ n → SuitAt slot n part.now.tablet p.tablets) }
+{
+    match part.judge_cutoff(slot, to) {
+        Err(why) => Ok(TabletsPlan::answered(alloc, Reply::Refused(refusal(why)))),
+        Ok(raised) => TabletsPlan::telling(
+            alloc,
+            slot,
+            TabletTold::RaiseCutoff { to },
+            Reply::CutoffAt(raised),
+        ),
     }
 }
 

@@ -3,12 +3,11 @@ ghost use Rattle.model.specs.Tablets.{effect};
 ghost use Rattle.tablet_acts.specs.Tellings.{Suits, HasRoom, act_told};
 ghost use Rattle.tablet_acts.specs.Seen.{telling_of};
 
-use crate::store::ReadyStore;
 use hybrid_time::HybridTime;
 use partition_codes::Range;
 use row_values::{Batch, NoMemory};
 use tablet_inbox::TabletCommand;
-use tablet_part::TabletPart;
+use tablet_part::{ReadyStore, TabletPart};
 use versions::VersionStore;
 use yb_ident::Ident;
 
@@ -53,6 +52,19 @@ pub enum TabletTold<V: VersionStore> {
     Offer {
         command: TabletCommand,
     },
+    /// Does the first command of its inbox, with the store that was made for it.
+    Process {
+        command: TabletCommand,
+        store: Option<ReadyStore<V>>,
+    },
+    /// Is emptied, and keeps the empty store.
+    Clear {
+        store: ReadyStore<V>,
+    },
+    /// Drops the frozen sets of a snapshot.
+    DropFrozen {
+        snapshot: Ident,
+    },
     Restart,
 }
 
@@ -65,7 +77,8 @@ impl<V: VersionStore> TabletTold<V> {
     {
         match self {
             TabletTold::Write { batch } => part.prepare_write(batch),
-            TabletTold::Offer { .. } => part.prepare_offer(),
+            TabletTold::Offer { .. } => part.make_ready(),
+            TabletTold::Process { .. } => part.make_ready(),
             TabletTold::Clock => Ok(()),
             TabletTold::Make { .. } => Ok(()),
             TabletTold::MakeChild { .. } => Ok(()),
@@ -73,6 +86,8 @@ impl<V: VersionStore> TabletTold<V> {
             TabletTold::Hide { .. } => Ok(()),
             TabletTold::RaiseCutoff { .. } => Ok(()),
             TabletTold::Compact { .. } => Ok(()),
+            TabletTold::Clear { .. } => Ok(()),
+            TabletTold::DropFrozen { .. } => Ok(()),
             TabletTold::Restart => Ok(()),
         }
     }
@@ -106,6 +121,9 @@ impl<V: VersionStore> TabletTold<V> {
             TabletTold::RaiseCutoff { to } => part.raise_cutoff(to, stamp),
             TabletTold::Compact { store } => part.compact(store.into_store(), stamp),
             TabletTold::Offer { command } => part.offer(command, stamp),
+            TabletTold::Process { command, store } => part.process(&command, store, stamp),
+            TabletTold::Clear { store } => part.clear(store.into_store(), stamp),
+            TabletTold::DropFrozen { snapshot } => part.drop_frozen(snapshot, stamp),
             TabletTold::Restart => part.restart(stamp),
         }
     }

@@ -1,5 +1,6 @@
 ghost use Rattle.std.specs.Prelude.{◌≡◌};
 ghost use Rattle.model.specs.Tablets as book;
+ghost use Rattle.model.specs.Coordination.{source_slot};
 ghost use Rattle.tablet_inbox.specs.Seen.{body_of, kind_seen};
 
 use hybrid_time::HybridTime;
@@ -65,6 +66,21 @@ impl Body {
             Body::Hide { .. } => BodyKind::Hide,
             Body::Copy { .. } => BodyKind::Copy,
             Body::Release { .. } => BodyKind::Release,
+        }
+    }
+
+    /// The slot of the tablet whose frozen rows it takes, where it is done in a slot: of a copy its source, else the
+    /// tablet's own.
+    pub fn source_slot(&self, slot: u32) -> u32
+        ensures exact { result ≡ source_slot slot (body_of self.now) }
+    {
+        match self {
+            Body::Copy { source, .. } => *source,
+            Body::Fence => slot,
+            Body::Freeze { .. } => slot,
+            Body::RestoreFrom { .. } => slot,
+            Body::Hide { .. } => slot,
+            Body::Release { .. } => slot,
         }
     }
 }

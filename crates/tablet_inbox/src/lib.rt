@@ -14,7 +14,7 @@ mod standing;
 pub use body::{Body, BodyKind};
 pub use command::{Mark, TabletCommand};
 pub use inbox::Inbox;
-pub use listed::{Listed, clear_acks, first_unacked, set_acked, unacked_at};
+pub use listed::{Listed, clear_acks, first_unacked, lists_tablet, set_acked, unacked_at};
 pub use standing::Standing;
 
 #[cfg(test)]

@@ -46,6 +46,18 @@ pub fn unacked_at(listed: &[Listed], slot: u32) -> Option<Listed>
     None
 }
 
+/// Whether a tablet is listed. It takes no memory.
+pub fn lists_tablet(listed: &[Listed], tablet: &Ident) -> bool
+    ensures exact { result ≡ book.lists_tablet tablet.now listed.now }
+{
+    for item in listed {
+        if item.tablet == *tablet {
+            return true;
+        }
+    }
+    false
+}
+
 /// The first listed tablet that has not said that it did its part. It takes no memory.
 pub fn first_unacked(listed: &[Listed]) -> Option<Listed>
     ensures exact { result ≡ book.first_unacked listed.now }

@@ -1,5 +1,5 @@
 -- What an act on one tablet comes to, by what its part says.
-use Rattle.std.specs.Prelude.{ℕ, List, [], ◌∷◌, Option, Some, None, Result, Ok, Err}
+use Rattle.std.specs.Prelude.{ℕ, [], ◌∷◌, Option, Some, None, Result, Ok, Err}
 use Rattle.model.specs.Tablets.{Tablet, TabletAct}
 use Rattle.model.specs.Acts.{Reply, Counts as CountsOf, NoTablet}
 use Rattle.model.specs.Parts.{Master, Parts, Outcome, Ticks, refused, empty_master}

@@ -1,5 +1,6 @@
--- A tablet's part as contracts see it.
-use Rattle.std.specs.Prelude.{ℕ, Bool}
+-- A tablet's part, and a store of versions, as contracts see them.
+use Rattle.std.specs.Prelude.{ℕ, Bool, List}
+use Rattle.row_values.specs.Store.{Version}
 use Rattle.model.specs.Tablets.{Tablet}
 
 pub record TabletView : Type 0 where
@@ -7,5 +8,10 @@ pub record TabletView : Type 0 where
   pub tablet : Tablet
   -- for how many versions its store has room
   pub room : ℕ
-  -- whether its inbox has room for one more command
+  -- whether it has room for one more command and for one more frozen set
   pub ready : Bool
+
+-- a store that was made ready
+pub record StoreView : Type 0 where
+  pub versions : List Version
+  pub cutoff : ℕ

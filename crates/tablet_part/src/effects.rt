@@ -8,7 +8,7 @@ use crate::part::TabletPart;
 use crate::presence::Presence;
 use hybrid_time::HybridTime;
 use partition_codes::Range;
-use row_values::{Batch, NoMemory, Records};
+use row_values::{Batch, NoMemory};
 use std::alloc::Global;
 use tablet_inbox::{Inbox, TabletCommand};
 use versions::VersionStore;
@@ -143,7 +143,7 @@ impl<V: VersionStore> TabletPart<V> {
         requires past { V.cutoff store ≤ stamp }
         ensures tablet { self.new.tablet ≡ placed tablet table range.low range.high version (V.versions store) (V.cutoff store) stamp self.old.tablet }
     {
-        let alloc = self.frozen.allocator();
+        let alloc = *self.frozen.allocator();
         self.clock = stamp;
         self.presence = Presence::Serving;
         self.tablet = Some(tablet);
@@ -152,9 +152,10 @@ impl<V: VersionStore> TabletPart<V> {
         self.high = range.high;
         self.version = version;
         self.store = store;
-        self.frozen = Records::new(alloc);
+        self.frozen = Vec::new(alloc);
         self.fence = None;
         self.inbox = Inbox::new(alloc);
+        self.ready = false;
     }
 
     /// Keeps another version of the schema.
@@ -187,12 +188,18 @@ impl<V: VersionStore> TabletPart<V> {
         self.inbox.lose_all();
     }
 
-    /// Makes room in the inbox for one more command.
-    pub fn prepare_offer(&mut self) -> Result<(), NoMemory>
+    /// Makes room for one more command, and for one more frozen set.
+    pub fn make_ready(&mut self) -> Result<(), NoMemory>
         ensures tablet { self.new.tablet ≡ self.old.tablet }
         ensures ready { OnOk result (self.new.ready ≡ true) }
     {
-        self.inbox.prepare_offer()
+        if self.ready {
+            return Ok(());
+        }
+        self.inbox.prepare_offer()?;
+        self.frozen.reserve(1)?;
+        self.ready = true;
+        Ok(())
     }
 
     /// Is offered a command, in the room that was made.
@@ -203,6 +210,7 @@ impl<V: VersionStore> TabletPart<V> {
         ensures tablet { self.new.tablet ≡ effect (Offer command) stamp self.old.tablet }
     {
         self.clock = stamp;
+        self.ready = false;
         self.inbox.offer(command);
     }
 }

@@ -11,10 +11,13 @@ mod frozen;
 mod part;
 mod plans;
 mod presence;
+mod processing;
 mod refused;
+mod store;
 
 pub use frozen::Frozen;
 pub use part::TabletPart;
 pub use plans::Counts;
 pub use presence::Presence;
 pub use refused::TabletRefused;
+pub use store::ReadyStore;

@@ -9,7 +9,7 @@ use crate::frozen::Frozen;
 use crate::presence::Presence;
 use hybrid_time::HybridTime;
 use partition_codes::code;
-use row_values::{Batch, Key, NoMemory, Records};
+use row_values::{Batch, Key, NoMemory};
 use std::alloc::Global;
 use std::marker::Model;
 use tablet_inbox::{Inbox, Standing};
@@ -17,7 +17,7 @@ use versions::VersionStore;
 use yb_ident::Ident;
 
 /// A tablet's part over any store of versions. Contracts see it as the book's tablet, as the room of
-/// its store, and as whether its inbox has room for one more command.
+/// its store, and as whether it has room for one more command and for one more frozen set.
 #[derive(Drop)]
 pub struct TabletPart<V: VersionStore> {
     pub(crate) clock: HybridTime,
@@ -28,13 +28,14 @@ pub struct TabletPart<V: VersionStore> {
     pub(crate) high: u32,
     pub(crate) version: u32,
     pub(crate) store: V,
-    pub(crate) frozen: Records<Frozen<V>>,
+    pub(crate) frozen: Vec<Frozen<V>>,
     pub(crate) fence: Option<Ident>,
     pub(crate) inbox: Inbox,
+    pub(crate) ready: bool,
 }
 
 impl<V: VersionStore> Model for TabletPart<V> {
-    ghost use Rattle.std.specs.Prelude.{◌+◌, ◌<◌, ◌≤◌, ◌^◌};
+    ghost use Rattle.std.specs.Prelude.{◌≡◌, ◌+◌, ◌-◌, ◌<◌, ◌≤◌, ◌^◌, true, vec_len, vec_capacity};
     ghost use Rattle.model.specs.RowActs.{count_frozen};
     ghost use Rattle.row_values.specs.Ids.{Tablet, Table};
     ghost use Rattle.row_values.specs.Store.{Below};
@@ -55,19 +56,20 @@ impl<V: VersionStore> Model for TabletPart<V> {
         version = p.version;
         versions = V.versions p.store;
         cutoff = V.cutoff p.store;
-        frozen = p.frozen;
+        frozen = p.frozen.items;
         fence = p.fence;
         inbox = p.inbox.inbox;
         done = p.inbox.done;
       };
       room = V.room p.store;
-      ready = p.inbox.ready;
+      ready = p.ready;
     } };
 
     ghost invariant = { λ p. record {
       stamps : Below (p.clock + 1) (V.versions p.store);
-      few : count_frozen p.frozen < 2 ^ 64;
+      few : count_frozen p.frozen.items < 2 ^ 64;
       past : V.cutoff p.store ≤ p.clock;
+      room : p.ready ≡ true → (p.inbox.ready ≡ true) × (1 ≤ vec_capacity p.frozen - vec_len p.frozen);
     } };
 }
 
@@ -86,9 +88,10 @@ impl<V: VersionStore> TabletPart<V> {
             high: 0,
             version: 0,
             store: V::empty(alloc, zero)?,
-            frozen: Records::new(alloc),
+            frozen: Vec::new(alloc),
             fence: None,
             inbox: Inbox::new(alloc),
+            ready: false,
         })
     }
 
@@ -220,7 +223,7 @@ impl<V: VersionStore> TabletPart<V> {
         ensures count { result ≡ count_frozen self.now.tablet.frozen }
     {
         let mut count = 0;
-        for set in self.frozen.as_slice() {
+        for set in &self.frozen {
             count += set.len();
         }
         count

@@ -5,7 +5,7 @@ ghost use Rattle.versions.specs.Rows.{present_rows};
 use crate::version::Version;
 use hybrid_time::HybridTime;
 use partition_codes::{Range, code};
-use row_values::{Copied, KeyedRow, NoMemory, Records, RowOp};
+use row_values::{Copied, KeyedRow, NoMemory, Records, RowOp, Rows};
 use std::alloc::Global;
 
 /// Copies of these versions.
@@ -73,4 +73,19 @@ pub fn row_copies(
         }
     }
     Ok(copies)
+}
+
+/// Rows as one upsert each, at a stamp. Their keys and cells are moved.
+pub fn upserts(rows: Rows, stamp: HybridTime) -> Result<Vec<Version>, NoMemory>
+    ensures { IfOk result (λ versions. versions.items ≡ of_rows rows stamp) }
+{
+    let mut versions = Vec::with_capacity(rows.allocator(), rows.as_slice().len())?;
+    for keyed in rows.into_vec() {
+        versions.push(Version {
+            key: keyed.key,
+            stamp,
+            op: RowOp::Upsert(keyed.row.cells),
+        })?;
+    }
+    Ok(versions)
 }

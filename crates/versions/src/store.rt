@@ -100,6 +100,13 @@ pub trait VersionStore: Drop {
         ensures versions { IfOk result (λ s. versions s ≡ frozen at (versions self.now)) }
         ensures cutoff { IfOk result (λ s. cutoff s ≡ cutoff self.now) };
 
+    /// A store of the present rows at a time, each as one upsert at a stamp, from which on its reads
+    /// are right. From the stamp on it has those rows. The time may be below the cutoff.
+    fn restored(&self, to: HybridTime, stamp: HybridTime) -> Result<Self, NoMemory>
+        ensures versions { IfOk result (λ s. versions s ≡ of_rows (rows_at (versions self.now) to) stamp) }
+        ensures cutoff { IfOk result (λ s. cutoff s ≡ stamp) }
+        ensures rows { IfOk result (λ s. rows_at (versions s) stamp ≡ rows_at (versions self.now) to) };
+
     /// A store of the versions whose partition code is in a range.
     fn part_of(&self, range: Range) -> Result<Self, NoMemory>
         ensures versions { IfOk result (λ s. versions s ≡ part_of range.low range.high (versions self.now)) }

@@ -1,4 +1,4 @@
-use Rattle.std.proofs.Common.{◌≡◌, sym, ap, subst}
+use Rattle.std.proofs.Common.{sym, subst}
 use Rattle.step_table.specs.Histories.{history_of}
 use Rattle.machine_laws.specs.Past.{IsPast, book}
 use Rattle.machine_laws.specs.Core.{core_of}

@@ -1,8 +1,7 @@
 use Rattle.std.proofs.Common.{ap, ◌∙◌, Option}
 use Rattle.step_table.specs.Helds.{slots_of, parts_of}
-use Rattle.machine_laws.specs.Views.{KeptView, PartView}
 use Rattle.machine_laws.specs.Laid.{tablet_of, tablet_in, kept_in}
-use Rattle.cluster_core.specs.declared.room.PartRoom.{PartRoom}
+use Rattle.cluster_core.specs.Held.{Part}
 use Rattle.cluster_core.proofs.Laying.{held_at, kind_held, tablet_kind}
 use Rattle.cluster_core.proofs.held.tablet_in.Goals as goal
 
@@ -14,6 +13,6 @@ tablet-requires g c = record {
 pub returns : goal.returns
 returns g c = record {
   tablet =
-      ap (λ (p : Option (PartView PartRoom)). tablet_in (kept_in p)) (held_at c.place_of-i.result (slots_of c.args.held.now) (parts_of c.args.held.now) c.args.slot c.part.result.now c.requires.rising c.place_of-i.ensures.place c.part.ensures.part)
+      ap (λ (p : Option Part). tablet_in (kept_in p)) (held_at c.place_of-i.result (slots_of c.args.held.now) (parts_of c.args.held.now) c.args.slot c.part.result.now c.requires.rising c.place_of-i.ensures.place c.part.ensures.part)
       ∙ ap tablet_of c.tablet.ensures.tablet;
 }

@@ -1,6 +1,5 @@
-use Rattle.std.proofs.Common.{◌≡◌, ◌+◌, ◌++◌, ◌∷◌, [], drop, sym, ap, ◌∙◌, append_assoc}
+use Rattle.std.proofs.Common.{◌+◌, ◌++◌, ◌∷◌, [], drop, sym, ap, ◌∙◌, append_assoc}
 use Rattle.step_table.specs.Helds.{slots_of}
-use Rattle.cluster_core.specs.SeenActs.{master_act_of}
 use Rattle.cluster_core.specs.SeenTold.{part_telling, tellings_of}
 use Rattle.cluster_core.specs.Plans.{tell_all}
 use Rattle.cluster_core.proofs.Telling.{told_taken, told_snoc}
@@ -9,9 +8,9 @@ use Rattle.cluster_core.proofs.line_up.line_up.Goals as goal
 pub loop-i-preserved : goal.loop-i-preserved
 loop-i-preserved g c =
     let ks = slots_of c.args.held.now in
-    let a = master_act_of c.loop-i.master in
+    let a = c.loop-i.master in
     let ts = c.loop-i.tablets.items in
-    let b = master_act_of c.take_told.new.master in
+    let b = c.take_told.new.master in
     let us = c.take_told.new.tablets.items in
     let rest = tell_all b us (drop (c.loop-i.i + 1) ks) in
     let next = told_taken a b ts us c.loop-i.i ks c.slot.result c.requires.rising c.slot.ensures.slot c.take_told.ensures.others in

@@ -1,4 +1,4 @@
-use Rattle.std.proofs.Common.{◌≡◌, sym, ap, subst, ◌∙◌, arith}
+use Rattle.std.proofs.Common.{sym, ap, ◌∙◌}
 use Rattle.cluster_core.specs.Plans.{telling_for}
 use Rattle.tablet_acts.specs.Tellings.{SlotTelling}
 use Rattle.cluster_core.proofs.Telling.{act_set}

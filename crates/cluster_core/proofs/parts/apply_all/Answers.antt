@@ -1,6 +1,5 @@
-use Rattle.std.proofs.Common.{◌≡◌, ◌<◌, ◌+◌, length, sym, ap, subst, refl, ◌∙◌, arith}
+use Rattle.std.proofs.Common.{◌<◌, ap, subst, arith}
 use Rattle.std.specs.Vec.Iter.{into_iter_items}
-use Rattle.step_table.specs.Helds.{slots_of, parts_of, with_part}
 use Rattle.cluster_core.specs.SeenTold.{part_telling, tellings_of}
 use Rattle.cluster_core.proofs.Loops.{Applying, can_next, within_next, next_applying, same_size, parts_size}
 use Rattle.cluster_core.proofs.parts.apply_all.Goals as goal

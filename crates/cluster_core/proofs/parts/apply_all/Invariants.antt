@@ -1,4 +1,3 @@
-use Rattle.std.proofs.Common.{◌≡◌}
 use Rattle.std.specs.Vec.Iter.{into_iter_items}
 use Rattle.cluster_core.specs.SeenTold.{tellings_of}
 use Rattle.cluster_core.proofs.Loops.{Applying}

@@ -1,10 +1,10 @@
-use Rattle.std.proofs.Common.{◌≡◌, ◌≤◌, ◌+◌, ◌∷◌, List, [], ℕ, zero, suc, map, drop, sym, ap, ◌∙◌, arith, Some}
+use Rattle.std.proofs.Common.{◌≡◌, ◌+◌, ◌∷◌, List, [], ℕ, zero, suc, map, drop, sym, ap, ◌∙◌, arith, Some}
 use Rattle.std.specs.Prelude.{slice_get, max}
 use Rattle.row_values.specs.Stamps as rule
 use Rattle.step_table.specs.Helds.{parts_of}
 use Rattle.cluster_core.specs.Tellings.{clock_in}
 use Rattle.cluster_core.proofs.Laying.{some_is}
-use Rattle.cluster_core.proofs.Loops.{Part}
+use Rattle.cluster_core.specs.Held.{Part}
 use Rattle.cluster_core.proofs.parts.next_stamp.Goals as goal
 
 clock_next : (i : ℕ) (ps : List Part) (p : Part) → slice_get ps i ≡ Some p → drop i (map clock_in ps) ≡ clock_in p ∷ drop (suc i) (map clock_in ps)

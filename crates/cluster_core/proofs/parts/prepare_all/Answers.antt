@@ -1,5 +1,5 @@
-use Rattle.std.proofs.Common.{◌≡◌, ◌<◌, ◌+◌, suc, length, drop, sym, ap, subst, refl, ◌∙◌, arith}
-use Rattle.step_table.specs.Helds.{slots_of, parts_of, with_part}
+use Rattle.std.proofs.Common.{◌≡◌, ◌<◌, ◌+◌, suc, drop, ap, subst, ◌∙◌, arith}
+use Rattle.step_table.specs.Helds.{with_part}
 use Rattle.step_table.proofs.Helds.{slots_with}
 use Rattle.cluster_core.specs.SeenTold.{part_telling, tellings_of}
 use Rattle.cluster_core.proofs.Loops.{Preparing, acts_next, next_fit, next_within, next_preparing, first_kept, same_size, parts_size}

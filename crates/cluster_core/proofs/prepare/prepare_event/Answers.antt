@@ -1,14 +1,14 @@
 use Rattle.std.proofs.Common.{◌≡◌, ◌-◌, ◌<◌, ◌≤◌, map, length, sym, ap, subst, ◌∙◌, arith, inr, slice_get}
 use Rattle.std.specs.Option.{option_map}
 use Rattle.row_values.specs.Stamps as rule
-use Rattle.step_table.specs.Helds.{slots_of, parts_of}
+use Rattle.step_table.specs.Helds.{parts_of}
 use Rattle.model.specs.Entries.{touches}
 use Rattle.model.specs.Times.{end_of_time}
 use Rattle.machine_laws.specs.Laid.{told_acts}
 use Rattle.machine_laws.specs.Core.{stamp_at, outcome_at, answer_at}
 use Rattle.machine_laws.proofs.Slots.{touched_some}
-use Rattle.cluster_core.specs.Tellings.{clock_in, meaning, part_act}
-use Rattle.cluster_core.specs.Readies.{AllFit, AllCan}
+use Rattle.cluster_core.specs.Tellings.{clock_in, meaning}
+use Rattle.cluster_core.specs.Readies.{AllCan}
 use Rattle.cluster_core.specs.Causes.{fault_told}
 use Rattle.cluster_core.proofs.Firsts.{some_held, stamp_meant, clock_fault, full_fault, no_fault_is, stamp_later, later_kept}
 use Rattle.cluster_core.proofs.prepare.prepare_event.Goals as goal

@@ -1,4 +1,4 @@
-use Rattle.std.proofs.Common.{◌≡◌, sym, ap, ◌∙◌}
+use Rattle.std.proofs.Common.{sym, ap, ◌∙◌}
 use Rattle.step_table.specs.Helds.{slots_of, parts_of}
 use Rattle.cluster_events.specs.SeenReplies.{refusal_of}
 use Rattle.machine_laws.specs.Laid.{lay}

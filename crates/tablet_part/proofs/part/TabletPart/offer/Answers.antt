@@ -1,4 +1,4 @@
-use Rattle.std.proofs.Common.{◌≡◌, ap, sym}
+use Rattle.std.proofs.Common.{ap, sym}
 use Rattle.model.specs.Tablets.{offered}
 use Rattle.tablet_part.specs.Views.{TabletView}
 use Rattle.tablet_part.proofs.part.TabletPart.offer.Goals as goal

@@ -1,0 +1,9 @@
+pub mod Rising
+pub mod Readings
+pub mod Going
+pub mod Performing
+pub mod Serving
+pub mod Looking
+pub mod Showing
+pub mod Ending
+pub mod Beginning

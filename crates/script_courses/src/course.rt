@@ -65,11 +65,11 @@ pub enum Showing {
     Count,
 }
 
-/// How far a coordinator works, under a reading in microseconds.
+/// How far a coordinator works, under the script's reading.
 #[derive(Clone, Copy, Debug, PartialEq, Eq)]
 pub enum Work {
     /// At most so many events.
-    Coordinate { count: u64, reading: u64 },
+    Coordinate { count: u64 },
     /// Until no record is unfinished.
-    Settle { reading: u64 },
+    Settle,
 }

@@ -18,7 +18,7 @@ use std::alloc::Global;
 
 // The master is told a command that touches no tablet.
 fn tell_alone(alloc: Global, command: Command) -> Course
-    ensures exact { course_seen result ≡ book.tell_alone (command_of command) }
+    ensures exact { (reading : ℕ) → course_seen reading result ≡ book.tell_alone (command_of command) }
 {
     Course::Perform {
         act: Act::Change {
@@ -30,7 +30,7 @@ fn tell_alone(alloc: Global, command: Command) -> Course
 
 // The master is told a command under the plan that a look finds.
 fn plan_and_tell(command: Command) -> Result<Course, NoMemory>
-    ensures exact { IfOk result (λ c. course_seen c ≡ book.plan_and_tell (command_of command)) }
+    ensures exact { IfOk result (λ c. (reading : ℕ) → course_seen reading c ≡ book.plan_and_tell (command_of command)) }
 {
     let asked = command.copy()?;
     Ok(Course::LookFor {
@@ -50,7 +50,7 @@ fn one_item(alloc: Global, key: Key, op: NamedOp) -> Result<Records<NamedItem>, 
 
 // A write looks for the place of its keys.
 fn write_rows(namespace: Name, table: Name, batch: Records<NamedItem>) -> Result<Course, NoMemory>
-    ensures exact { IfOk result (λ c. course_seen c ≡ book.LookFor (acts.AskKeys namespace table batch None) (write_into batch) book.ShowReply) }
+    ensures exact { IfOk result (λ c. (reading : ℕ) → course_seen reading c ≡ book.LookFor (acts.AskKeys namespace table batch None) (write_into batch) book.ShowReply) }
 {
     let asked = batch.copy()?;
     Ok(Course::LookFor {
@@ -72,7 +72,7 @@ fn read_row(
     key: Key,
     at: Option<HybridTime>,
 ) -> Result<Course, NoMemory>
-    ensures exact { IfOk result (λ c. course_seen c ≡ book.LookFor (acts.AskKeys namespace table (key_alone key) at) (read_places (Some key) at) book.ShowRow) }
+    ensures exact { IfOk result (λ c. (reading : ℕ) → course_seen reading c ≡ book.LookFor (acts.AskKeys namespace table (key_alone key) at) (read_places (Some key) at) book.ShowRow) }
 {
     let batch = one_item(alloc, key.copy()?, NamedOp::Upsert(Records::new(alloc)))?;
     Ok(Course::LookFor {
@@ -88,7 +88,7 @@ fn read_row(
 }
 
 fn read_table(namespace: Name, table: Name, at: &Option<HybridTime>) -> Course
-    ensures exact { course_seen result ≡ book.LookFor (acts.AskTable namespace table at.now) (read_places None at.now) book.ShowTable }
+    ensures exact { (reading : ℕ) → course_seen reading result ≡ book.LookFor (acts.AskTable namespace table at.now) (read_places None at.now) book.ShowTable }
 {
     Course::LookFor {
         ask: Ask::Table {
@@ -103,7 +103,7 @@ fn read_table(namespace: Name, table: Name, at: &Option<HybridTime>) -> Course
 
 // Each of what a look finds is worked on, and the line counts that.
 fn count_each(ask: Ask, follow: Follow) -> Course
-    ensures exact { course_seen result ≡ book.LookFor (ask_of ask) (follow_of follow) book.ShowCount }
+    ensures exact { (reading : ℕ) → course_seen reading result ≡ book.LookFor (ask_of ask) (follow_of follow) book.ShowCount }
 {
     Course::LookFor {
         ask,
@@ -116,7 +116,7 @@ fn count_each(ask: Ask, follow: Follow) -> Course
 pub fn course_of(alloc: Global, reading: u64, command: Line) -> Result<Course, NoMemory>
     requires reading { reading < 2 ^ 50 }
     requires asked { (slots : ℕ) × ScriptAsked slots (script_command_of command) }
-    ensures exact { IfOk result (λ c. course_seen c ≡ book.course_of reading (script_command_of command)) }
+    ensures exact { IfOk result (λ c. course_seen reading c ≡ book.course_of reading (script_command_of command)) }
 {
     match command {
         Line::Tick { micros } => Ok(Course::SetReading { micros }),
@@ -271,11 +271,9 @@ pub fn course_of(alloc: Global, reading: u64, command: Line) -> Result<Course, N
         Line::Compact => Ok(count_each(Ask::Present, Follow::CompactEach)),
         Line::Cleanup => Ok(count_each(Ask::Removable, Follow::RemoveEach)),
         Line::Coordinate { count } => Ok(Course::WorkOff {
-            work: Work::Coordinate { count, reading },
+            work: Work::Coordinate { count },
         }),
-        Line::Settle => Ok(Course::WorkOff {
-            work: Work::Settle { reading },
-        }),
+        Line::Settle => Ok(Course::WorkOff { work: Work::Settle }),
         Line::RestartMaster => Ok(Course::Perform {
             act: Act::Restart { slot: 0 },
         }),

@@ -9,7 +9,7 @@ ghost use Rattle.model_runs.specs.Running.{columns_in, rows_or};
 ghost use Rattle.commands.specs.Seen.{command_of};
 ghost use Rattle.cluster_events.specs.SeenActs.{act_of};
 ghost use Rattle.cluster_events.specs.SeenReplies.{reply_of};
-ghost use Rattle.script_courses.specs.SeenCourses.{follow_of};
+ghost use Rattle.script_courses.specs.SeenCourses.{act_on, follow_of};
 
 use crate::course::Follow;
 use crate::placed::batch_by_id;
@@ -140,40 +140,39 @@ fn read_places(
     }
 }
 
-fn cutoff_of(alloc: Global, slots: &[u32]) -> Result<Vec<Act>, NoMemory>
-    ensures exact { IfOk result (λ made. map act_of made.items ≡ map acts.Cutoff slots.now) }
+// What is done on each tablet that was found.
+#[derive(Clone, Copy, Debug, PartialEq, Eq)]
+enum OnTablet {
+    Cutoff,
+    Compact,
+}
+
+impl OnTablet {
+    fn act(self, slot: u32) -> Act
+        ensures exact { act_of result ≡ act_on self slot }
+    {
+        match self {
+            OnTablet::Cutoff => Act::Cutoff { slot },
+            OnTablet::Compact => Act::Compact { slot },
+        }
+    }
+}
+
+fn on_slots(alloc: Global, on: OnTablet, slots: &[u32]) -> Result<Vec<Act>, NoMemory>
+    ensures exact { IfOk result (λ made. map act_of made.items ≡ map (act_on on) slots.now) }
 {
     let mut made = Vec::new(alloc);
     for slot in slots {
-        made.push(Act::Cutoff { slot: *slot })?;
+        made.push(on.act(*slot))?;
     }
     Ok(made)
 }
 
-fn compact_of(alloc: Global, slots: &[u32]) -> Result<Vec<Act>, NoMemory>
-    ensures exact { IfOk result (λ made. map act_of made.items ≡ map acts.Compact slots.now) }
-{
-    let mut made = Vec::new(alloc);
-    for slot in slots {
-        made.push(Act::Compact { slot: *slot })?;
-    }
-    Ok(made)
-}
-
-fn cutoff_each(alloc: Global, reply: &Reply) -> Result<Vec<Act>, NoMemory>
-    ensures exact { IfOk result (λ made. map act_of made.items ≡ book.at_each acts.Cutoff (found_by (reply_of reply.now))) }
+fn on_each(alloc: Global, on: OnTablet, reply: &Reply) -> Result<Vec<Act>, NoMemory>
+    ensures exact { IfOk result (λ made. map act_of made.items ≡ book.at_each (act_on on) (found_by (reply_of reply.now))) }
 {
     match reply {
-        Reply::Planned(slots) | Reply::Present(slots) => cutoff_of(alloc, slots.as_slice()),
-        _ => Ok(Vec::new(alloc)),
-    }
-}
-
-fn compact_each(alloc: Global, reply: &Reply) -> Result<Vec<Act>, NoMemory>
-    ensures exact { IfOk result (λ made. map act_of made.items ≡ book.at_each acts.Compact (found_by (reply_of reply.now))) }
-{
-    match reply {
-        Reply::Planned(slots) | Reply::Present(slots) => compact_of(alloc, slots.as_slice()),
+        Reply::Planned(slots) | Reply::Present(slots) => on_slots(alloc, on, slots.as_slice()),
         _ => Ok(Vec::new(alloc)),
     }
 }
@@ -210,8 +209,8 @@ pub fn acts_after(alloc: Global, follow: Follow, reply: &Reply) -> Result<Vec<Ac
         Follow::Write { batch } => write_into(alloc, batch, reply),
         Follow::ReadKey { key, at } => read_places(alloc, Some(key), at, reply),
         Follow::ReadTable { at } => read_places(alloc, None, at, reply),
-        Follow::CutoffEach => cutoff_each(alloc, reply),
-        Follow::CompactEach => compact_each(alloc, reply),
+        Follow::CutoffEach => on_each(alloc, OnTablet::Cutoff, reply),
+        Follow::CompactEach => on_each(alloc, OnTablet::Compact, reply),
         Follow::RemoveEach => remove_each(alloc, reply),
     }
 }

@@ -7,3 +7,4 @@ pub mod Looking
 pub mod Showing
 pub mod Ending
 pub mod Beginning
+pub mod Telling

@@ -37,7 +37,7 @@ is_served Settle = false
 is_served RestartMaster = true
 is_served (RestartTablet slot) = true
 is_served (ShowStats slot) = true
-is_served ShowHistory = false
+is_served ShowHistory = true
 
 abbrev pub IsServedCommand : ScriptCommand → Type 0
 IsServedCommand c = is_served c ≡ true

@@ -3,8 +3,9 @@ ghost use Rattle.row_values.specs.Elements.{AllOf};
 ghost use Rattle.model.specs.Drawn.{most_slots};
 ghost use Rattle.model.specs.Entries.{touches, ActAsked};
 ghost use Rattle.model.specs.History.{Legal};
-ghost use Rattle.model_runs.specs.Courses.{Course, LookFor, ScriptAsked};
+ghost use Rattle.model_runs.specs.Courses.{Course, LookFor, ShowEntries, ScriptAsked};
 ghost use Rattle.model_runs.specs.Running.{begun, reading_for, performed, performed_all, taken, newest_reply, reply_line, course_text};
+ghost use Rattle.model_runs.specs.HistoryTexts.{history_text};
 ghost use Rattle.commands.specs.Seen.{ask_of};
 ghost use Rattle.commands.specs.Scripts.{script_command_of};
 ghost use Rattle.cluster_events.specs.SeenActs.{act_of};
@@ -17,7 +18,7 @@ ghost use Rattle.script_runs.specs.Served.{IsServedCommand, IsServedCourse};
 ghost use Rattle.script_runs.specs.Shown.{IsGrown, last_of};
 
 use crate::lone::lone_slot;
-use crate::shown::{reply_in, tell_line, tell_look_line};
+use crate::shown::{reply_in, tell_entries, tell_line, tell_look_line};
 use crate::stop::Stop;
 use admin_words::Text;
 use cluster_core::{Answer, Cluster, History};
@@ -109,10 +110,10 @@ impl<V: VersionStore> ScriptRun<V> {
 
     /// Takes a course.
     fn take(&mut self, line: u64, course: Course, text: &mut Text) -> Result<(), Stop>
-        requires course { IsServedCourse self.old.slots self.old.reading (course_seen course) }
+        requires course { IsServedCourse self.old.slots self.old.reading (course_seen self.old.reading course) }
         ensures slots { self.new.slots ≡ self.old.slots }
-        ensures came { Came result (taken self.old.slots (course_seen course)) self.old self.new }
-        ensures wrote { Wrote result text.old text.new (course_text (course_seen course) line self.old.history self.new.history) }
+        ensures came { Came result (taken self.old.slots (course_seen self.old.reading course)) self.old self.new }
+        ensures wrote { Wrote result text.old text.new (course_text (course_seen self.old.reading course) line self.old.history self.new.history) }
     {
         match course {
             Course::SetReading { micros } => {
@@ -130,8 +131,18 @@ impl<V: VersionStore> ScriptRun<V> {
                 showing,
             } => self.look(line, ask, follow, showing, text),
             Course::WorkOff { work: _ } => unreachable!(),
-            Course::ShowEntries => unreachable!(),
+            Course::ShowEntries => self.show_entries(text),
         }
+    }
+
+    /// Tells every entry so far.
+    fn show_entries(&self, text: &mut Text) -> Result<(), Stop>
+        ensures came { Came result (taken self.now.slots ShowEntries) self.now self.now }
+        ensures wrote { Wrote result text.old text.new (history_text self.now.history) }
+    {
+        let entries = self.cluster.entries()?;
+        tell_entries(text, &entries)?;
+        Ok(())
     }
 
     /// Performs an act, and tells its reply.

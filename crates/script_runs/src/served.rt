@@ -38,13 +38,13 @@ pub fn is_served(command: &ScriptCommand) -> bool
         | ScriptCommand::ListClones
         | ScriptCommand::ListTablets { .. }
         | ScriptCommand::Cutoff
-        | ScriptCommand::Compact => true,
+        | ScriptCommand::Compact
+        | ScriptCommand::History => true,
         ScriptCommand::TakeSnapshot { .. }
         | ScriptCommand::RestoreSnapshotSchedule { .. }
         | ScriptCommand::CloneNamespace { .. }
         | ScriptCommand::Cleanup
         | ScriptCommand::Coordinate { .. }
-        | ScriptCommand::Settle
-        | ScriptCommand::History => false,
+        | ScriptCommand::Settle => false,
     }
 }

@@ -1,16 +1,18 @@
 //! The lines that commands write.
-ghost use Rattle.std.specs.Prelude.{◌≡◌, ◌++◌, List, ℕ, OnOk, OnErr};
+ghost use Rattle.std.specs.Prelude.{◌≡◌, ◌++◌, List, ℕ, flat_map, OnOk, OnErr};
 ghost use Rattle.row_values.specs.Schema.{Column};
 ghost use Rattle.model_runs.specs.Running.{reply_line, read_text, events_text};
 ghost use Rattle.model_runs.specs.Texts.{told_text, row_text, rows_text};
+ghost use Rattle.model_runs.specs.HistoryTexts.{entry_line};
+ghost use Rattle.machine_laws.specs.Past.{book_entry};
 ghost use Rattle.cluster_events.specs.SeenReplies.{reply_of};
 ghost use Rattle.script_courses.specs.SeenCourses.{showing_of};
 ghost use Rattle.admin_words.specs.Growing.{Begins};
 ghost use Rattle.script_runs.specs.Shown.{shown_by};
 
-use admin_text::tell_reply;
+use admin_text::{tell_entry, tell_reply};
 use admin_words::{ByName, Text};
-use cluster_core::Answer;
+use cluster_core::{Answer, Entries, Logged};
 use cluster_events::Reply;
 use hybrid_time::HybridTime;
 use row_values::{KeyedRow, NoMemory};
@@ -147,4 +149,32 @@ pub(crate) fn tell_look_line(
     text.add(b": ")?;
     tell_shown(text, showing, columns, answer, count)?;
     text.add(b"\n")
+}
+
+/// The line of an entry, as its log has it.
+fn tell_logged(text: &mut Text, entry: &Logged) -> Result<(), NoMemory>
+    ensures added { OnOk result (text.new ≡ text.old ++ entry_line (book_entry entry.now)) }
+    ensures kept { OnErr result (Begins text.old text.new) }
+{
+    let answer = &entry.reply;
+    tell_entry(
+        text,
+        entry.number,
+        entry.event.event(),
+        stamp_in(answer),
+        reply_in(answer),
+    )
+}
+
+/// The lines of entries, in their order.
+pub(crate) fn tell_entries(text: &mut Text, entries: &Entries<'_>) -> Result<(), NoMemory>
+    ensures added { OnOk result (text.new ≡ text.old ++ flat_map entry_line entries.now) }
+    ensures kept { OnErr result (Begins text.old text.new) }
+{
+    for at in 0..entries.len() {
+        if let Some(entry) = entries.get(at) {
+            tell_logged(text, entry)?;
+        }
+    }
+    Ok(())
 }

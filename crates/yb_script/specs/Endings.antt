@@ -1,138 +1,142 @@
 -- What each end of a run means.
-use Rattle.std.specs.Prelude.{ℕ, ◌≡◌, ◌⊎◌, ◌+◌, ◌<◌, ◌≤◌, ⊤, List, [], ◌∷◌, ◌++◌, length, map, reverse, take, codes, Option, Some, None, Result, Ok, Err, String, string_bytes}
+use Rattle.std.specs.Prelude.{◌≡◌, ℕ, ◌+◌, ◌<◌, ◌≤◌, ⊤, true, false, List, [], ◌∷◌, ◌++◌, length, take, codes, Option, Some, None, Ok, Err}
 use Rattle.std.specs.Fmt.{decimal}
 use Rattle.std.specs.Io.KnownBytes.{Appends}
-use Rattle.std.specs.declared.alloc.Global.{Global}
 use Rattle.script_io.specs.Causes.{Rose}
 use Rattle.script_io.specs.Streams.{AppendsPart}
+use Rattle.script_words.specs.declared.cause.Cause.{Cause}
+use Rattle.script_words.specs.declared.cause.Cause.TheVariants.{LineTooLong, BadByte, OpenQuote, UnknownCommand, WrongWords, BadName, BadKey, BadValue, BadNumber, BadIdentifier, BadTime, NoSuchSlot, RepeatedColumn}
 use Rattle.model.specs.Entries.{Entry}
-use Rattle.yb_script.specs.declared.script.ScriptCommand.{ScriptCommand}
-use Rattle.yb_script.specs.declared.run.Stop.{Stop}
-use Rattle.yb_script.specs.declared.run.Stop.TheVariants.{WriteFault, NoMemory}
-use Rattle.model.specs.History.{Legal}
-use Rattle.model.specs.Replies.{Right}
-use Rattle.model_runs.specs.Running.{run_of}
-use Rattle.yb_script.specs.Seen.{slot_count, entry_of, numbered_of}
-use Rattle.yb_script.specs.Runs.{State, done, looked_for}
-use Rattle.yb_script.specs.Script.{read_script}
-use Rattle.yb_script.specs.Texts.{history_of, script_text, text_of}
-
--- the words are the one form
-abbrev pub IsForm : List (String Global) → Type 0
-IsForm (word ∷ []) = string_bytes word ≡ codes "run"
-IsForm _ = ⊥
+use Rattle.model.specs.Scripts.{Numbered}
+use Rattle.model_runs.specs.Running.{Run, run_of}
+use Rattle.script_asked.specs.Numbered.{numbered_of}
+use Rattle.script_runs.specs.Runs.{RunState, IsPart, Ran, RanFull, RanInPart, text_between}
+use Rattle.yb_script.specs.Programs.{Program}
+use Rattle.yb_script.specs.declared.performing.Halt.{Halt}
+use Rattle.yb_script.specs.declared.performing.Halt.TheVariants.{WriteFault, Full, NoMemory}
 
 -- this holds of what is left, where it is told
 abbrev pub OfTold : Option (List ℕ) → (List ℕ → Type 0) → Type 0
 OfTold None P = ⊤
 OfTold (Some bytes) P = P bytes
 
-abbrev pub IsGiven : Result (List ScriptCommand) ℕ → Type 0
-IsGiven (Ok commands) = ⊤
-IsGiven (Err line) = ⊥
+-- The line of status 3
 
--- each line of the bytes is a form at its place
-abbrev pub IsScriptText : List ℕ → Type 0
-IsScriptText bytes = IsGiven (read_script bytes)
+abbrev pub cause_text : Cause → List ℕ
+cause_text LineTooLong = codes "line too long"
+cause_text BadByte = codes "bad byte"
+cause_text OpenQuote = codes "open quote"
+cause_text UnknownCommand = codes "unknown command"
+cause_text WrongWords = codes "wrong words"
+cause_text BadName = codes "bad name"
+cause_text BadKey = codes "bad key"
+cause_text BadValue = codes "bad value"
+cause_text BadNumber = codes "bad number"
+cause_text BadIdentifier = codes "bad identifier"
+cause_text BadTime = codes "bad time"
+cause_text NoSuchSlot = codes "no such slot"
+cause_text RepeatedColumn = codes "repeated column"
 
--- the line of status 3
-abbrev pub fault_line : ℕ → List ℕ
-fault_line line = codes "line " ++ decimal line ++ codes ": unknown command" ++ 10 ∷ []
+-- `line <n>: <cause>`
+abbrev pub fault_line : ℕ → Cause → List ℕ
+fault_line line cause = codes "line " ++ decimal line ++ codes ": " ++ cause_text cause ++ 10 ∷ []
 
--- The entries and the text of the first commands of a script
+-- Ends of a run of these commands, whose history has the newest entry first. `done` of them were done, and what was
+-- written stands behind the old text
 
--- as the book's run has them
-abbrev pub entries_of_run : List ScriptCommand → ℕ → List Entry
-entries_of_run commands count = reverse (run_of slot_count (take count (numbered_of commands))).history
-
-abbrev pub text_of_run : List ScriptCommand → ℕ → List ℕ
-text_of_run commands count = (run_of slot_count (take count (numbered_of commands))).text
-
--- as the program makes them
-abbrev pub made_by : List ScriptCommand → ℕ → List Entry
-made_by commands count = map entry_of (history_of (take count commands))
-
-abbrev pub told_by : List ScriptCommand → ℕ → List ℕ
-told_by commands count = script_text (take count commands)
-
--- Ends of a run whose script has so many commands, by what the first k of them make: the entries `made k` and the text `told k`
-
--- the entries are those of the first ones that were done, and of part of the next
-pub record IsBetween {E : Type 0} (made : ℕ → List E) (history : List E) (done : ℕ) : Type 0 where
-  pub more : List E
-  pub rest : List E
-  pub from : history ≡ made done ++ more
-  pub to : made (done + 1) ≡ history ++ rest
+-- the book's run of the first commands
+abbrev pub run_first : ℕ → List Numbered → ℕ → Run
+run_first slots commands count = run_of slots (take count commands)
 
 -- a whole run: every command was done, and the text was written whole
-pub record IsWhole {E : Type 0} (count : ℕ) (made : ℕ → List E) (told : ℕ → List ℕ) (history : List E) (done : ℕ) (old new : Option (List ℕ)) : Type 0 where
-  pub entries : history ≡ made count
-  pub all : done ≡ count
-  pub text : Appends old new (told count)
+pub record IsWhole (slots : ℕ) (commands : List Numbered) (history : List Entry) (done : ℕ)
+    (old new : Option (List ℕ)) : Type 0 where
+  pub goes_on : (run_of slots commands).stopped ≡ false
+  pub all : done ≡ length commands
+  pub counted : (run_of slots commands).done ≡ done
+  pub entries : history ≡ (run_of slots commands).history
+  pub text : Appends old new (run_of slots commands).text
+
+-- a run in which an event can't be stamped, or finds its log full: the lines of the commands before it are written
+pub record IsFull (slots : ℕ) (commands : List Numbered) (history : List Entry) (done : ℕ)
+    (old new : Option (List ℕ)) : Type 0 where
+  pub stops : (run_of slots commands).stopped ≡ true
+  pub next : done < length commands
+  pub counted : (run_of slots commands).done ≡ done
+  pub entries : history ≡ (run_of slots commands).history
+  pub text : Appends old new (run_of slots commands).text
 
 -- a run that a write stopped: the next command was done, and its line was written in part
-pub record IsCut {E : Type 0} (count : ℕ) (made : ℕ → List E) (told : ℕ → List ℕ) (history : List E) (done : ℕ) (old new : Option (List ℕ)) : Type 0 where
-  pub next : done < count
-  pub entries : history ≡ made (done + 1)
+pub record IsCut (slots : ℕ) (commands : List Numbered) (history : List Entry) (done : ℕ)
+    (old new : Option (List ℕ)) : Type 0 where
+  pub next : done < length commands
+  pub goes_on : (run_first slots commands (done + 1)).stopped ≡ false
+  pub entries : history ≡ (run_first slots commands (done + 1)).history
   pub line : List ℕ
-  pub behind : told (done + 1) ≡ told done ++ line
+  pub behind : (run_first slots commands (done + 1)).text ≡ (run_first slots commands done).text ++ line
   pub bytes : ℕ
   pub part : bytes ≤ length line
-  pub text : Appends old new (told done ++ take bytes line)
+  pub text : Appends old new ((run_first slots commands done).text ++ take bytes line)
 
--- a run that want of memory stopped: the lines of the commands that were done are written, and no more
-pub record IsBroken {E : Type 0} (count : ℕ) (made : ℕ → List E) (told : ℕ → List ℕ) (history : List E) (done : ℕ) (old new : Option (List ℕ)) : Type 0 where
-  pub within : done ≤ count
-  pub entries : IsBetween made history done
-  pub text : Appends old new (told done)
+-- a run that want of memory stopped: the lines of the commands that were done are written, and no more. The entries are
+-- theirs, and some of the next one's
+pub record IsBroken (slots : ℕ) (commands : List Numbered) (history : List Entry) (done : ℕ)
+    (old new : Option (List ℕ)) : Type 0 where
+  pub within : done ≤ length commands
+  pub goes_on : (run_first slots commands done).stopped ≡ false
+  pub entries : IsPart (run_first slots commands done).history history (run_first slots commands (done + 1)).history
+  pub text : Appends old new (run_first slots commands done).text
 
 -- nothing was done, and this was written
-abbrev pub IsUndone : {E : Type 0} → List ℕ → List E → ℕ → Option (List ℕ) → Option (List ℕ) → Type 0
+abbrev pub IsUndone : List ℕ → List Entry → ℕ → Option (List ℕ) → Option (List ℕ) → Type 0
 IsUndone text history done old new = (history ≡ []) × (done ≡ 0) × Appends old new text
 
 -- nothing was done, and the front of this was written
-abbrev pub IsUndoneInPart : {E : Type 0} → List ℕ → List E → ℕ → Option (List ℕ) → Option (List ℕ) → Type 0
+abbrev pub IsUndoneInPart : List ℕ → List Entry → ℕ → Option (List ℕ) → Option (List ℕ) → Type 0
 IsUndoneInPart text history done old new = (history ≡ []) × (done ≡ 0) × AppendsPart old new text
 
--- what each status of a run means, by what the bytes are as a script
+-- What each status of a run means, by what the text says to the program
 
-abbrev pub IsRun : Result (List ScriptCommand) ℕ → List Entry → ℕ → Option (List ℕ) → Option (List ℕ) → Type 0
-IsRun (Ok commands) history done old new = IsWhole (length commands) (entries_of_run commands) (text_of_run commands) history done old new
-IsRun (Err line) history done old new = ⊥
+abbrev pub IsRun : ℕ → Program → List Entry → ℕ → Option (List ℕ) → Option (List ℕ) → Type 0
+IsRun slots (Ok lines) history done old new = IsWhole slots (numbered_of lines) history done old new
+IsRun slots (Err refused) history done old new = ⊥
 
--- a script with a line that is no form: it was named, and nothing was done
-abbrev pub IsFault : Result (List ScriptCommand) ℕ → List Entry → ℕ → Option (List ℕ) → Option (List ℕ) → Type 0
-IsFault (Ok commands) history done old new = ⊥
-IsFault (Err line) history done old new = IsUndone (fault_line line) history done old new
+-- a line was refused: it was named with its cause, and nothing was done
+abbrev pub IsFault : Program → List Entry → ℕ → Option (List ℕ) → Option (List ℕ) → Type 0
+IsFault (Ok lines) history done old new = ⊥
+IsFault (Err (line, cause)) history done old new = IsUndone (fault_line line cause) history done old new
 
-abbrev pub IsWriteFault : Result (List ScriptCommand) ℕ → List Entry → ℕ → Option (List ℕ) → Option (List ℕ) → Type 0
-IsWriteFault (Ok commands) history done old new = IsCut (length commands) (entries_of_run commands) (text_of_run commands) history done old new
-IsWriteFault (Err line) history done old new = IsUndoneInPart (fault_line line) history done old new
+abbrev pub IsWriteFault : ℕ → Program → List Entry → ℕ → Option (List ℕ) → Option (List ℕ) → Type 0
+IsWriteFault slots (Ok lines) history done old new = IsCut slots (numbered_of lines) history done old new
+IsWriteFault slots (Err (line, cause)) history done old new = IsUndoneInPart (fault_line line cause) history done old new
 
-abbrev pub IsMemoryFault : Result (List ScriptCommand) ℕ → List Entry → ℕ → Option (List ℕ) → Option (List ℕ) → Type 0
-IsMemoryFault (Ok commands) history done old new = IsBroken (length commands) (entries_of_run commands) (text_of_run commands) history done old new
-IsMemoryFault (Err line) history done old new = IsUndone [] history done old new
+abbrev pub IsMemoryFault : ℕ → Program → List Entry → ℕ → Option (List ℕ) → Option (List ℕ) → Type 0
+IsMemoryFault slots (Ok lines) history done old new = IsBroken slots (numbered_of lines) history done old new
+IsMemoryFault slots (Err refused) history done old new = IsUndone [] history done old new
 
--- entries, in order of number, that are the book's steps one after the other from the empty cluster, and whose replies are right
-pub record IsRight (history : List Entry) : Type 0 where
-  pub legal : Legal slot_count (reverse history)
-  pub right : Right slot_count (reverse history)
+abbrev pub IsFullRun : ℕ → Program → List Entry → ℕ → Option (List ℕ) → Option (List ℕ) → Type 0
+IsFullRun slots (Ok lines) history done old new = IsFull slots (numbered_of lines) history done old new
+IsFullRun slots (Err refused) history done old new = ⊥
 
--- Why a command stops
+-- no line is refused, and the book's run of the commands stops nowhere
+abbrev pub GoesThrough : ℕ → Program → Type 0
+GoesThrough slots (Ok lines) = (run_of slots (numbered_of lines)).stopped ≡ false
+GoesThrough slots (Err refused) = ⊥
 
-abbrev pub StoppedBy : ℕ → ℕ → Stop → Type 0
-StoppedBy before now WriteFault = Rose before now
-StoppedBy before now NoMemory = ⊤
+-- Why a command halts
 
-abbrev pub status_of : Stop → ℕ
+abbrev pub HaltedBy : ℕ → ℕ → Halt → Type 0
+HaltedBy before now WriteFault = Rose before now
+HaltedBy before now Full = ⊤
+HaltedBy before now NoMemory = ⊤
+
+abbrev pub status_of : Halt → ℕ
 status_of WriteFault = 5
+status_of Full = 8
 status_of NoMemory = 6
 
--- a command was not begun, has made its look, or was done
-abbrev pub IsPartly : State → ScriptCommand → State → Type 0
-IsPartly old c new = (new ≡ old) ⊎ ((new ≡ looked_for old c) ⊎ (new ≡ done old c))
-
--- what a command that stopped leaves: a write that failed comes behind its events; without memory it wrote nothing
-abbrev pub IsStopped : ℕ → State → ScriptCommand → State → Option (List ℕ) → Option (List ℕ) → Stop → Type 0
-IsStopped line old c new before after WriteFault = (new ≡ done old c) × AppendsPart before after (text_of line (done old c) c)
-IsStopped line old c new before after NoMemory = IsPartly old c new × (after ≡ before)
+-- what a command that halts leaves: a write that failed comes behind its events; else it wrote nothing
+abbrev pub IsHalted : Numbered → RunState → RunState → Option (List ℕ) → Option (List ℕ) → Halt → Type 0
+IsHalted c old new before after WriteFault = Ran c old new × AppendsPart before after (text_between c old new)
+IsHalted c old new before after Full = RanFull c old new × (after ≡ before)
+IsHalted c old new before after NoMemory = RanInPart c old new × (after ≡ before)

@@ -1,10 +1,4 @@
-pub mod Words
-pub mod Script
-pub mod Runs
-pub mod Sound
-pub mod Texts
-pub mod Histories
-pub mod Ordered
-pub mod Seen
-pub mod Shown
+pub mod Called
+pub mod Programs
 pub mod Endings
+pub mod Lawful

@@ -1,15 +1,14 @@
 //! Runs a script of commands from standard input, and ends with the status of the run.
 #![tactic(auto)]
 
-mod event;
-mod history;
+mod called;
+mod laws;
+mod performing;
+mod program;
+mod refusal;
 mod run;
-mod script;
-mod service;
 #[cfg(test)]
 mod tests;
-mod text;
-mod words;
 
 use script_io::{HostSink, HostSource};
 use std::process::ExitCode;
@@ -35,12 +34,15 @@ fn explain(rt: &HostRuntime, status: u8, done: u64) {
     let _ = match status {
         0 => Ok(()),
         2 => eprintln!(rt; "yb_script: the words are no form; use: yb_script run < SCRIPT"),
-        3 => eprintln!(rt; "yb_script: a line of the script is no command; nothing was done"),
+        3 => eprintln!(rt; "yb_script: a line of the script is refused; nothing was done"),
         4 => eprintln!(rt; "yb_script: standard input can't be read; nothing was done"),
         5 => eprintln!(rt;
             "yb_script: standard output can't be written; {done} commands were done and answered"
         ),
         6 => eprintln!(rt; "yb_script: there is no memory; {done} commands were done and answered"),
-        _ => eprintln!(rt; "yb_script: the script has more than 1048576 bytes; nothing was done"),
+        7 => eprintln!(rt; "yb_script: the script has more than 1048576 bytes; nothing was done"),
+        _ => eprintln!(rt;
+            "yb_script: an event has no stamp or no room in its log; {done} commands were done and answered"
+        ),
     };
 }

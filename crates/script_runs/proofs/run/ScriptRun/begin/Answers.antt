@@ -1,4 +1,4 @@
-use Rattle.std.proofs.Common.{◌≡◌, refl, ◌∙◌}
+use Rattle.std.proofs.Common.{refl}
 use Rattle.script_runs.proofs.Beginning.{begun_is}
 use Rattle.script_runs.proofs.run.ScriptRun.begin.Goals as goal
 

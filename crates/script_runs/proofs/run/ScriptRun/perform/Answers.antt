@@ -1,4 +1,4 @@
-use Rattle.std.proofs.Common.{ap, ◌∙◌}
+use Rattle.std.proofs.Common.{◌≡◌, subst}
 use Rattle.model_runs.specs.Courses.{course_of}
 use Rattle.commands.specs.Scripts.{script_command_of}
 use Rattle.script_courses.specs.SeenCourses.{course_seen}
@@ -11,20 +11,20 @@ returns-in_err-course-clause-part g c = unbegun c.from_residual.result (numbered
 
 pub returns-clause-ran : goal.returns-clause-ran
 returns-clause-ran g c =
-    came_ran c.take.result (numbered c.args.line (script_command_of c.args.command)) c.args.self.now c.take.new.self (course_seen c.in_ok-course.course)
-    (c.in_ok-course.ensures.exact ∙ ap (λ (s : RunState). course_of s.reading (script_command_of c.args.command)) c.self.view_is) c.take.ensures.came
+    came_ran c.take.result (numbered c.args.line (script_command_of c.args.command)) c.args.self.now c.take.new.self (course_seen c.args.self.now.reading c.in_ok-course.course)
+    (subst (λ (s : RunState). course_seen s.reading c.in_ok-course.course ≡ course_of s.reading (script_command_of c.args.command)) c.self.view_is c.in_ok-course.ensures.exact) c.take.ensures.came
 
 pub returns-clause-text : goal.returns-clause-text
 returns-clause-text g c =
-    wrote_text c.take.result (numbered c.args.line (script_command_of c.args.command)) c.args.self.now c.take.new.self (course_seen c.in_ok-course.course) _ _
-    (c.in_ok-course.ensures.exact ∙ ap (λ (s : RunState). course_of s.reading (script_command_of c.args.command)) c.self.view_is) c.take.ensures.wrote
+    wrote_text c.take.result (numbered c.args.line (script_command_of c.args.command)) c.args.self.now c.take.new.self (course_seen c.args.self.now.reading c.in_ok-course.course) _ _
+    (subst (λ (s : RunState). course_seen s.reading c.in_ok-course.course ≡ course_of s.reading (script_command_of c.args.command)) c.self.view_is c.in_ok-course.ensures.exact) c.take.ensures.wrote
 
 pub returns-clause-full : goal.returns-clause-full
 returns-clause-full g c =
-    came_full c.take.result (numbered c.args.line (script_command_of c.args.command)) c.args.self.now c.take.new.self (course_seen c.in_ok-course.course)
-    (c.in_ok-course.ensures.exact ∙ ap (λ (s : RunState). course_of s.reading (script_command_of c.args.command)) c.self.view_is) c.take.ensures.came
+    came_full c.take.result (numbered c.args.line (script_command_of c.args.command)) c.args.self.now c.take.new.self (course_seen c.args.self.now.reading c.in_ok-course.course)
+    (subst (λ (s : RunState). course_seen s.reading c.in_ok-course.course ≡ course_of s.reading (script_command_of c.args.command)) c.self.view_is c.in_ok-course.ensures.exact) c.take.ensures.came
 
 pub returns-clause-part : goal.returns-clause-part
 returns-clause-part g c =
-    came_part c.take.result (numbered c.args.line (script_command_of c.args.command)) c.args.self.now c.take.new.self (course_seen c.in_ok-course.course)
-    (c.in_ok-course.ensures.exact ∙ ap (λ (s : RunState). course_of s.reading (script_command_of c.args.command)) c.self.view_is) c.take.ensures.came
+    came_part c.take.result (numbered c.args.line (script_command_of c.args.command)) c.args.self.now c.take.new.self (course_seen c.args.self.now.reading c.in_ok-course.course)
+    (subst (λ (s : RunState). course_seen s.reading c.in_ok-course.course ≡ course_of s.reading (script_command_of c.args.command)) c.self.view_is c.in_ok-course.ensures.exact) c.take.ensures.came

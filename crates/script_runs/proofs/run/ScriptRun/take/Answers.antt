@@ -8,5 +8,5 @@ use Rattle.script_runs.proofs.run.ScriptRun.take.Goals as goal
 
 pub tell-requires-clause-asked : goal.tell-requires-clause-asked
 tell-requires-clause-asked g c =
-    let course = subst (λ k. IsServedCourse c.args.self.now.slots c.args.self.now.reading (course_seen k)) c.in-Perform.is c.requires.course in
+    let course = subst (λ k. IsServedCourse c.args.self.now.slots c.args.self.now.reading (course_seen c.args.self.now.reading k)) c.in-Perform.is c.requires.course in
     asked_is c.args.self.now.slots c.args.self.now.reading (Perform (act_of c.in-Perform.act)) course course.less

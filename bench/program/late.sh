@@ -1,0 +1,10 @@
+#!/bin/sh
+# Writes a script: a table of 64 tablets whose name has 10,000 ended records, since columns came and went, 500,000
+# entries, and then this many puts (none by default) over 1,000 keys.
+puts=${1:-0}
+awk -v puts="$puts" 'BEGIN {
+    print "tick 1000000\ncreate_namespace a\ncreate_table a t tablets 64 v:int";
+    for (i = 0; i < 5000; i++) print "add_column a t w:int\ndrop_column a t w";
+    for (i = 0; i < 7385; i++) print "cutoff";
+    for (i = 0; i < puts; i++) print "put a t k" (i * 7 % 1000) " v=" i;
+}'

@@ -1,7 +1,0 @@
-use Rattle.std.proofs.Common.{◌≡◌, ◌++◌, map, drop}
-use Rattle.model.specs.Acts.{Cutoff}
-use Rattle.cluster_events.specs.SeenActs.{act_of}
-use Rattle.script_courses.proofs.follows.cutoff_of.Given as goal
-
-abbrev pub invariant-loop-slot : goal.invariant-loop-slot
-invariant-loop-slot l = map act_of l.made.items ++ map Cutoff (drop l.slot-index l.slots) ≡ map Cutoff l.slots

@@ -2,7 +2,7 @@
 use Rattle.std.proofs.Common.{◌≡◌, ℕ, zero, suc, ◌+◌, ◌<◌, List, [], ◌∷◌, ◌++◌, map, length, drop, get_or, sym, ap, arith, ◌∙◌, append_assoc}
 use Rattle.std.proofs.lemmas.List.{map-append}
 use Rattle.model.specs.Tablets.{Tablet, Told}
-use Rattle.master_acts.specs.declared.changes.PartChange.{PartChange}
+use Rattle.master_part.specs.declared.change.PartChange.{PartChange}
 use Rattle.tablet_acts.specs.Tellings.{Suits, SlotTelling, told_of}
 use Rattle.cluster_core.specs.Plans.{AllSuit}
 

@@ -3,7 +3,7 @@ use Rattle.std.proofs.Common.{◌≡◌, List, false, Option, Some, None, option
 use Rattle.row_values.specs.Ids.{Id}
 use Rattle.model.specs.Tablets.{Mark, kind_of, is_done}
 use Rattle.model.specs.Records.{Listed}
-use Rattle.master_acts.specs.Decisions.{is_marked}
+use Rattle.master_part.specs.Decisions.{is_marked}
 use Rattle.cluster_core.proofs.Laying.{some_is}
 
 abbrev mark_for : Id → Listed → Mark

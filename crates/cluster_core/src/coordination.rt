@@ -7,7 +7,7 @@ ghost use Rattle.step_table.specs.Helds.{slots_of, parts_of};
 ghost use Rattle.model.specs.Acts.{Send, Ack, Advance};
 ghost use Rattle.model.specs.Coordination.{pending};
 ghost use Rattle.machine_laws.specs.Laid.{AreKinds};
-ghost use Rattle.master_acts.specs.Decisions.{is_marked};
+ghost use Rattle.master_part.specs.Decisions.{is_marked};
 ghost use Rattle.cluster_core.specs.Held.{laid};
 ghost use Rattle.cluster_core.specs.Plans.{MayPlan, IsPlan};
 

@@ -6,8 +6,8 @@ use Rattle.row_values.specs.Ranges.{share_from}
 use Rattle.model.specs.Tablets.{Tablet, Make}
 use Rattle.model.specs.Changed.{shares, next_tablet}
 use Rattle.model.specs.Changes.{tell_made}
-use Rattle.master_acts.specs.Decisions.{told_by}
-use Rattle.master_acts.specs.declared.changes.PartChange.{PartChange}
+use Rattle.master_part.specs.Decisions.{told_by}
+use Rattle.master_part.specs.declared.change.PartChange.{PartChange}
 
 -- one slot's part more
 pub made_next : (parts : ℕ → Tablet) (made : List PartChange) (c : PartChange) (slot : ℕ) (slots : List ℕ) (place count n drawn : ℕ) (table : Id)

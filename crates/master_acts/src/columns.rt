@@ -6,16 +6,15 @@ ghost use Rattle.table_schema.specs.Seen.{column_kind_of};
 ghost use Rattle.model.specs.Tablets.{Tablet};
 ghost use Rattle.model.specs.Changes as book;
 ghost use Rattle.master_part.specs.Acts.{IsLawful, goes_on};
-ghost use Rattle.master_acts.specs.Decisions.{outcome_by, MayDo};
+ghost use Rattle.master_part.specs.Decisions.{outcome_by, MayDo};
 
-use crate::changes::PartKind;
-use crate::decide::{Decision, made_none, told_all};
+use crate::decide::{made_none, told_all};
 use crate::fields::{name_of, namespace_of, schema_of, version_of};
 use crate::judges::{judge_add_column, judge_drop_column, judge_rename_table};
 use catalog_core::TableRecord;
 use cluster_events::Reply;
 use hybrid_time::HybridTime;
-use master_part::{MasterAct, MasterPart, table_id};
+use master_part::{Decision, MasterAct, MasterPart, PartKind, table_id};
 use row_values::{Copied, Name, NoMemory, Records, Slots};
 use table_schema::{Kind, Schema};
 

@@ -8,12 +8,10 @@ ghost use Rattle.std.specs.Option.{option_map};
 ghost use Rattle.model.specs.Tablets.{Tablet, kind_of};
 ghost use Rattle.model.specs.Coordination.{pending, send, ack, command_for};
 ghost use Rattle.model.specs.Moves.{advance};
-ghost use Rattle.master_acts.specs.Decisions.{outcome_by, MayDo, is_marked};
+ghost use Rattle.master_part.specs.Decisions.{outcome_by, MayDo, is_marked};
 
-use crate::changes::{PartChange, PartKind};
-use crate::decide::Decision;
 use cluster_events::{Refusal, Reply, State};
-use master_part::{MasterAct, MasterPart};
+use master_part::{Decision, MasterAct, MasterPart, PartChange, PartKind};
 use row_values::{NoMemory, Records};
 use snapshot_coord::SnapshotRecord;
 use tablet_inbox::{Listed, Mark, TabletCommand, first_unacked};

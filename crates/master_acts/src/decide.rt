@@ -10,9 +10,8 @@ ghost use Rattle.model.specs.Changes.{tell, tell_made, tell_children, splitting}
 ghost use Rattle.model.specs.Changed.{next_tablet, shares, children};
 ghost use Rattle.master_part.specs.Acts.{IsLawful};
 ghost use Rattle.master_acts.specs.Founds.{family_seen};
-ghost use Rattle.master_acts.specs.Decisions.{act_by, told_by, outcome_by, MayDo};
+ghost use Rattle.master_part.specs.Decisions.{act_by, told_by, outcome_by, MayDo};
 
-use crate::changes::{PartChange, PartKind};
 use crate::fields::{schema_of, version_of};
 use crate::judges::{
     Family, judge_create_namespace, judge_create_table, judge_drop_namespace, judge_drop_table,
@@ -22,25 +21,12 @@ use crate::scheduling::{judge_create_schedule, judge_delete_schedule, judge_edit
 use catalog_tablets::Interval;
 use cluster_events::Reply;
 use hybrid_time::HybridTime;
-use master_part::{MasterAct, MasterPart, schedule_id, table_id};
+use master_part::{Decision, MasterAct, MasterPart, PartChange, PartKind, schedule_id, table_id};
 use partition_codes::{Range, share};
 use row_values::{Copied, Name, NoMemory, Records, Slots};
 use std::alloc::Global;
 use table_schema::{NewColumn, Schema};
 use yb_ident::{Ident, Kind};
-
-/// What a command comes to.
-#[derive(Drop)]
-pub enum Decision {
-    /// It changes nothing.
-    Answers(Reply),
-    /// It is done: what the master is told, what the touched tablets' parts get, and the reply.
-    Accepts {
-        act: MasterAct,
-        changes: Records<PartChange>,
-        reply: Reply,
-    },
-}
 
 /// A new namespace.
 #[tactic(auto, using(crate::proofs::Allowed::namespace_fits, crate::proofs::Allowed::few_namespaces), unfolding(model::specs::Changes::create_namespace))]

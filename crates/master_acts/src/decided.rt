@@ -7,12 +7,12 @@ ghost use Rattle.model.specs.Looks.{plan_of};
 ghost use Rattle.model.specs.Changes.{change, planned};
 ghost use Rattle.commands.specs.Seen.{command_of};
 ghost use Rattle.master_part.specs.Acts.{IsLawful};
-ghost use Rattle.master_acts.specs.Decisions.{outcome_by, MayDo};
+ghost use Rattle.master_part.specs.Decisions.{outcome_by, MayDo};
 ghost use Rattle.master_acts.specs.Decided.{IsDecided};
 
 use crate::columns::{decide_add_column, decide_drop_column, decide_rename_table};
 use crate::decide::{
-    Decision, decide_create_namespace, decide_create_schedule, decide_create_table,
+    decide_create_namespace, decide_create_schedule, decide_create_table,
     decide_delete_schedule, decide_drop_namespace, decide_drop_table, decide_edit_schedule,
     decide_split,
 };
@@ -22,7 +22,7 @@ use crate::plans::plan_of;
 use cluster_events::{Refusal, Reply};
 use commands::Command;
 use hybrid_time::HybridTime;
-use master_part::MasterPart;
+use master_part::{Decision, MasterPart};
 use row_values::{NoMemory, Slots};
 
 /// What a command comes to whose plan was these slots.

@@ -44,20 +44,6 @@ pub fn low_of(interval: &Interval) -> u32
     interval.range.low
 }
 
-/// The number of a tablet.
-pub fn number_of(interval: &Interval) -> u64
-    ensures exact { result ≡ interval.now.tablet.number }
-{
-    interval.tablet.number
-}
-
-/// The number of a tablet's table.
-pub fn table_number(interval: &Interval) -> u64
-    ensures exact { result ≡ interval.now.table.number }
-{
-    interval.table.number
-}
-
 pub fn slot_of(interval: &Interval) -> u32
     ensures exact { result ≡ interval.now.slot }
 {

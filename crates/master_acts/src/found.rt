@@ -1,7 +1,7 @@
 //! What commands and looks name: a namespace, or a table. None of these calls takes memory.
 ghost use Rattle.std.specs.Prelude.{◌≡◌};
 ghost use Rattle.model.specs.Looks as book;
-ghost use Rattle.master_acts.specs.Seen.{answer, answer_at};
+ghost use Rattle.master_part.specs.Answers.{answer, answer_at};
 
 use catalog_core::TableRecord;
 use cluster_events::Refusal;

@@ -5,7 +5,7 @@ ghost use Rattle.model.specs.Changes as book;
 ghost use Rattle.model.specs.Acts.{SlotsFull};
 ghost use Rattle.model.specs.Looks.{free_slots, found_family};
 ghost use Rattle.cluster_events.specs.SeenReplies.{refusal_of};
-ghost use Rattle.master_acts.specs.Seen.{answer, answer_at, answer_by};
+ghost use Rattle.master_part.specs.Answers.{answer, answer_at, answer_by};
 ghost use Rattle.master_acts.specs.Founds.{column_seen, family_seen};
 
 use crate::fields::{count_columns, low_of, namespace_of, schema_of};

@@ -5,7 +5,6 @@
 #![tactic(auto)]
 
 mod batches;
-mod changes;
 mod columns;
 mod coordinating;
 mod cutoffs;
@@ -15,22 +14,18 @@ mod fields;
 mod found;
 mod judges;
 mod lines;
-mod listed;
 mod lists;
 mod looks;
 mod operations;
-mod order;
 mod places;
 mod plans;
 mod scheduling;
-mod within;
 
-pub use changes::{PartChange, PartKind};
 pub use columns::{decide_add_column, decide_drop_column, decide_rename_table};
 pub use coordinating::{decide_ack, decide_advance_snapshot, decide_send, pending_mark};
 pub use cutoffs::allowed_cutoff;
 pub use decide::{
-    Decision, decide_create_namespace, decide_create_schedule, decide_create_table,
+    decide_create_namespace, decide_create_schedule, decide_create_table,
     decide_delete_schedule, decide_drop_namespace, decide_drop_table, decide_edit_schedule,
     decide_split,
 };
@@ -41,7 +36,7 @@ pub use judges::{
     judge_drop_column, judge_drop_namespace, judge_drop_table, judge_rename_table, judge_split,
 };
 pub use looks::{look, look_keys, look_table};
-pub use operations::{decide_restore, decide_take_snapshot, new_snapshot};
+pub use operations::{decide_restore, decide_take_snapshot};
 pub use places::put_slot;
 pub use plans::plan_of;
 pub use scheduling::{

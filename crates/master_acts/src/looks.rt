@@ -8,7 +8,7 @@ ghost use Rattle.model.specs.Looks as book;
 ghost use Rattle.commands.specs.Seen.{ask_of};
 ghost use Rattle.cluster_events.specs.SeenReplies.{reply_of};
 ghost use Rattle.master_part.specs.Acts.{IsLawful};
-ghost use Rattle.master_acts.specs.Seen.{answer_at};
+ghost use Rattle.master_part.specs.Answers.{answer_at};
 ghost use Rattle.master_acts.specs.Decided.{IsLooked};
 
 use crate::batches::{batch_fault, code_outside, first_code};

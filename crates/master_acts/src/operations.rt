@@ -2,23 +2,20 @@
 ghost use Rattle.std.specs.Prelude.{ℕ, ◌≡◌, ◌<◌, ◌+◌, IfOk};
 ghost use Rattle.row_values.specs.Ids.{id_bound};
 ghost use Rattle.model.specs.Tablets.{Tablet};
-ghost use Rattle.model.specs.Lists.{new_snapshot};
 ghost use Rattle.model.specs.Changes as book;
 ghost use Rattle.master_part.specs.Acts.{IsLawful, new_restoration};
-ghost use Rattle.master_acts.specs.Decisions.{outcome_by, MayDo};
+ghost use Rattle.master_part.specs.Decisions.{outcome_by, MayDo};
 
-use crate::decide::Decision;
-use crate::listed::listing;
 use crate::scheduling::{judge_restore, judge_take_snapshot};
-use crate::within::tablets_active_within;
 use catalog_tablets::active_tablets;
 use cluster_events::Reply;
 use hybrid_time::HybridTime;
-use master_part::{MasterAct, MasterPart, schedule_id, scheduled_namespace};
+use master_part::{
+    Decision, MasterAct, MasterPart, listing, new_snapshot, schedule_id, scheduled_namespace,
+};
 use restore_coord::{RestorationRecord, RestorationState};
 use row_values::{NoMemory, Records};
 use schedules::Schedule;
-use snapshot_coord::SnapshotRecord;
 use tablet_inbox::Body;
 use yb_ident::Ident;
 
@@ -71,42 +68,6 @@ pub fn decide_restore(
         act: MasterAct::BeginsRestoration { schedule, to, made },
         changes: Records::new(master.alloc()),
         reply: Reply::Ok { made: ids },
-    })
-}
-
-/// The record of a snapshot of a namespace at a stamp, by a schedule.
-pub fn new_snapshot(
-    master: &MasterPart,
-    namespace: Ident,
-    schedule: Ident,
-    stamp: HybridTime,
-) -> Result<SnapshotRecord, NoMemory>
-    requires few { master.now.master.drawn.snapshots + 1 < id_bound }
-    ensures exact { IfOk result (λ made. made ≡ new_snapshot master.now.master namespace schedule stamp) }
-{
-    let id = master.next_snapshot();
-    let after = master.scheduled().after_in(&namespace);
-    let tablets = tablets_active_within(
-        master.alloc(),
-        master.catalog(),
-        master.tablets(),
-        namespace,
-        after,
-        stamp,
-    )?;
-    let body = Body::Freeze {
-        snapshot: id,
-        at: stamp,
-    };
-    let listed = listing(master.alloc(), &body, tablets.as_slice())?;
-    Ok(SnapshotRecord {
-        id,
-        complete: false,
-        listed,
-        schedule,
-        namespace,
-        after,
-        at: stamp,
     })
 }
 

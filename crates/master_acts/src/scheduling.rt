@@ -2,7 +2,7 @@
 ghost use Rattle.std.specs.Prelude.{◌≡◌};
 ghost use Rattle.model.specs.Changes as book;
 ghost use Rattle.model.specs.Changes.{schedule_user};
-ghost use Rattle.master_acts.specs.Seen.{answer};
+ghost use Rattle.master_part.specs.Answers.{answer};
 
 use cluster_events::Refusal;
 use hybrid_time::HybridTime;

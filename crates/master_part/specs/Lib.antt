@@ -2,3 +2,5 @@ pub mod View
 pub mod Free
 pub mod Tables
 pub mod Acts
+pub mod Decisions
+pub mod Answers

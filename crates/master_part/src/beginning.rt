@@ -1,5 +1,5 @@
 //! What the master's part does where a snapshot or a restoration begins.
-ghost use Rattle.std.specs.Prelude.{ℕ, ◌≡◌, ◌≤◌, ◌<◌, ◌+◌, OnOk};
+ghost use Rattle.std.specs.Prelude.{ℕ, ◌≡◌, ◌≤◌, ◌<◌, ◌+◌, IfOk, OnOk};
 ghost use Rattle.row_values.specs.Ids.{id_bound};
 ghost use Rattle.model.specs.Parts.{TakesSnapshot, BeginsRestoration};
 ghost use Rattle.model.specs.Lists.{new_snapshot, next_snapshot};
@@ -8,12 +8,15 @@ ghost use Rattle.model.specs.History.{master_effect};
 ghost use Rattle.master_part.specs.Acts.{new_restoration};
 
 use crate::fields::{schedule_id, scheduled_namespace};
+use crate::listed::listing;
 use crate::part::MasterPart;
+use crate::within::tablets_active_within;
 use hybrid_time::HybridTime;
 use restore_coord::RestorationRecord;
 use row_values::NoMemory;
 use schedules::Schedule;
 use snapshot_coord::SnapshotRecord;
+use tablet_inbox::Body;
 use yb_ident::{Ident, Kind};
 
 impl MasterPart {
@@ -86,4 +89,40 @@ impl MasterPart {
         self.drawn.restorations += 1;
         self.restorations.add(made);
     }
+}
+
+/// The record of a snapshot of a namespace at a stamp, by a schedule.
+pub fn new_snapshot(
+    master: &MasterPart,
+    namespace: Ident,
+    schedule: Ident,
+    stamp: HybridTime,
+) -> Result<SnapshotRecord, NoMemory>
+    requires few { master.now.master.drawn.snapshots + 1 < id_bound }
+    ensures exact { IfOk result (λ made. made ≡ new_snapshot master.now.master namespace schedule stamp) }
+{
+    let id = master.next_snapshot();
+    let after = master.scheduled().after_in(&namespace);
+    let tablets = tablets_active_within(
+        master.alloc(),
+        master.catalog(),
+        master.tablets(),
+        namespace,
+        after,
+        stamp,
+    )?;
+    let body = Body::Freeze {
+        snapshot: id,
+        at: stamp,
+    };
+    let listed = listing(master.alloc(), &body, tablets.as_slice())?;
+    Ok(SnapshotRecord {
+        id,
+        complete: false,
+        listed,
+        schedule,
+        namespace,
+        after,
+        at: stamp,
+    })
 }

@@ -74,3 +74,17 @@ pub fn kind_of(id: &Ident) -> Kind
 {
     id.kind
 }
+
+/// The number of a tablet.
+pub fn number_of(interval: &Interval) -> u64
+    ensures exact { result ≡ interval.now.tablet.number }
+{
+    interval.tablet.number
+}
+
+/// The number of a tablet's table.
+pub fn table_number(interval: &Interval) -> u64
+    ensures exact { result ≡ interval.now.table.number }
+{
+    interval.table.number
+}

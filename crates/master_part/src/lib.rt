@@ -8,18 +8,29 @@
 
 mod act;
 mod beginning;
+mod change;
+mod decision;
 mod drawn;
 mod effects;
 mod fields;
 mod found;
 mod free;
+mod listed;
+mod order;
 mod part;
 mod sending;
 mod sent;
 mod told;
+mod within;
 
 pub use act::MasterAct;
+pub use beginning::new_snapshot;
+pub use change::{PartChange, PartKind};
+pub use decision::Decision;
 pub use drawn::Drawn;
-pub use fields::{schedule_id, scheduled_namespace, table_id, tablet_of};
+pub use fields::{number_of, schedule_id, scheduled_namespace, table_id, tablet_of};
+pub use listed::listing;
+pub use order::{Orders, put_all_in_order};
 pub use part::MasterPart;
 pub use sent::Sent;
+pub use within::{once, tablets_active_within};

@@ -4,7 +4,7 @@ use Rattle.model.specs.Acts.{Change}
 use Rattle.model.specs.Parts.{Master, Outcome}
 use Rattle.commands.specs.Seen.{command_of}
 use Rattle.master_part.specs.Acts.{IsLawful}
-use Rattle.master_acts.specs.Decisions.{MayDo}
+use Rattle.master_part.specs.Decisions.{MayDo}
 use Rattle.cluster_core.specs.Held.{laid}
 use Rattle.cluster_core.specs.Plans.{ComesTo}
 use Rattle.cluster_core.proofs.Laying.{first_later}

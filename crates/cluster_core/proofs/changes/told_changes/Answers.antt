@@ -1,5 +1,5 @@
 use Rattle.std.proofs.Common.{◌+◌, ◌++◌, List, drop, map, sym, ap, subst, ◌∙◌}
-use Rattle.master_acts.specs.Decisions.{told_by}
+use Rattle.master_part.specs.Decisions.{told_by}
 use Rattle.tablet_acts.specs.Tellings.{SlotTelling, told_of}
 use Rattle.cluster_core.specs.Held.{laid}
 use Rattle.cluster_core.specs.Plans.{AllSuit}

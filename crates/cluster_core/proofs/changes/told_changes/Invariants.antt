@@ -1,6 +1,6 @@
 use Rattle.std.proofs.Common.{◌≡◌, ◌++◌, ℕ, map, drop}
 use Rattle.model.specs.Tablets.{Tablet}
-use Rattle.master_acts.specs.Decisions.{told_by}
+use Rattle.master_part.specs.Decisions.{told_by}
 use Rattle.tablet_acts.specs.Tellings.{told_of}
 use Rattle.cluster_core.specs.Held.{laid}
 use Rattle.cluster_core.specs.Plans.{AllSuit}

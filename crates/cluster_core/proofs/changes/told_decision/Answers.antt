@@ -1,6 +1,6 @@
 use Rattle.std.proofs.Common.{sym, subst}
-use Rattle.master_acts.specs.declared.decide.Decision.{Decision}
-use Rattle.master_acts.specs.Decisions.{outcome_by}
+use Rattle.master_part.specs.declared.decision.Decision.{Decision}
+use Rattle.master_part.specs.Decisions.{outcome_by}
 use Rattle.cluster_core.specs.Held.{laid}
 use Rattle.cluster_core.specs.Plans.{ComesTo}
 use Rattle.cluster_core.proofs.changes.told_decision.Goals as goal

@@ -2,7 +2,7 @@ use Rattle.std.proofs.Common.{IfOk, refl, sym, subst}
 use Rattle.step_table.specs.Helds.{slots_of}
 use Rattle.model.specs.Acts.{Advance}
 use Rattle.model.specs.Parts.{Outcome}
-use Rattle.master_acts.specs.Decisions.{MayDo}
+use Rattle.master_part.specs.Decisions.{MayDo}
 use Rattle.cluster_core.specs.Held.{laid}
 use Rattle.cluster_core.specs.Plans.{ComesTo}
 use Rattle.cluster_core.proofs.OneTablet.{touched_rise, touched}

@@ -6,7 +6,7 @@ use Rattle.kept_records.proofs.Gathering.{drop_all}
 use Rattle.model.specs.Tablets.{Told, Make}
 use Rattle.model.specs.Changed.{shares, next_tablet}
 use Rattle.model.specs.Changes.{tell_made}
-use Rattle.master_acts.specs.Decisions.{told_by}
+use Rattle.master_part.specs.Decisions.{told_by}
 use Rattle.master_acts.proofs.Making.{made_next}
 use Rattle.master_acts.proofs.decide.tablets_made.Goals as goal
 

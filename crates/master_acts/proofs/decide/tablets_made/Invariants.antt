@@ -2,7 +2,7 @@ use Rattle.std.proofs.Common.{ℕ, ◌≡◌, ◌++◌, map, drop, length}
 use Rattle.model.specs.Tablets.{Tablet}
 use Rattle.model.specs.Changes.{tell_made}
 use Rattle.model.specs.Changed.{shares}
-use Rattle.master_acts.specs.Decisions.{told_by}
+use Rattle.master_part.specs.Decisions.{told_by}
 use Rattle.master_acts.proofs.decide.tablets_made.Given as goal
 
 abbrev pub invariant-loop-slot : goal.invariant-loop-slot

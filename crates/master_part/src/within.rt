@@ -6,11 +6,11 @@ ghost use Rattle.model.specs.Activity.{active_within, forget};
 ghost use Rattle.model.specs.Catalog as catalog;
 ghost use Rattle.model.specs.Lists as book;
 
+use crate::fields::tablet_of;
 use catalog_core::Catalog;
 use catalog_tablets::{Interval, Tablets, owns};
 use hybrid_time::HybridTime;
 use kept_records::Tests;
-use master_part::tablet_of;
 use row_values::{NoMemory, Records};
 use std::alloc::Global;
 use yb_ident::Ident;

@@ -8,11 +8,11 @@ use Rattle.model.specs.Records.{Listed}
 use Rattle.model.specs.Parts.{Master, Outcome, answered}
 use Rattle.cluster_events.specs.SeenReplies.{reply_of}
 use Rattle.master_part.specs.Acts.{act_of, May}
-use Rattle.master_acts.specs.declared.changes.PartKind.{PartKind}
-use Rattle.master_acts.specs.declared.changes.PartKind.TheVariants as kind
-use Rattle.master_acts.specs.declared.changes.PartChange.{PartChange}
-use Rattle.master_acts.specs.declared.decide.Decision.{Decision}
-use Rattle.master_acts.specs.declared.decide.Decision.TheVariants as decision
+use Rattle.master_part.specs.declared.change.PartKind.{PartKind}
+use Rattle.master_part.specs.declared.change.PartKind.TheVariants as kind
+use Rattle.master_part.specs.declared.change.PartChange.{PartChange}
+use Rattle.master_part.specs.declared.decision.Decision.{Decision}
+use Rattle.master_part.specs.declared.decision.Decision.TheVariants as decision
 
 -- what a part gets, by what the parts of the slots have
 abbrev pub act_by : (ℕ → Tablet) → PartKind → tell.TabletAct

@@ -1,6 +1,6 @@
 use Rattle.std.proofs.Common.{◌≡◌, ◌≤◌, drop, length}
 use Rattle.model.specs.Lists.{once}
-use Rattle.master_acts.proofs.within.once.Given as goal
+use Rattle.master_part.proofs.within.once.Given as goal
 
 abbrev pub invariant-intervals : goal.invariant-intervals
 invariant-intervals l = record {

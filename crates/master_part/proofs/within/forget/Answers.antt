@@ -2,7 +2,7 @@ use Rattle.std.proofs.Common.{not, rules}
 use Rattle.std.proofs.lemmas.Fn.{filter_same}
 use Rattle.row_values.specs.Ids.{same}
 use Rattle.model.specs.Activity.{Interval}
-use Rattle.master_acts.proofs.within.forget.Goals as goal
+use Rattle.master_part.proofs.within.forget.Goals as goal
 
 pub returns : goal.returns
 returns c = record {

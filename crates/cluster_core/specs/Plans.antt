@@ -36,6 +36,11 @@ abbrev pub tell_all : MasterAct → List SlotTelling → List ℕ → List PartT
 tell_all master tablets [] = []
 tell_all master tablets (k ∷ ks) = tell_to master tablets k ∷ tell_all master tablets ks
 
+-- how many of rising slots are the master's: it can be the first alone
+abbrev pub masters_in : List ℕ → ℕ
+masters_in [] = 0
+masters_in (k ∷ ks) = if k == 0 then 1 else 0
+
 -- each suits the tablet of its slot at a stamp
 abbrev pub AllSuit : List SlotTelling → ℕ → (ℕ → Tablet) → Type 0
 AllSuit [] n at = Unit {0}

@@ -5,7 +5,7 @@ ghost use Rattle.model.specs.Catalog.{Catalog, NamespaceRecord, TableRecord, tab
 ghost use Rattle.model.specs.Restored.{tables_back, replace, record_at};
 ghost use Rattle.catalog_core.specs.Begins.{IsHome};
 ghost use Rattle.catalog_core.specs.Pruned.{pruned_by, space_goes, table_goes};
-ghost use Rattle.catalog_core.specs.Kept.{ends_by, is_free_for, KeepRoom};
+ghost use Rattle.catalog_core.specs.Kept.{ends_by, ends_in, is_free_for, KeepRoom};
 
 use crate::keeping::Keeps;
 use crate::marks::Marks;
@@ -249,10 +249,11 @@ impl Catalog {
     }
 
     /// The current tables of a namespace give way to those that it had at a time, as a restore brings
-    /// them back, in the room that was made. Records of one table are of one namespace.
+    /// them back, in the room that was made. Records of one table are of one namespace, and none of this
+    /// namespace ends after the point.
     pub fn restore_tables(&mut self, namespace: &Ident, back: Vec<TableRecord>, point: HybridTime)
         requires room { length back.items ≤ self.old.room }
-        requires past { ends_by point self.old.catalog.tables ≡ true }
+        requires past { ends_in namespace.now point self.old.catalog.tables ≡ true }
         requires home { IsHome self.old.catalog.tables }
         requires back { (to : ℕ) × (back.items ≡ tables_back self.old.catalog.tables namespace.now to point) }
         ensures catalog { self.new.catalog ≡ record self.old.catalog { tables = replace namespace.now back.items point self.old.catalog.tables } }

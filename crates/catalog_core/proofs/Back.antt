@@ -1,5 +1,5 @@
 -- The tables that a namespace had at a time may begin again where its current ones end.
-use Rattle.std.proofs.Common.{ℕ, zero, suc, ◌≡◌, ◌<◌, ◌⊎◌, inl, inr, Bool, true, false, ◌&&◌, cond, List, [], ◌∷◌, ◌++◌, map, Option, Some, None, if◌then◌else◌, length, filter, slice_get, nat_le, nat_lt, refl, sym, ap, subst, ◌∙◌, arith}
+use Rattle.std.proofs.Common.{ℕ, zero, suc, ◌≡◌, ◌⊎◌, inl, inr, Bool, true, false, ◌&&◌, cond, List, [], ◌∷◌, ◌++◌, map, Option, Some, None, if◌then◌else◌, filter, slice_get, nat_le, nat_lt, refl, sym, ap, ◌∙◌, arith}
 use Rattle.std.proofs.lemmas.Grind.{common_steps}
 use Rattle.std.specs.List.{find}
 use Rattle.std.specs.Option.{option_or}
@@ -8,17 +8,17 @@ use Rattle.std.proofs.lemmas.Slice.Eq.{bytes_eq-Decides}
 use Rattle.std.proofs.lemmas.List.Folds.{find-append}
 use Rattle.row_values.specs.Ids.{Id, same}
 use Rattle.row_values.specs.Elements.{AllOf}
-use Rattle.model.specs.Times.{is_open, ended, ended_by, before_end, holds_at}
+use Rattle.model.specs.Times.{is_open, ended_by, before_end, holds_at}
 use Rattle.model.specs.Catalog.{TableRecord, current_named, current_table, put_table, by_id, tables_at, end_tables}
 use Rattle.model.specs.Restored.{back_at, tables_back}
 use Rattle.newest_index.specs.Newest.{InTurn}
 use Rattle.catalog_core.specs.Kept.{same_table_name, same_table_id, table_over, over_or_open, ends_by, ends_in, stands_in}
-use Rattle.catalog_core.specs.Begins.{Clears, Begins, BeginsAll, IsHome}
+use Rattle.catalog_core.specs.Begins.{Clears, BeginsAll, IsHome}
 use Rattle.catalog_core.proofs.Names.{both_false, bytes_equal}
 use Rattle.catalog_core.proofs.InSpaces.{closes, gone_by}
 use Rattle.catalog_core.proofs.Replaced.{and_left, and_right, and_both, still_past}
 
-never : (b : Bool) → (b ≡ true → ⊥) → b ≡ false
+pub never : (b : Bool) → (b ≡ true → ⊥) → b ≡ false
 never true deny = absurd (deny refl)
 never false deny = refl
 
@@ -65,14 +65,14 @@ apart_by_id (t ∷ ts) apart = apart_put t (by_id ts) (all_by_id (Differ t) ts a
 
 -- of those that stand at one time no two share a name or an identifier
 
-over_at : (x from : ℕ) (o : Option ℕ) → ended_by from o ≡ true → nat_le from x ≡ true → before_end x o ≡ true → ⊥
+pub over_at : (x from : ℕ) (o : Option ℕ) → ended_by from o ≡ true → nat_le from x ≡ true → before_end x o ≡ true → ⊥
 over_at x from None over le before = absurd (cc)
 over_at x from (Some t) over le before = grind (arith, common_steps, over, le, before)
 
 tail_turn : {alike over : TableRecord → TableRecord → Bool} (r : TableRecord) (rs : List TableRecord) → InTurn alike over (r ∷ rs) → InTurn alike over rs
 tail_turn r rs turn = record { turns = λ i j s t lt is at like. turn.turns (suc i) (suc j) s t (omega (arith, lt)) is at like }
 
-swap_bytes : (xs ys : List ℕ) → bytes_eq xs ys ≡ true → bytes_eq ys xs ≡ true
+pub swap_bytes : (xs ys : List ℕ) → bytes_eq xs ys ≡ true → bytes_eq ys xs ≡ true
 swap_bytes xs ys e = (bytes_eq-Decides ys xs).1 (sym (bytes_equal xs ys e))
 
 -- what each record that passes a test meets
@@ -193,7 +193,7 @@ new_next rs point t s opens apart new = record {
       ∙ ap (λ b. cond b (Some t) None) (shut_by t.to (same t.id s.id) apart.ids);
 }
 
-begin_all : (rs : List TableRecord) (point : ℕ) (ts : List TableRecord) → AllOf (IsNew rs point) ts → Apart ts → BeginsAll rs ts
+pub begin_all : (rs : List TableRecord) (point : ℕ) (ts : List TableRecord) → AllOf (IsNew rs point) ts → Apart ts → BeginsAll rs ts
 begin_all rs point [] new apart = tt
 begin_all rs point (t ∷ ts) new apart = (
   record { current = new.0.current; past = new.0.past; free = new.0.free; fresh = new.0.fresh },
@@ -257,7 +257,7 @@ back_begins equal rs ns to point names ids home past =
     (λ i t at stands.
     let mine = and_right (holds_at to t.from t.to) (same t.namespace ns) stands in
     let its : (j : ℕ) (q : TableRecord) → slice_get rs j ≡ Some q → same q.id t.id ≡ true → same q.namespace ns ≡ true =
-        λ j q is e. ap (same q.namespace) (sym (equal t.namespace ns mine)) ∙ home j i q t is at e in
+    λ j q is e. ap (same q.namespace) (sym (equal t.namespace ns mine)) ∙ home j i q t is at e in
     record {
       current = refl;
       begun = refl;

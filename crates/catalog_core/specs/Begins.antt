@@ -1,6 +1,6 @@
 -- When records of tables may begin: one by one, and each behind those before it.
 use Rattle.std.specs.Prelude.{ℕ, ◌≡◌, true, List, [], ◌∷◌, ◌++◌, Some, None, slice_get}
-use Rattle.row_values.specs.Ids.{Id, same}
+use Rattle.row_values.specs.Ids.{same}
 use Rattle.model.specs.Catalog.{TableRecord, current_named, current_table}
 use Rattle.catalog_core.specs.Kept.{same_table_name, same_table_id, over_or_open}
 

@@ -240,8 +240,8 @@ impl Tables {
         clear_count(&mut self.counts, namespace);
     }
 
-    // Of the records of one name, and of one identifier, each was over when the next began.
-    fn follow_in_turn(&self)
+    /// Of the records of one name, and of one identifier, each was over when the next began.
+    pub fn follow_in_turn(&self)
         ensures names { InTurn same_table_name table_over self.now.items }
         ensures ids { InTurn same_table_id table_over self.now.items }
     {
@@ -264,8 +264,8 @@ impl Tables {
         self.add(table);
     }
 
-    // Takes in records that are current, each behind those before it, in the room that was made.
-    fn add_all(&mut self, tables: Vec<TableRecord>)
+    /// Takes in records that are current, each behind those before it, in the room that was made.
+    pub fn add_all(&mut self, tables: Vec<TableRecord>)
         requires room { length tables.items ≤ self.old.room }
         requires begin { BeginsAll self.old.items tables.items }
         ensures items { self.new.items ≡ self.old.items ++ tables.items }

@@ -1,6 +1,5 @@
 use Rattle.std.proofs.Common.{[], ◌∷◌, ◌++◌, ap, ◌∙◌}
 use Rattle.model.specs.Catalog.{TableRecord, current_named, current_table, end_table}
-use Rattle.catalog_core.specs.Begins.{Clears}
 use Rattle.catalog_core.proofs.Found.{clears_all}
 use Rattle.catalog_core.proofs.Replaced.{ended_past, ended_fresh, ended_free}
 use Rattle.catalog_core.proofs.tables.Tables.replace.Goals as goal

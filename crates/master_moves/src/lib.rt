@@ -5,7 +5,11 @@
 #![tactic(auto)]
 
 mod advancing;
+mod cloning;
 mod coordinating;
+mod fields;
+mod restoring;
+mod switching;
 mod working;
 
 pub use advancing::decide_advance;

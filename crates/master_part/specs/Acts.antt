@@ -14,6 +14,7 @@ use Rattle.model.specs.Schedules.{complete_to}
 use Rattle.model.specs.Lists.{new_snapshot, listing, active_tablets, tablets_active_at}
 use Rattle.model.specs.Changed.{next_namespace, next_table, next_restoration, new_clone}
 use Rattle.model.specs.Changes.{CloneSource, judge_clone}
+use Rattle.model.specs.Restored.{newest}
 use Rattle.model.specs.Drawn.{drawn_of, drawn_for_clone, most_slots}
 use Rattle.catalog_core.specs.Begins.{IsHome}
 use Rattle.catalog_core.specs.Kept.{ends_by, is_free_for}
@@ -73,6 +74,8 @@ pub record IsLawful (m : Master) : Type 0 where
       → judge_clone source target to n m ≡ Granted s → (kind : Kind) → drawn_of kind (drawn_for_clone to m s.namespace) ≤ most_slots
   pub places : (ns : Id) (to : ℕ) → length (tablets_active_at m.catalog.owners m.activity ns to) ≤ m.slots
   pub unowned : (table : Id) → m.drawn.tables < table.number → owner_of m.catalog.owners table ≡ None
+  pub owned : (t : TableRecord) → In t m.catalog.tables → owner_of m.catalog.owners t.id ≡ Some t.namespace
+  pub newest : (t : TableRecord) → In t m.catalog.tables → t.schema.next ≤ (newest m.catalog.tables t).next
   pub home : IsHome m.catalog.tables
   pub switches : (r : RestorationRecord) (point : ℕ) (serving : Id) → In r m.restorations
       → r.state ≡ Switching point serving → EndsIn r.namespace point m.catalog.tables

@@ -1,6 +1,8 @@
 //! What the switch of a restoration brings back: the tables of its time, as they go on from its point, and what each
 //! tablet is to do that was active then or is now.
-ghost use Rattle.std.specs.Prelude.{◌≡◌, ◌++◌, IfOk, map};
+ghost use Rattle.std.specs.Prelude.{◌≡◌, ◌&&◌, ◌++◌, IfOk, map};
+ghost use Rattle.row_values.specs.Ids.{same};
+ghost use Rattle.model.specs.Times.{is_open};
 
 ghost use Rattle.model.specs.Lists as lists;
 ghost use Rattle.model.specs.Restored as book;
@@ -157,10 +159,23 @@ fn line_for(
 fn version_of(tables: &[TableRecord], table: &Ident) -> u32
     ensures exact { result ≡ version_of tables.now table.now }
 {
-    for record in tables {
-        if record.to.is_none() && record.id == *table {
-            return record.schema.version;
+    for found in tables {
+        if is_current(found, table) {
+            return schema_version(found);
         }
     }
     0
+}
+
+// Whether a record is the current one of a table.
+fn is_current(found: &TableRecord, table: &Ident) -> bool
+    ensures exact { result ≡ (is_open found.now.to && same found.now.id table.now) }
+{
+    found.to.is_none() && found.id == *table
+}
+
+fn schema_version(found: &TableRecord) -> u32
+    ensures exact { result ≡ found.now.schema.version }
+{
+    found.schema.version
 }

@@ -1,6 +1,6 @@
 -- What the moves of restorations and of clones, and a prune, need of the master.
-use Rattle.std.specs.Prelude.{ℕ, ◌≡◌, ◌<◌, ◌+◌, Bool, true, false, List, [], ◌∷◌, Option, Some, None, length, filter, if◌then◌else◌}
-use Rattle.row_values.specs.Ids.{Id, same, id_bound}
+use Rattle.std.specs.Prelude.{ℕ, ◌≡◌, ◌≤◌, ◌<◌, ◌+◌, Bool, true, false, List, [], ◌∷◌, Option, Some, None, length, filter, if◌then◌else◌}
+use Rattle.row_values.specs.Ids.{Id, Restoration as RestorationKind, Clone as CloneKind, same, id_bound}
 use Rattle.model.specs.Times.{end_of_time}
 use Rattle.model.specs.Activity.{Interval}
 use Rattle.model.specs.Catalog.{TableRecord, namespace_named, name_of, owner_of}
@@ -66,6 +66,11 @@ SwitchesBy (Restoring point serving) s r m = ⊥
 SwitchesBy (Releasing point serving) s r m = ⊥
 SwitchesBy (Restored point serving) s r m = ⊥
 
+-- an operation is a restoration, and at most one record has its identifier
+pub record IsRestoration (id : Id) (m : Master) : Type 0 where
+  pub kind : id.kind ≡ RestorationKind
+  pub once : length (filter (λ (r : RestorationRecord). same r.id id) m.restorations) ≤ 1
+
 -- what is needed of the unfinished restoration of an id, if there is one
 abbrev pub OfRestoration : Id → Master → (RestorationRecord → Type 0) → Type 0
 OfRestoration id m Needs = (r : RestorationRecord) → unfinished_restoration m.restorations id ≡ Some r → Needs r
@@ -129,6 +134,11 @@ ShowsBy (CloneSnapshot own) name tables listed r n m = ⊥
 ShowsBy (Copying serving copied_at) name tables listed r n m = Shows name tables listed r n m
 ShowsBy (CloneReleasing serving copied_at) name tables listed r n m = ⊥
 ShowsBy (CloneComplete serving copied_at) name tables listed r n m = ⊥
+
+-- an operation is a clone, and at most one record has its identifier
+pub record IsClone (id : Id) (m : Master) : Type 0 where
+  pub kind : id.kind ≡ CloneKind
+  pub once : length (filter (λ (r : CloneRecord). same r.id id) m.clones) ≤ 1
 
 -- what is needed of the unfinished clone of an id, if there is one
 abbrev pub OfClone : Id → Master → (CloneRecord → Type 0) → Type 0

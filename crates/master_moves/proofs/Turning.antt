@@ -6,13 +6,14 @@ use Rattle.std.proofs.lemmas.Bool.{true≢false}
 use Rattle.row_values.specs.Elements.{In}
 use Rattle.row_values.specs.Ids.{Id, same}
 use Rattle.row_values.specs.Schema.{Schema}
-use Rattle.model.specs.Activity.{Interval}
+use Rattle.model.specs.Activity.{Interval, active_at}
 use Rattle.model.specs.Catalog.{TableRecord, Owner, owner_of, owns, put_table, by_id, tables_at, current_table, end_tables, latest_from, latest}
 use Rattle.model.specs.Lists.{once, intervals_in, active_tablets, tablets_active_at, by_table_and_number}
 use Rattle.model.specs.Cluster.{option_map_or}
 use Rattle.model.specs.Parts.{Master}
 use Rattle.model.specs.Records.{Listed}
 use Rattle.model.specs.Restored.{newest, tables_back, restored_tables, version_of, concerned, switch_list}
+use Rattle.model.specs.Tablets.{RestoreFrom, Hide}
 use Rattle.model.specs.Times.{holds_at, is_open, ended}
 use Rattle.law_store.proofs.Keys.{either_way}
 use Rattle.law_invariants.proofs.Finding.{in_append, filter_in, in_mapped, none_found, same_equal, same_self, both_pass, first_fails, second_fails, not_passing}
@@ -106,5 +107,42 @@ module _ (owners : List Owner) (rs : List TableRecord) (owned : (t : TableRecord
 
   -- the table's version behind the switch is that of the time's tables that go on
   pub version_back : (to point : ℕ) → version_of (restored_tables rs ns to point) table ≡ version_of (tables_back rs ns to point) table
-  version_back to point = ap (λ f. option_map_or {A = TableRecord} (λ r. r.schema.version) f 0)
+  version_back to point = ap (λ f. option_map_or (λ (r : TableRecord). r.schema.version) f 0)
       (found_behind is_current (end_tables ns point rs) (tables_back rs ns to point) (none_current point))
+
+map_alike : {A B : Type 0} (f g : A → B) (xs : List A) → ((a : A) → In a xs → f a ≡ g a) → map f xs ≡ map g xs
+map_alike f g [] each = refl
+map_alike f g (x ∷ xs) each =
+    ap (λ y. y ∷ map f xs) (each x (inl refl)) ∙ ap (λ ys. g x ∷ ys) (map_alike f g xs (λ a isin. each a (inr isin)))
+
+-- a tablet that a switch concerns is one of the namespace's
+concerned_owned : (owners : List Owner) (activity : List Interval) (ns : Id) (to : ℕ) (i : Interval) → In i (concerned owners activity ns to) → owns owners ns i.table ≡ true
+concerned_owned owners activity ns to i isin =
+    let owned : Interval → Bool = λ i. owns owners ns i.table in
+    let first = tablets_active_at owners activity ns to in
+    let now_ = active_tablets owners activity ns in
+    let both : In i (first ++ now_) = once_only (first ++ now_) i (ordered_only _ (once (first ++ now_)) i isin) in
+    let within : In i (intervals_in owners activity ns) = elim (in_append first now_ i both) as (λ _. In i (intervals_in owners activity ns)) [
+      inl was ↦ (filter_in (intervals_in owners activity ns) (active_at to) i was).0
+      | inr is ↦ (filter_in (intervals_in owners activity ns) (λ i. is_open i.to) i is).0
+    ] in
+    (filter_in activity owned i within).1
+
+abbrev line_of : ℕ → ℕ → Id → Interval → ℕ → Listed
+line_of to point serving i version = record {
+  tablet = i.tablet;
+  slot = i.slot;
+  body = cond (active_at to i) (RestoreFrom serving to point version) (Hide point);
+  acked = false;
+}
+
+-- the list by the tables that go on is that by all tables behind the switch
+pub switch_is : (m : Master) → IsLawful m → (ns : Id) (to point : ℕ) (serving : Id)
+    → map (line_with to point serving (tables_back m.catalog.tables ns to point)) (concerned m.catalog.owners m.activity ns to)
+    ≡ switch_list m.catalog.owners m.activity ns to point serving (restored_tables m.catalog.tables ns to point)
+switch_is m lawful ns to point serving =
+    let before = tables_back m.catalog.tables ns to point in
+    let behind = restored_tables m.catalog.tables ns to point in
+    map_alike (line_with to point serving before) (line_with to point serving behind) (concerned m.catalog.owners m.activity ns to)
+    (λ i isin. ap (line_of to point serving i)
+    (sym (version_back m.catalog.owners m.catalog.tables lawful.owned ns i.table (concerned_owned m.catalog.owners m.activity ns to i isin) to point)))

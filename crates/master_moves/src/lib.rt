@@ -8,6 +8,7 @@ mod advancing;
 mod cloning;
 mod coordinating;
 mod fields;
+mod lists;
 mod restoring;
 mod switching;
 mod working;

@@ -6,7 +6,6 @@
 
 mod batches;
 mod columns;
-mod coordinating;
 mod cutoffs;
 mod decide;
 mod decided;
@@ -22,7 +21,6 @@ mod plans;
 mod scheduling;
 
 pub use columns::{decide_add_column, decide_drop_column, decide_rename_table};
-pub use coordinating::{decide_ack, decide_advance_snapshot, decide_send, pending_mark};
 pub use cutoffs::allowed_cutoff;
 pub use decide::{
     decide_create_namespace, decide_create_schedule, decide_create_table,

@@ -1,5 +1,5 @@
 -- What the master is told, as the book's; what it needs of the master, and of the room that was made.
-use Rattle.std.specs.Prelude.{ℕ, ◌≡◌, ◌≤◌, ◌<◌, ◌+◌, ◌^◌, true, List, None, length}
+use Rattle.std.specs.Prelude.{ℕ, ◌≡◌, ◌≤◌, ◌<◌, ◌+◌, ◌^◌, true, List, None, Ok as Granted, length}
 use Rattle.row_values.specs.Elements.{In}
 use Rattle.row_values.specs.Ids.{Id, Kind, Snapshot, id_bound}
 use Rattle.row_values.specs.Schema.{Schema, first_schema, with_column, without_column}
@@ -11,9 +11,10 @@ use Rattle.model.specs.Parts.{Master}
 use Rattle.model.specs.Tablets.{Fence}
 use Rattle.model.specs.Records.{Schedule, ScheduledNamespace, RestorationRecord, Fencing}
 use Rattle.model.specs.Schedules.{complete_to}
-use Rattle.model.specs.Lists.{new_snapshot, listing, active_tablets}
+use Rattle.model.specs.Lists.{new_snapshot, listing, active_tablets, tablets_active_at}
 use Rattle.model.specs.Changed.{next_namespace, next_table, next_restoration}
-use Rattle.model.specs.Drawn.{drawn_of, most_slots}
+use Rattle.model.specs.Changes.{CloneSource, judge_clone}
+use Rattle.model.specs.Drawn.{drawn_of, drawn_for_clone, most_slots}
 use Rattle.catalog_core.specs.Kept.{ends_by, is_free_for}
 use Rattle.schedules.specs.Periods.{IsPeriod}
 use Rattle.master_part.specs.View.{MasterView}
@@ -43,8 +44,8 @@ act_of act.Restarts = book.Restarts
 
 -- What the law says of the master that a legal history leaves: few identifiers were drawn (`numbers_are_drawn`), what
 -- the catalog has was drawn before, a table's schema changed less often than entries were made, no record of a table ends
--- after the clock, each tablet is in one of the slots, and the last complete snapshot of a namespace is over
--- (`legal_is_right`)
+-- after the clock, each tablet is in one of the slots, the last complete snapshot of a namespace is over
+-- (`legal_is_right`), a namespace's tablets of one time lie in different slots, and a clone draws few identifiers
 pub record IsLawful (m : Master) : Type 0 where
   pub few : (kind : Kind) → drawn_of kind m.drawn + most_slots < id_bound
   pub namespaces : name_of m.catalog.namespaces (next_namespace m) ≡ None
@@ -55,6 +56,10 @@ pub record IsLawful (m : Master) : Type 0 where
   pub past : ends_by m.clock m.catalog.tables ≡ true
   pub placed : (i : Interval) → In i m.activity → (1 ≤ i.slot) × (i.slot ≤ m.slots)
   pub complete : (k : ScheduledNamespace) → In k m.scheduled → complete_to k + 1 ≤ m.clock
+  pub places : (ns : Id) (to : ℕ) → length (tablets_active_at m.catalog.owners m.activity ns to) ≤ m.slots
+  pub clones : (source target : List ℕ) (to n : ℕ) (s : CloneSource) → m.clock < n
+      → judge_clone source target to n m ≡ Granted s
+      → (kind : Kind) → drawn_of kind (drawn_for_clone to m s.namespace) ≤ most_slots
 
 -- a namespace of the name may be made
 pub record NamespaceFits (name : List ℕ) (m : Master) : Type 0 where

@@ -16,6 +16,7 @@ mod fields;
 mod found;
 mod free;
 mod listed;
+mod numbering;
 mod order;
 mod part;
 mod sending;

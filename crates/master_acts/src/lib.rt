@@ -5,6 +5,7 @@
 #![tactic(auto)]
 
 mod batches;
+mod cloning;
 mod columns;
 mod cutoffs;
 mod decide;
@@ -16,10 +17,12 @@ mod lines;
 mod lists;
 mod looks;
 mod operations;
+mod pairs;
 mod places;
 mod plans;
 mod scheduling;
 
+pub use cloning::{CloneSource, decide_clone, found_source};
 pub use columns::{decide_add_column, decide_drop_column, decide_rename_table};
 pub use cutoffs::allowed_cutoff;
 pub use decide::{

@@ -29,7 +29,9 @@ pub use beginning::new_snapshot;
 pub use change::{PartChange, PartKind};
 pub use decision::Decision;
 pub use drawn::Drawn;
-pub use fields::{number_of, schedule_id, scheduled_namespace, table_id, tablet_of};
+pub use fields::{
+    number_of, schedule_id, scheduled_namespace, table_id, table_number, tablet_of,
+};
 pub use listed::listing;
 pub use order::{Orders, put_all_in_order};
 pub use part::MasterPart;

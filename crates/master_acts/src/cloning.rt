@@ -1,5 +1,5 @@
 //! How a clone of a namespace is judged, and the record that it begins with.
-ghost use Rattle.std.specs.Prelude.{ℕ, ◌≡◌, ◌<◌, ◌≤◌, ◌+◌, length, IfOk, Ok as Granted, option_map};
+ghost use Rattle.std.specs.Prelude.{ℕ, ◌≡◌, ◌<◌, ◌≤◌, ◌+◌, length, IfOk, option_map};
 ghost use Rattle.row_values.specs.Ids.{id_bound};
 ghost use Rattle.model.specs.Tablets.{Tablet};
 ghost use Rattle.model.specs.Parts.{refusal_in};
@@ -118,7 +118,7 @@ fn source_tablets(
 }
 
 /// A clone of a namespace under another name, to a time; without one to just before the stamp.
-#[tactic(auto, using(crate::proofs::Allowed::few_namespaces, crate::proofs::Cloned::few_clones, crate::proofs::Cloned::few_sources, crate::proofs::Cloned::draws_few), unfolding(model::specs::Changes::clone_namespace))]
+#[tactic(auto, using(crate::proofs::Allowed::few_namespaces, crate::proofs::Cloned::few_clones, crate::proofs::Cloned::few_sources, crate::proofs::Cloned::draws_few, crate::proofs::Cloned::clone_fits), unfolding(model::specs::Changes::clone_namespace))]
 pub fn decide_clone(
     master: &MasterPart,
     source: &Name,
@@ -140,8 +140,20 @@ pub fn decide_clone(
     if let Some(why) = clone_fault(master, found, target, to, &tablets, stamp) {
         return Ok(Decision::Answers(Reply::Refused(why)));
     }
+    let mut ids = Records::new(master.alloc());
+    ids.push(master.next_clone())?;
     let made = new_clone(master, found.namespace, source, target, to, &tablets)?;
-    Err(NoMemory)
+    Ok(Decision::Accepts {
+        act: MasterAct::BeginsClone {
+            namespace: found.namespace,
+            source: source.copy()?,
+            target: target.copy()?,
+            to,
+            made,
+        },
+        changes: Records::new(master.alloc()),
+        reply: Reply::Ok { made: ids },
+    })
 }
 
 // The time to which a clone goes.

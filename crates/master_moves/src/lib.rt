@@ -5,7 +5,12 @@
 #![tactic(auto)]
 
 mod advancing;
+mod cloning;
 mod coordinating;
+mod fields;
+mod lists;
+mod restoring;
+mod switching;
 mod working;
 
 pub use advancing::decide_advance;

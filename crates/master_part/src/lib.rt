@@ -35,7 +35,7 @@ pub use drawn::Drawn;
 pub use fields::{
     number_of, schedule_id, scheduled_namespace, table_id, table_number, tablet_of,
 };
-pub use listed::listing;
+pub use listed::{by_table_and_number, listing};
 pub use order::{Orders, put_all_in_order};
 pub use part::MasterPart;
 pub use sent::Sent;

@@ -2,5 +2,4 @@ pub mod Allowed
 pub mod Making
 pub mod Planned
 pub mod Changing
-pub mod Raising
 pub mod Looking

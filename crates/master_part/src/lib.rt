@@ -9,6 +9,7 @@
 mod act;
 mod beginning;
 mod change;
+mod cut;
 mod decision;
 mod drawn;
 mod effects;
@@ -21,12 +22,14 @@ mod part;
 mod placing;
 mod sending;
 mod sent;
+mod switch;
 mod told;
 mod within;
 
 pub use act::MasterAct;
 pub use beginning::new_snapshot;
 pub use change::{PartChange, PartKind};
+pub use cut::Cut;
 pub use decision::Decision;
 pub use drawn::Drawn;
 pub use fields::{kind_of, number_of, schedule_id, scheduled_namespace, table_id, tablet_of};
@@ -35,4 +38,5 @@ pub use order::{Orders, put_all_in_order};
 pub use part::MasterPart;
 pub use placing::put_slot;
 pub use sent::Sent;
+pub use switch::Switch;
 pub use within::{once, tablets_active_within};

@@ -20,6 +20,7 @@ mod listed;
 mod numbering;
 mod order;
 mod part;
+mod placing;
 mod sending;
 mod sent;
 mod switch;
@@ -33,11 +34,12 @@ pub use cut::Cut;
 pub use decision::Decision;
 pub use drawn::Drawn;
 pub use fields::{
-    number_of, schedule_id, scheduled_namespace, table_id, table_number, tablet_of,
+    kind_of, number_of, schedule_id, scheduled_namespace, table_id, table_number, tablet_of,
 };
 pub use listed::{by_table_and_number, listing};
 pub use order::{Orders, put_all_in_order};
 pub use part::MasterPart;
+pub use placing::put_slot;
 pub use sent::Sent;
 pub use switch::Switch;
 pub use within::{once, tablets_active_within};

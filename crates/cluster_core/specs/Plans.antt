@@ -1,6 +1,7 @@
 -- What an event comes to: what the master and the tablets' parts are told, and the reply.
 use Rattle.std.specs.Prelude.{ℕ, zero, suc, ◌≡◌, ◌<◌, List, [], ◌∷◌, map, ◌==◌, if◌then◌else◌}
 use Rattle.step_table.specs.Helds.{slots_of, parts_of}
+use Rattle.model.specs.Times.{end_of_time}
 use Rattle.model.specs.Tablets.{Tablet}
 use Rattle.model.specs.Acts.{Act, Reply}
 use Rattle.model.specs.Parts.{Outcome}
@@ -53,6 +54,7 @@ pub record MayPlan (act : Act) (n : ℕ) (held : Holding) : Type 0 where
   pub kinds : AreKinds (slots_of held) (parts_of held)
   pub later : AllLater n (parts_of held)
   pub begun : 0 < n
+  pub before_end : n < end_of_time
   pub count : ℕ
   pub asked : ActAsked count act
   pub lawful : IsLawful (laid held).master

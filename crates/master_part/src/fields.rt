@@ -17,6 +17,18 @@ pub fn restoration_id(restoration: &RestorationRecord) -> Ident
     restoration.id
 }
 
+pub fn restoration_namespace(restoration: &RestorationRecord) -> Ident
+    ensures exact { result ≡ restoration.now.namespace }
+{
+    restoration.namespace
+}
+
+pub fn restoration_schedule(restoration: &RestorationRecord) -> Ident
+    ensures exact { result ≡ restoration.now.schedule }
+{
+    restoration.schedule
+}
+
 pub fn clone_id(clone: &CloneRecord) -> Ident
     ensures exact { result ≡ clone.now.id }
 {

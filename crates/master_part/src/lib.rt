@@ -17,6 +17,7 @@ mod fields;
 mod found;
 mod free;
 mod listed;
+mod moving;
 mod order;
 mod part;
 mod sending;

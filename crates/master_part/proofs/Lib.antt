@@ -3,3 +3,4 @@ pub mod Ordering
 pub mod Least
 pub mod ByKind
 pub mod RestorationMoves
+pub mod CloneMoves

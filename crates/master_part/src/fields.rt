@@ -4,7 +4,7 @@ ghost use Rattle.yb_ident.specs.Seen as kinds;
 
 use catalog_core::TableRecord;
 use catalog_tablets::Interval;
-use clone_coord::CloneRecord;
+use clone_coord::{CloneRecord, IdPair, TabletPair};
 use hybrid_time::HybridTime;
 use restore_coord::RestorationRecord;
 use schedules::Schedule;
@@ -35,6 +35,34 @@ pub fn clone_id(clone: &CloneRecord) -> Ident
     clone.id
 }
 
+/// The namespace that a clone takes its tables from.
+pub fn clone_source(clone: &CloneRecord) -> Ident
+    ensures exact { result ≡ clone.now.source }
+{
+    clone.source
+}
+
+/// The namespace that a clone makes.
+pub fn clone_target(clone: &CloneRecord) -> Ident
+    ensures exact { result ≡ clone.now.target_id }
+{
+    clone.target_id
+}
+
+/// The tables of a clone.
+pub fn clone_tables(clone: &CloneRecord) -> &[IdPair]
+    ensures exact { result.now ≡ clone.now.tables }
+{
+    clone.tables.as_slice()
+}
+
+/// The tablets of a clone.
+pub fn clone_tablets(clone: &CloneRecord) -> &[TabletPair]
+    ensures exact { result.now ≡ clone.now.tablets }
+{
+    clone.tablets.as_slice()
+}
+
 /// The identifier of a table.
 pub fn table_id(table: &TableRecord) -> Ident
     ensures exact { result ≡ table.now.id }
@@ -60,6 +88,12 @@ pub fn snapshot_id(snapshot: &SnapshotRecord) -> Ident
     ensures exact { result ≡ snapshot.now.id }
 {
     snapshot.id
+}
+
+pub fn snapshot_schedule(snapshot: &SnapshotRecord) -> Ident
+    ensures exact { result ≡ snapshot.now.schedule }
+{
+    snapshot.schedule
 }
 
 pub fn snapshot_namespace(snapshot: &SnapshotRecord) -> Ident

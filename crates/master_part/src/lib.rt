@@ -9,6 +9,7 @@
 mod act;
 mod beginning;
 mod change;
+mod cloning;
 mod cut;
 mod decision;
 mod drawn;

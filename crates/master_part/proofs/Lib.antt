@@ -4,3 +4,4 @@ pub mod Least
 pub mod ByKind
 pub mod RestorationMoves
 pub mod CloneMoves
+pub mod Owned

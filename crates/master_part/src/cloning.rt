@@ -1,5 +1,5 @@
 //! What the master's part does where a clone begins, and where its record moves.
-ghost use Rattle.std.specs.Prelude.{ℕ, ◌≡◌, ◌≤◌, ◌<◌, ◌+◌, ◌++◌, List, Some, OnOk, length, filter, map};
+ghost use Rattle.std.specs.Prelude.{ℕ, ◌≡◌, ◌≤◌, ◌<◌, ◌+◌, ◌++◌, ◌∷◌, [], List, Some, OnOk, length, filter, map};
 ghost use Rattle.std.specs.Option.{option_copied};
 ghost use Rattle.row_values.specs.Ids.{Id, id_bound, same};
 ghost use Rattle.model.specs.Parts.{Moves, BeginsClone};
@@ -14,7 +14,7 @@ ghost use Rattle.catalog_core.specs.Cloned.{TargetFits, target_of};
 ghost use Rattle.clone_coord.specs.Seen.{state_of};
 ghost use Rattle.clone_coord.specs.View.{entered_in};
 ghost use Rattle.master_part.specs.Going.{IsClone, OfClone, CloneFits, MakesServing, CloneEnters, ShowsBy};
-ghost use Rattle.master_part.specs.Cloning.{owner_by, Unowned, target_at};
+ghost use Rattle.master_part.specs.Cloning.{owner_by, Unowned, target_at, with_drawn, with_owners};
 
 use crate::fields::{
     clone_id, clone_source, clone_tables, clone_tablets, clone_target, snapshot_id,
@@ -51,13 +51,9 @@ impl MasterPart {
         requires made { (ns : Id) × ((source : List ℕ) × ((target : List ℕ) × ((to : ℕ) × (new_clone ns source target to self.old.master ≡ made)))) }
         ensures master { (ns : Id) (source target : List ℕ) (to : ℕ) → new_clone ns source target to self.old.master ≡ made → self.new.master ≡ master_effect (BeginsClone ns source target to) stamp self.old.master }
     {
-        self.clock = stamp;
-        self.drawn.namespaces += 1;
-        self.drawn.clones += 1;
-        self.drawn.tables += clone_tables(&made).len() as u64;
-        self.drawn.tablets += clone_tablets(&made).len() as u64;
-        add_owners(&mut self.catalog, clone_tables(&made), clone_target(&made));
-        self.clones.add(made);
+        self.draw_for_clone(&made, stamp);
+        self.own_tables(&made);
+        self.keep_clone(made);
     }
 
     /// An accepted clone that no snapshot serves makes one, in the room that was made.
@@ -150,6 +146,40 @@ impl MasterPart {
         self.begin_targets(operation, stamp);
         self.show_target(namespace, tables);
         self.enter_clone(&id, state, listed, stamp);
+    }
+
+    // The identifiers of a new clone are drawn.
+    fn draw_for_clone(&mut self, made: &CloneRecord, stamp: HybridTime)
+        requires fits { CloneFits made.now self.old.master }
+        ensures master { self.new.master ≡ with_drawn made.now stamp self.old.master }
+        ensures owners { self.new.catalog_room ≡ self.old.catalog_room }
+        ensures room { self.new.clone_room ≡ self.old.clone_room }
+    {
+        let tables = clone_tables(made).len() as u64;
+        let tablets = clone_tablets(made).len() as u64;
+        self.clock = stamp;
+        self.drawn.namespaces += 1;
+        self.drawn.tables += tables;
+        self.drawn.tablets += tablets;
+        self.drawn.clones += 1;
+    }
+
+    // The tables of a new clone get their namespace, in the room that was made.
+    fn own_tables(&mut self, made: &CloneRecord)
+        requires owners { length made.now.tables ≤ self.old.catalog_room }
+        requires unowned { Unowned made.now.target_id self.old.master.catalog.owners made.now.tables }
+        ensures master { self.new.master ≡ with_owners made.now self.old.master }
+        ensures room { self.new.clone_room ≡ self.old.clone_room }
+    {
+        add_owners(&mut self.catalog, clone_tables(made), clone_target(made));
+    }
+
+    // One record of a clone more, in the room that was made.
+    fn keep_clone(&mut self, made: CloneRecord)
+        requires room { 1 ≤ self.old.clone_room }
+        ensures master { self.new.master ≡ record self.old.master { clones = self.old.master.clones ++ made ∷ [] } }
+    {
+        self.clones.add(made);
     }
 
     // The unfinished clone of an identifier.

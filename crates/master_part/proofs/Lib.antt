@@ -5,3 +5,4 @@ pub mod ByKind
 pub mod RestorationMoves
 pub mod CloneMoves
 pub mod Owned
+pub mod Pruned

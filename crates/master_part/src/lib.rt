@@ -21,6 +21,7 @@ mod listed;
 mod moving;
 mod order;
 mod part;
+mod removing;
 mod sending;
 mod sent;
 mod switch;

@@ -22,6 +22,7 @@ mod part;
 mod sending;
 mod sent;
 mod switch;
+mod switching;
 mod told;
 mod within;
 

@@ -11,11 +11,13 @@ use Rattle.model.specs.History.{Legal, replay, held, most_entries, journal_of}
 use Rattle.law_invariants.specs.Invariant.{EndsBy, IsPast, MasterGood}
 use Rattle.law_invariants.proofs.Finding.{passes_both, second_fails, not_same, apart_by_number, none_found}
 use Rattle.law_invariants.proofs.Names.{name_fresh}
+use Rattle.law_invariants.proofs.Rising.{newest_most}
 use Rattle.law.proofs.Bounded.{tables_within}
 use Rattle.law.proofs.Drawing.{drawn_within, held_within}
 use Rattle.law.proofs.Law.{legal_holds}
 use Rattle.catalog_core.specs.Kept.{over_or_open, ends_by}
 use Rattle.master_part.specs.Acts.{IsLawful}
+use Rattle.master_laws.proofs.Homes.{homes}
 
 -- Identifiers
 
@@ -73,4 +75,14 @@ is_lawful slots history legal most =
       past = all_end_by m.catalog.tables m.clock good.tables.past;
       placed = λ i isin. let g = (inv.slots i.slot).each i isin refl in (g.slot_from, g.slot_to);
       complete = good.complete;
+      clones = ?;
+      places = ?;
+      unowned = good.tables.owners_drawn;
+      owned = good.tables.owned;
+      newest = λ t isin. newest_most m.catalog.tables t t good.tables.rise isin refl;
+      home = homes m.catalog.owners m.catalog.tables good.tables.owned;
+      one_restoration = ?;
+      one_clone = ?;
+      switches = ?;
+      shows = ?;
     }

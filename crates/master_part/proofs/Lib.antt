@@ -6,3 +6,4 @@ pub mod RestorationMoves
 pub mod CloneMoves
 pub mod Owned
 pub mod Pruned
+pub mod Switches

@@ -32,13 +32,13 @@ use tablet_inbox::Listed;
 use yb_ident::Ident;
 
 impl MasterPart {
-    /// Makes room for the record of a clone of so many tables.
-    pub fn prepare_clone(&mut self, tables: usize) -> Result<(), NoMemory>
+    /// Makes room for the record of a clone, and for what its tables reserve.
+    pub fn prepare_clone(&mut self, made: &CloneRecord) -> Result<(), NoMemory>
         ensures master { self.new.master ≡ self.old.master }
-        ensures owners { OnOk result (tables ≤ self.new.catalog_room) }
+        ensures owners { OnOk result (length made.now.tables ≤ self.new.catalog_room) }
         ensures room { OnOk result (1 ≤ self.new.clone_room) }
     {
-        self.catalog.prepare(tables)?;
+        self.catalog.prepare(clone_tables(made).len())?;
         self.clones.prepare()?;
         Ok(())
     }

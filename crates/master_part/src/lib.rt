@@ -25,6 +25,7 @@ mod removing;
 mod sending;
 mod sent;
 mod switch;
+mod switching;
 mod told;
 mod within;
 

@@ -1,5 +1,5 @@
 -- The move of a clone's record.
-use Rattle.std.proofs.Common.{ℕ, ◌≡◌, ◌≤◌, ◌<◌, ◌+◌, ◌++◌, ◌∷◌, ◌&&◌, [], Bool, true, false, not, List, Option, Some, None, length, refl, sym, ap, subst, ◌∙◌}
+use Rattle.std.proofs.Common.{ℕ, ◌≡◌, ◌≤◌, ◌++◌, ◌&&◌, [], true, not, List, Option, Some, None, length, refl, sym, ap, subst, ◌∙◌}
 use Rattle.std.specs.List.{filter}
 use Rattle.std.specs.Option.{option_map_or}
 use Rattle.row_values.specs.Ids.{Id, same}
@@ -97,8 +97,8 @@ pub goes_as : (state : Step) (listed : List Listed) (r : CloneRecord) (n : ℕ) 
 goes_as state listed r n m id operation fits found is_id =
     ap (λ (i : Id). enters i (state_of state) listed n m) is_id
     ∙ sym (alone_by r.state r n m (serving_clone m r) (schedule_of m.schedules r.source) refl refl fits.alone (found_is m.clones operation r found).1
-        ∙ ap (λ (s : CloneState). enters r.id s (clone_lists r.state (id_of_snapshot (serving_clone m r)) r n) n m) fits.into
-        ∙ ap (λ (ls : List Listed). enters r.id (state_of state) ls n m) fits.lists)
+    ∙ ap (λ (s : CloneState). enters r.id s (clone_lists r.state (id_of_snapshot (serving_clone m r)) r n) n m) fits.into
+    ∙ ap (λ (ls : List Listed). enters r.id (state_of state) ls n m) fits.lists)
 
 -- its rows are copied, and its target may become current
 pub record IsCopied (state : CloneState) (name : List ℕ) (tables : List TableRecord) (listed : List Listed) (r : CloneRecord) (n : ℕ) (m : Master) : Type 0 where
@@ -143,7 +143,7 @@ pub shows_as : (name : List ℕ) (tables : List TableRecord) (listed : List List
 shows_as name tables listed r n m begun shown id target state may is_begun is_shown is_id is_target is_state =
     let c = copied_by r.state name tables listed r n m may in
     shows_to name tables listed r n m begun shown id target state c.serving c.copied_at is_begun is_shown is_id is_target
-        (is_state c.serving c.copied_at c.copying) c.shows.named c.shows.has c.shows.lists
+    (is_state c.serving c.copied_at c.copying) c.shows.named c.shows.has c.shows.lists
     ∙ sym (ap (λ (s : CloneState). clone_moved s r n m) c.copying)
 
 -- that the target fits is so after its tablets are active
@@ -153,7 +153,13 @@ pub target_fits : (name : List ℕ) (tables : List TableRecord) (listed : List L
     × (tables ≡ cloned_tables x.tables begun.catalog.tables x.target_id x.to n)))
 target_fits name tables listed r n m begun target may is_begun is_target =
     let c = copied_by r.state name tables listed r n m may in
-    let same_catalog : m.catalog ≡ begun.catalog = sym (ap (λ (p : Master). p.catalog) is_begun) in
-    (r, (subst (λ (q : Catalog). TargetFits q r) same_catalog c.shows.may,
-        (ap (λ (i : Id). target_named i name n) is_target ∙ ap (λ (bytes : List ℕ). target_named r.target_id bytes n) (sym c.shows.named),
-        sym c.shows.has ∙ ap (λ (q : Catalog). cloned_tables r.tables q.tables r.target_id r.to n) same_catalog)))
+    let same_catalog : m.catalog ≡ begun.catalog = sym (ap (λ (p : Master). p.catalog) is_begun) in (
+      r,
+      (
+        subst (λ (q : Catalog). TargetFits q r) same_catalog c.shows.may,
+        (
+          ap (λ (i : Id). target_named i name n) is_target ∙ ap (λ (bytes : List ℕ). target_named r.target_id bytes n) (sym c.shows.named),
+          sym c.shows.has ∙ ap (λ (q : Catalog). cloned_tables r.tables q.tables r.target_id r.to n) same_catalog,
+        ),
+      ),
+    )

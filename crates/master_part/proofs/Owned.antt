@@ -1,13 +1,13 @@
 -- The tables of a new clone have no owner yet.
-use Rattle.std.proofs.Common.{ℕ, ◌≡◌, ◌<◌, ◌+◌, ◌++◌, Bool, true, false, List, [], ◌∷◌, Option, Some, None, if◌then◌else◌, refl, sym, ap, subst, ◌∙◌, arith}
+use Rattle.std.proofs.Common.{ℕ, ◌≡◌, ◌<◌, ◌+◌, ◌++◌, Bool, true, false, List, [], ◌∷◌, Some, None, if◌then◌else◌, refl, sym, ap, subst, arith}
 use Rattle.row_values.specs.Ids.{Id, Table, same}
 use Rattle.model.specs.Catalog.{TableRecord, Owner, owner_of}
 use Rattle.model.specs.Changed.{pair_tables, new_clone, clone_begun}
 use Rattle.model.specs.Lists.{numbered_as}
 use Rattle.model.specs.Parts.{Master}
-use Rattle.model.specs.Records.{CloneRecord, IdPair}
+use Rattle.model.specs.Records.{CloneRecord}
 use Rattle.law_invariants.proofs.Finding.{not_same, apart_by_number}
-use Rattle.master_part.specs.Cloning.{owner_by, Unowned, with_drawn, with_owners}
+use Rattle.master_part.specs.Cloning.{Unowned, with_drawn, with_owners}
 
 -- one owner more is not that of another table
 other_owner : (os : List Owner) (o : Owner) (table : Id) → same o.table table ≡ false → owner_of os table ≡ None → owner_of (os ++ o ∷ []) table ≡ None
@@ -23,10 +23,11 @@ pair_unowned : (ns : Id) (ts : List TableRecord) (os : List Owner) (drawn : ℕ)
     → Unowned ns os (pair_tables ts drawn)
 pair_unowned ns [] os drawn later = tt
 pair_unowned ns (t ∷ ts) os drawn later =
-    let id = numbered_as Table (drawn + 1) in
-    (later id (omega arith),
-    pair_unowned ns ts (os ++ record { table = id; namespace = ns } ∷ []) (drawn + 1)
-    (λ table above. other_owner os (record { table = id; namespace = ns }) table (not_same id table (apart_by_number id table above)) (later table (omega (arith, above)))))
+    let id = numbered_as Table (drawn + 1) in (
+      later id (omega arith),
+      pair_unowned ns ts (os ++ record { table = id; namespace = ns } ∷ []) (drawn + 1)
+          (λ table above. other_owner os (record { table = id; namespace = ns }) table (not_same id table (apart_by_number id table above)) (later table (omega (arith, above)))),
+    )
 
 pub begin_unowned : (ns : Id) (source target : List ℕ) (to : ℕ) (m : Master) (made : CloneRecord) (other : Id) → new_clone ns source target to m ≡ made
     → ((table : Id) → m.drawn.tables < table.number → owner_of m.catalog.owners table ≡ None)

@@ -1,10 +1,10 @@
 -- A prune by a list of cuts.
-use Rattle.std.proofs.Common.{ℕ, ◌≡◌, ◌||◌, Bool, true, false, not, cond, max, if◌then◌else◌, List, [], ◌∷◌, map, inl, inr, refl, sym, ap, ◌∙◌}
-use Rattle.std.specs.List.{filter, list_any}
+use Rattle.std.proofs.Common.{ℕ, ◌≡◌, ◌||◌, Bool, true, false, not, cond, max, if◌then◌else◌, List, [], ◌∷◌, map, inl, inr, refl, ap, ◌∙◌}
+use Rattle.std.specs.List.{filter}
 use Rattle.row_values.specs.Ids.{Id, same}
 use Rattle.row_values.specs.Elements.{In}
 use Rattle.model.specs.Times.{ended_by}
-use Rattle.model.specs.Catalog.{Catalog, NamespaceRecord, TableRecord, KeptFrom}
+use Rattle.model.specs.Catalog.{NamespaceRecord, TableRecord, KeptFrom}
 use Rattle.model.specs.Parts.{Master}
 use Rattle.model.specs.Cleanup.{has_records, is_old_namespace, is_old_table, raised_mark, pruned, prune_to}
 use Rattle.catalog_core.specs.Pruned.{pruned_by, space_goes, table_goes, mark_cut}
@@ -45,9 +45,9 @@ module _ (cut : Id → ℕ) (n : ℕ) (m : Master) (each : (ns : Id) → has_rec
   pub prunes : record m { clock = n; catalog = pruned_by cut m.catalog } ≡ pruned n m
   prunes =
       let spaces = filter_as (λ (r : NamespaceRecord). not (space_goes cut r)) (λ r. not (is_old_namespace m n r)) m.catalog.namespaces
-          (λ r isin. ap (λ (to : ℕ). not (ended_by to r.to)) (each r.id (has_space r isin))) in
+      (λ r isin. ap (λ (to : ℕ). not (ended_by to r.to)) (each r.id (has_space r isin))) in
       let tables = filter_as (λ (r : TableRecord). not (table_goes cut r)) (λ r. not (is_old_table m n r)) m.catalog.tables
-          (λ r isin. ap (λ (to : ℕ). not (ended_by to r.to)) (each r.namespace (has_table r isin))) in
+      (λ r isin. ap (λ (to : ℕ). not (ended_by to r.to)) (each r.namespace (has_table r isin))) in
       let marks = map_as (mark_cut cut m.catalog) (raised_mark m n) m.catalog.kept_from (λ k. mark_by k (has_records m.catalog k.namespace) refl) in
       let made : List NamespaceRecord → List TableRecord → List KeptFrom → Master = λ ss ts ks. record m { clock = n; catalog = record m.catalog { namespaces = ss; tables = ts; kept_from = ks } } in
       ap (λ ss. made ss (filter (λ r. not (table_goes cut r)) m.catalog.tables) (map (mark_cut cut m.catalog) m.catalog.kept_from)) spaces

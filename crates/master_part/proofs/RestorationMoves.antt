@@ -1,13 +1,13 @@
 -- The move of a restoration's record.
-use Rattle.std.proofs.Common.{ℕ, ◌≡◌, ◌≤◌, ◌+◌, ◌++◌, ◌∷◌, ◌&&◌, [], Bool, true, false, not, List, Some, None, length, refl, sym, ap, subst, ◌∙◌}
-use Rattle.std.specs.List.{filter, find}
+use Rattle.std.proofs.Common.{ℕ, ◌≡◌, ◌≤◌, ◌+◌, ◌&&◌, [], true, not, List, Some, None, length, refl, sym, ap, subst, ◌∙◌}
+use Rattle.std.specs.List.{filter}
 use Rattle.std.specs.Option.{option_map_or}
-use Rattle.row_values.specs.Ids.{Id, Restoration, same}
+use Rattle.row_values.specs.Ids.{Id, same}
 use Rattle.model.specs.Parts.{Master}
 use Rattle.model.specs.Records.{Listed, SnapshotRecord, RestorationRecord, RestorationState, Fencing, Snapshotting, Switching, Restoring, Releasing, Restored, is_restored, unsent}
 use Rattle.model.specs.Coordination.{unfinished_restoration}
-use Rattle.model.specs.Lists.{new_snapshot, next_snapshot, with_snapshot}
-use Rattle.model.specs.Moves.{moved, moved_of, restoration_moved, restoration_enters, restoration_next, restoration_lists, given_restoration}
+use Rattle.model.specs.Lists.{next_snapshot, with_snapshot}
+use Rattle.model.specs.Moves.{moved, moved_of, restoration_moved, restoration_next, restoration_lists, given_restoration}
 use Rattle.restore_coord.specs.Seen.{state_of}
 use Rattle.restore_coord.specs.View.{entered_in}
 use Rattle.restore_coord.specs.declared.state.RestorationState.{RestorationState as Step}

@@ -23,7 +23,12 @@ use yb_ident::Ident;
 
 impl MasterPart {
     /// A restoration whose tablets are fenced makes its own snapshot, in the room that was made.
-    pub fn snapshot_restoration(&mut self, operation: &Ident, made: SnapshotRecord, stamp: HybridTime)
+    pub fn snapshot_restoration(
+        &mut self,
+        operation: &Ident,
+        made: SnapshotRecord,
+        stamp: HybridTime,
+    )
         requires room { 1 ≤ self.old.snapshot_room }
         requires restoration { IsRestoration operation.now self.old.master }
         requires may { OfRestoration operation.now self.old.master (λ r. MakesSnapshot made r stamp self.old.master) }

@@ -40,7 +40,9 @@ impl MasterPart {
             MasterAct::SnapshotsClone { .. } => self.prepare_snapshot(),
             MasterAct::MovesClone { .. } => Ok(()),
             MasterAct::ShowsClone {
-                operation, tables, ..
+                operation,
+                tables,
+                ..
             } => self.prepare_target(operation, tables.len() as usize),
             MasterAct::Removes { .. } => Ok(()),
             MasterAct::Prunes { .. } => self.prepare_prune(),

@@ -1,4 +1,4 @@
-use Rattle.std.proofs.Common.{◌≡◌, ◌≤◌, ◌+◌, ◌++◌, drop, length, map}
+use Rattle.std.proofs.Common.{◌≡◌, ◌≤◌, ◌++◌, drop, length, map}
 use Rattle.master_part.specs.Cloning.{owner_by, Unowned}
 use Rattle.master_part.proofs.cloning.add_owners.Given as goal
 

@@ -1,4 +1,4 @@
-use Rattle.std.proofs.Common.{◌≡◌, sym, ap, subst, ◌∙◌}
+use Rattle.std.proofs.Common.{sym, ap, subst, ◌∙◌}
 use Rattle.model.specs.History.{master_effect}
 use Rattle.master_part.specs.Acts.{act_of, May}
 use Rattle.master_part.specs.declared.act.MasterAct.{MasterAct}

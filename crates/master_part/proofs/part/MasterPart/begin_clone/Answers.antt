@@ -1,5 +1,4 @@
-use Rattle.std.proofs.Common.{◌≡◌, ◌≤◌, length, sym, ap, subst, ◌∙◌}
-use Rattle.model.specs.Catalog.{Owner}
+use Rattle.std.proofs.Common.{◌≤◌, length, sym, subst}
 use Rattle.model.specs.Parts.{Master}
 use Rattle.master_part.specs.Cloning.{Unowned}
 use Rattle.master_part.proofs.Owned.{begin_unowned, begun_as}

@@ -1,4 +1,4 @@
-use Rattle.std.proofs.Common.{◌≡◌, ap, ◌∙◌}
+use Rattle.std.proofs.Common.{ap, ◌∙◌}
 use Rattle.model.specs.Parts.{Master}
 use Rattle.master_part.specs.Going.{cut_of}
 use Rattle.master_part.proofs.Pruned.{prunes}

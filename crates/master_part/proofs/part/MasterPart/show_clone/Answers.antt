@@ -1,4 +1,4 @@
-use Rattle.std.proofs.Common.{◌≡◌, ◌≤◌, Some, List, length, sym, ap, subst, ◌∙◌}
+use Rattle.std.proofs.Common.{◌≤◌, List, length, sym, ap, subst, ◌∙◌}
 use Rattle.std.specs.List.{filter}
 use Rattle.std.specs.Option.{option_copied}
 use Rattle.row_values.specs.Ids.{Id, same}
@@ -41,7 +41,7 @@ returns c =
     record {
       master = c.enter_clone.ensures.master
           ∙ shows_as c.args.name c.args.tables c.args.listed r c.args.stamp m c.begin_targets.new.self.master c.show_target.new.self.master
-              c.clone_id-id.result c.clone_target.result (state_of c.after_copies-state.result) (c.requires.may r there) (c.begin_targets.ensures.master r there)
-              c.show_target.ensures.master c.clone_id-id.ensures.exact c.clone_target.ensures.exact c.after_copies-state.ensures.exact
+          c.clone_id-id.result c.clone_target.result (state_of c.after_copies-state.result) (c.requires.may r there) (c.begin_targets.ensures.master r there)
+          c.show_target.ensures.master c.clone_id-id.ensures.exact c.clone_target.ensures.exact c.after_copies-state.ensures.exact
           ∙ sym (it_moves c.args.operation.now c.args.stamp m r c.requires.clone there);
     }

@@ -1,10 +1,10 @@
-use Rattle.std.proofs.Common.{◌≡◌, ◌≤◌, Some, List, length, sym, ap, subst, ◌∙◌}
+use Rattle.std.proofs.Common.{◌≤◌, List, length, sym, ap, subst, ◌∙◌}
 use Rattle.std.specs.List.{filter}
 use Rattle.std.specs.Option.{option_copied}
 use Rattle.row_values.specs.Ids.{Id, same}
 use Rattle.model.specs.Parts.{Master}
 use Rattle.model.specs.Records.{CloneRecord}
-use Rattle.master_part.proofs.CloneMoves.{none_moves, it_moves, found_once, made_is, snapshots_as}
+use Rattle.master_part.proofs.CloneMoves.{it_moves, found_once, made_is, snapshots_as}
 use Rattle.master_part.proofs.part.MasterPart.snapshot_clone.Goals as goal
 
 pub begin_snapshot-requires-clause-few : goal.begin_snapshot-requires-clause-few
@@ -38,8 +38,8 @@ returns c =
     record {
       master = c.enter_clone.ensures.master
           ∙ snapshots_as c.args.made r c.args.stamp m c.begin_snapshot.new.self.master c.clone_id-id.result
-              c.clone_source-namespace.result c.snapshot_schedule-schedule.result c.snapshot_id.result c.new-listed.result
-              (c.requires.may r there) c.begin_snapshot.ensures.master c.clone_id-id.ensures.exact c.clone_source-namespace.ensures.exact
-              c.snapshot_schedule-schedule.ensures.exact c.snapshot_id.ensures.exact c.new-listed.ensures.empty
+          c.clone_source-namespace.result c.snapshot_schedule-schedule.result c.snapshot_id.result c.new-listed.result
+          (c.requires.may r there) c.begin_snapshot.ensures.master c.clone_id-id.ensures.exact c.clone_source-namespace.ensures.exact
+          c.snapshot_schedule-schedule.ensures.exact c.snapshot_id.ensures.exact c.new-listed.ensures.empty
           ∙ sym (it_moves c.args.operation.now c.args.stamp m r c.requires.clone there);
     }

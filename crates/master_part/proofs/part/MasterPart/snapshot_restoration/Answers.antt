@@ -1,10 +1,10 @@
-use Rattle.std.proofs.Common.{◌≡◌, ◌≤◌, Some, List, length, sym, ap, subst, ◌∙◌}
+use Rattle.std.proofs.Common.{◌≤◌, List, length, sym, ap, subst, ◌∙◌}
 use Rattle.std.specs.List.{filter}
 use Rattle.std.specs.Option.{option_copied}
 use Rattle.row_values.specs.Ids.{Id, same}
 use Rattle.model.specs.Parts.{Master}
 use Rattle.model.specs.Records.{RestorationRecord}
-use Rattle.master_part.proofs.RestorationMoves.{none_moves, it_moves, found_once, snapshots_as}
+use Rattle.master_part.proofs.RestorationMoves.{it_moves, found_once, snapshots_as}
 use Rattle.master_part.proofs.part.MasterPart.snapshot_restoration.Goals as goal
 
 pub plus_one-requires : goal.plus_one-requires
@@ -36,8 +36,8 @@ returns c =
     record {
       master = c.enter_restoration.ensures.master
           ∙ snapshots_as c.args.made r c.args.stamp m c.begin_snapshot.new.self.master c.restoration_id-id.result
-              c.restoration_namespace-namespace.result c.restoration_schedule-schedule.result c.snapshot_id.result c.plus_one.result c.new-listed.result
-              (c.requires.may r there) c.begin_snapshot.ensures.master c.restoration_id-id.ensures.exact c.restoration_namespace-namespace.ensures.exact
-              c.restoration_schedule-schedule.ensures.exact c.snapshot_id.ensures.exact c.plus_one.ensures.value c.new-listed.ensures.empty
+          c.restoration_namespace-namespace.result c.restoration_schedule-schedule.result c.snapshot_id.result c.plus_one.result c.new-listed.result
+          (c.requires.may r there) c.begin_snapshot.ensures.master c.restoration_id-id.ensures.exact c.restoration_namespace-namespace.ensures.exact
+          c.restoration_schedule-schedule.ensures.exact c.snapshot_id.ensures.exact c.plus_one.ensures.value c.new-listed.ensures.empty
           ∙ sym (it_moves c.args.operation.now c.args.stamp m r c.requires.restoration there);
     }

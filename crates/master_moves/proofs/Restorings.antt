@@ -1,5 +1,5 @@
 -- What is found of a restoration by its identifier.
-use Rattle.std.proofs.Common.{ℕ, ◌≡◌, ◌<◌, ◌+◌, ◌&&◌, not, Option, Some, None, refl, sym, ap, subst, ◌∙◌, arith}
+use Rattle.std.proofs.Common.{ℕ, ◌≡◌, ◌<◌, ◌+◌, ◌&&◌, not, Some, None, sym, ap, subst, ◌∙◌, arith}
 use Rattle.row_values.specs.Ids.{Id, same, Restoration, Snapshot, id_bound}
 use Rattle.model.specs.Coordination.{unfinished_restoration}
 use Rattle.model.specs.Parts.{Master, Parts, refused}

@@ -19,7 +19,8 @@ ghost use Rattle.master_part.specs.Decisions.{outcome_by, MayDo};
 
 use crate::coordinating::{not_pending, waiting, waits_for};
 use crate::fields::{
-    listed_by_restoration, restoration_namespace, restoration_schedule, restoration_time, snapshot_id,
+    listed_by_restoration, restoration_namespace, restoration_schedule, restoration_time,
+    snapshot_id,
 };
 use crate::lists::{brought_back, released};
 use crate::switching::{switch_list, tables_back};
@@ -230,7 +231,15 @@ fn switch_of(
     let tables = tables_back(master, &namespace, to, point)?;
     let active = tablets_active_at(master.catalog(), master.tablets(), namespace, to)?;
     let back = tables.as_slice();
-    let listed = switch_list(master, &namespace, active.as_slice(), to, point, serving, back)?;
+    let listed = switch_list(
+        master,
+        &namespace,
+        active.as_slice(),
+        to,
+        point,
+        serving,
+        back,
+    )?;
     Ok(Switch {
         tables,
         active: Records::from_vec(active),
@@ -242,7 +251,10 @@ fn switch_of(
 fn serving_or(master: &MasterPart, restoration: &RestorationRecord, own: Ident) -> Ident
     ensures exact { result ≡ unwrap_or (id_of_snapshot (serving_restoration master.now.master restoration.now)) own }
 {
-    match master.snapshots().serving(&restoration.namespace, restoration.to) {
+    match master
+        .snapshots()
+        .serving(&restoration.namespace, restoration.to)
+    {
         Some(snapshot) => snapshot_id(snapshot),
         None => own,
     }

@@ -1,4 +1,4 @@
-use Rattle.std.proofs.Common.{ℕ, ◌≡◌, List, map, sym, ap, ap₂, ◌∙◌}
+use Rattle.std.proofs.Common.{ℕ, List, map, sym, ap, ap₂, ◌∙◌}
 use Rattle.row_values.specs.Ids.{Id}
 use Rattle.model.specs.Catalog.{TableRecord}
 use Rattle.model.specs.Restored.{concerned, restored_tables, switch_list}
@@ -15,8 +15,8 @@ returns-clause-listed c =
     let to = c.restoration_time-to.result in
     let back = c.as_slice-back.ensures.same ∙ c.in_ok-tables.ensures.exact in
     let listed = c.in_ok-listed.ensures.exact
-        ∙ ap (λ (ts : List TableRecord). map (line_with to point serving ts) (concerned m.catalog.owners m.activity ns to)) back
-        ∙ switch_is m c.requires.lawful ns to point serving in
+    ∙ ap (λ (ts : List TableRecord). map (line_with to point serving ts) (concerned m.catalog.owners m.activity ns to)) back
+    ∙ switch_is m c.requires.lawful ns to point serving in
     ap₂ (λ (ns : Id) (to : ℕ). switch_list m.catalog.owners m.activity ns to point serving (restored_tables m.catalog.tables ns to point))
-        (sym c.restoration_namespace-namespace.ensures.exact) (sym c.restoration_time-to.ensures.exact)
+    (sym c.restoration_namespace-namespace.ensures.exact) (sym c.restoration_time-to.ensures.exact)
     ∙ sym listed

@@ -1,15 +1,15 @@
 -- What the advance of a clone comes to, by the record that is found.
-use Rattle.std.proofs.Common.{ℕ, ◌≡◌, ◌≤◌, ◌<◌, ◌+◌, ◌&&◌, not, List, Option, Some, None, refl, sym, ap, subst, ◌∙◌, arith}
+use Rattle.std.proofs.Common.{ℕ, ◌≡◌, ◌≤◌, ◌<◌, ◌+◌, ◌&&◌, not, Some, None, refl, sym, ap, subst, ◌∙◌, arith}
 use Rattle.std.specs.Option.{option_map}
 use Rattle.row_values.specs.Elements.{In}
 use Rattle.row_values.specs.Ids.{Id, Clone, Snapshot, same, id_bound}
 use Rattle.model.specs.Times.{holds_at}
 use Rattle.model.specs.Catalog.{TableRecord}
 use Rattle.model.specs.Coordination.{unfinished_clone}
-use Rattle.model.specs.Moves.{Progress, advance, advancing, clone_progress, progress_of}
+use Rattle.model.specs.Moves.{advance, advancing, progress_of, clone_progress, awaited_by_clone, after_clone, waits_for, moving}
 use Rattle.model.specs.Acts.{NotPending}
 use Rattle.model.specs.Parts.{Master, Parts, refused}
-use Rattle.model.specs.Records.{CloneRecord, CloneState, Accepted, CloneSnapshot, Copying, CloneReleasing, CloneComplete, is_cloned}
+use Rattle.model.specs.Records.{CloneRecord, CloneState, Accepted, CloneSnapshot, Copying, CloneReleasing, CloneComplete, first_unacked, is_cloned}
 use Rattle.model.specs.Restored.{newest, record_at}
 use Rattle.catalog_core.specs.Cloned.{TargetFits}
 use Rattle.law_invariants.proofs.Finding.{find_is}
@@ -47,21 +47,21 @@ target_fits m id r lawful found copying =
     by (CloneReleasing serving copied_at) is k = absurd k
     by (CloneComplete serving copied_at) is k = absurd k
 
--- the advance goes by the record that is found
-
-advance_by : (operation : Id) (n : ℕ) (ps : Parts) → operation.kind ≡ Clone
-    → advance operation n ps ≡ advancing (progress_of Clone ps.master operation) operation
+-- an advance of a clone that was found is its move
+pub advance_is : (m : Master) (id : Id) (r : CloneRecord) (n : ℕ) (ps : Parts) → ps.master ≡ m → id.kind ≡ Clone
+    → unfinished_clone m.clones id ≡ Some r
+    → advance id n ps ≡ moving (waits_for (first_unacked r.listed) (awaited_by_clone r.state m r)) id (after_clone m r)
 unfolding advance
-advance_by operation n ps is = ap (λ k. advancing (progress_of k ps.master operation) operation) is
+advance_is m id r n ps is kind found =
+    ap (λ m. advancing (progress_of id.kind m id) id) is
+    ∙ ap (λ k. advancing (progress_of k m id) id) kind
+    ∙ ap (λ o. advancing (option_map (clone_progress m) o) id) found
 
-pub no_advance : (operation : Id) (n : ℕ) (ps : Parts) → operation.kind ≡ Clone → unfinished_clone ps.master.clones operation ≡ None
-    → advance operation n ps ≡ refused (NotPending operation)
-no_advance operation n ps is none =
-    advance_by operation n ps is
-    ∙ ap (λ (o : Option CloneRecord). advancing (option_map (clone_progress ps.master) o) operation) none
-
-pub advance_is : (operation : Id) (n : ℕ) (ps : Parts) (r : CloneRecord) → operation.kind ≡ Clone → unfinished_clone ps.master.clones operation ≡ Some r
-    → advance operation n ps ≡ advancing (Some (clone_progress ps.master r)) operation
-advance_is operation n ps r is found =
-    advance_by operation n ps is
-    ∙ ap (λ (o : Option CloneRecord). advancing (option_map (clone_progress ps.master) o) operation) found
+-- and of one that was not found is refused
+pub no_advance : (m : Master) (id : Id) (n : ℕ) (ps : Parts) → ps.master ≡ m → id.kind ≡ Clone → unfinished_clone m.clones id ≡ None
+    → advance id n ps ≡ refused (NotPending id)
+unfolding advance
+no_advance m id n ps is kind found =
+    ap (λ m. advancing (progress_of id.kind m id) id) is
+    ∙ ap (λ k. advancing (progress_of k m id) id) kind
+    ∙ ap (λ o. advancing (option_map (clone_progress m) o) id) found

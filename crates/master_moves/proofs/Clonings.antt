@@ -1,5 +1,5 @@
 -- What the advance of a clone comes to, by the record that is found.
-use Rattle.std.proofs.Common.{ℕ, ◌≡◌, ◌≤◌, ◌<◌, ◌+◌, ◌&&◌, not, Some, None, refl, sym, ap, subst, ◌∙◌, arith}
+use Rattle.std.proofs.Common.{ℕ, ◌≡◌, ◌≤◌, ◌<◌, ◌+◌, ◌&&◌, not, Some, None, refl, ap, subst, ◌∙◌, arith}
 use Rattle.std.specs.Option.{option_map}
 use Rattle.row_values.specs.Elements.{In}
 use Rattle.row_values.specs.Ids.{Id, Clone, Snapshot, same, id_bound}

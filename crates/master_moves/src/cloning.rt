@@ -73,17 +73,11 @@ fn decide_move(
             Ok(enters(master, clone, operation, entered, stamp))
         }
         CloneState::Copying { .. } => decide_show(master, clone, operation, stamp),
-        CloneState::Releasing {
-            serving,
-            copied_at,
-        } => {
+        CloneState::Releasing { serving, copied_at } => {
             let entered = complete(master, serving, copied_at);
             Ok(enters(master, clone, operation, entered, stamp))
         }
-        CloneState::Complete {
-            serving,
-            copied_at,
-        } => {
+        CloneState::Complete { serving, copied_at } => {
             let entered = complete(master, serving, copied_at);
             Ok(enters(master, clone, operation, entered, stamp))
         }
@@ -105,10 +99,7 @@ fn complete(master: &MasterPart, serving: Ident, copied_at: HybridTime) -> Enter
     ensures told { replies.state_of result.told ≡ records.IsComplete }
 {
     Entered {
-        state: CloneState::Complete {
-            serving,
-            copied_at,
-        },
+        state: CloneState::Complete { serving, copied_at },
         listed: Records::new(master.alloc()),
         told: State::Complete,
     }

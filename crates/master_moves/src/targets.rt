@@ -1,5 +1,5 @@
 //! What a clone's targets are: their tables, and the rows that their tablets copy.
-ghost use Rattle.std.specs.Prelude.{ℕ, ◌≡◌, ◌≤◌, ◌++◌, [], ◌∷◌, false, IfOk, OnOk};
+ghost use Rattle.std.specs.Prelude.{◌≡◌, ◌≤◌, ◌++◌, [], ◌∷◌, false, IfOk, OnOk};
 ghost use Rattle.std.specs.Option.{option_map_or};
 ghost use Rattle.row_values.specs.Ids.{Id};
 ghost use Rattle.model.specs.Tablets.{Copy};

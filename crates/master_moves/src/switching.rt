@@ -64,8 +64,8 @@ fn back_at(
     })
 }
 
-// The newest kept schema of the table of a record.
-fn newest<'a>(catalog: &'a Catalog, table: &'a TableRecord) -> &'a Schema
+/// The newest kept schema of the table of a record.
+pub(crate) fn newest<'a>(catalog: &'a Catalog, table: &'a TableRecord) -> &'a Schema
     ensures exact { result.now ≡ newest catalog.now.catalog.tables table.now }
 {
     match catalog.latest(&table_id(table)) {

@@ -17,6 +17,7 @@ mod fields;
 mod found;
 mod free;
 mod listed;
+mod numbering;
 mod order;
 mod part;
 mod sending;
@@ -31,7 +32,9 @@ pub use change::{PartChange, PartKind};
 pub use cut::Cut;
 pub use decision::Decision;
 pub use drawn::Drawn;
-pub use fields::{number_of, schedule_id, scheduled_namespace, table_id, tablet_of};
+pub use fields::{
+    number_of, schedule_id, scheduled_namespace, table_id, table_number, tablet_of,
+};
 pub use listed::{by_table_and_number, listing};
 pub use order::{Orders, put_all_in_order};
 pub use part::MasterPart;

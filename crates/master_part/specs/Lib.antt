@@ -1,6 +1,7 @@
 pub mod View
 pub mod Free
 pub mod Tables
+pub mod Going
 pub mod Acts
 pub mod Decisions
 pub mod Answers

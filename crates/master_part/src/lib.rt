@@ -9,6 +9,7 @@
 mod act;
 mod beginning;
 mod change;
+mod cut;
 mod decision;
 mod drawn;
 mod effects;
@@ -16,21 +17,27 @@ mod fields;
 mod found;
 mod free;
 mod listed;
+mod numbering;
 mod order;
 mod part;
 mod sending;
 mod sent;
+mod switch;
 mod told;
 mod within;
 
 pub use act::MasterAct;
 pub use beginning::new_snapshot;
 pub use change::{PartChange, PartKind};
+pub use cut::Cut;
 pub use decision::Decision;
 pub use drawn::Drawn;
-pub use fields::{number_of, schedule_id, scheduled_namespace, table_id, tablet_of};
-pub use listed::listing;
+pub use fields::{
+    number_of, schedule_id, scheduled_namespace, table_id, table_number, tablet_of,
+};
+pub use listed::{by_table_and_number, listing};
 pub use order::{Orders, put_all_in_order};
 pub use part::MasterPart;
 pub use sent::Sent;
+pub use switch::Switch;
 pub use within::{once, tablets_active_within};

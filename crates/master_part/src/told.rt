@@ -33,6 +33,15 @@ impl MasterPart {
             MasterAct::Acks { .. } => Ok(()),
             MasterAct::Unsends { .. } => Ok(()),
             MasterAct::CompletesSnapshot { .. } => Ok(()),
+            MasterAct::SnapshotsRestoration { .. } => Err(NoMemory),
+            MasterAct::MovesRestoration { .. } => Err(NoMemory),
+            MasterAct::SwitchesRestoration { .. } => Err(NoMemory),
+            MasterAct::BeginsClone { .. } => Err(NoMemory),
+            MasterAct::SnapshotsClone { .. } => Err(NoMemory),
+            MasterAct::MovesClone { .. } => Err(NoMemory),
+            MasterAct::ShowsClone { .. } => Err(NoMemory),
+            MasterAct::Removes { .. } => Err(NoMemory),
+            MasterAct::Prunes { .. } => Err(NoMemory),
             MasterAct::Restarts => Ok(()),
         }
     }
@@ -100,6 +109,15 @@ impl MasterPart {
             MasterAct::Acks { operation, slot } => self.ack(&operation, slot, stamp),
             MasterAct::Unsends { operation, slot } => self.unsend(&operation, slot, stamp),
             MasterAct::CompletesSnapshot { operation } => self.complete_snapshot(&operation, stamp),
+            MasterAct::SnapshotsRestoration { .. } => unreachable!(),
+            MasterAct::MovesRestoration { .. } => unreachable!(),
+            MasterAct::SwitchesRestoration { .. } => unreachable!(),
+            MasterAct::BeginsClone { .. } => unreachable!(),
+            MasterAct::SnapshotsClone { .. } => unreachable!(),
+            MasterAct::MovesClone { .. } => unreachable!(),
+            MasterAct::ShowsClone { .. } => unreachable!(),
+            MasterAct::Removes { .. } => unreachable!(),
+            MasterAct::Prunes { .. } => unreachable!(),
             MasterAct::Restarts => self.restart(stamp),
         }
     }

@@ -1,13 +1,13 @@
 //! What the acts of a coordinator come to: a send, an ack, and the advance of a snapshot.
-ghost use Rattle.std.specs.Prelude.{ℕ, ◌≡◌, IfOk};
-ghost use Rattle.row_values.specs.Ids.{Snapshot};
+ghost use Rattle.std.specs.Prelude.{ℕ, ◌≡◌, Some, IfOk};
+ghost use Rattle.row_values.specs.Ids.{Id, Snapshot};
 ghost use Rattle.model.specs.Parts.{Master, Parts, refused};
 ghost use Rattle.model.specs.Acts.{NotPending};
 ghost use Rattle.model.specs.Records as records;
 ghost use Rattle.std.specs.Option.{option_map};
 ghost use Rattle.model.specs.Tablets.{Tablet, kind_of};
 ghost use Rattle.model.specs.Coordination.{pending, send, ack, command_for};
-ghost use Rattle.model.specs.Moves.{advance};
+ghost use Rattle.model.specs.Moves.{advance, moving, waits_for};
 ghost use Rattle.master_part.specs.Decisions.{outcome_by, MayDo, is_marked};
 
 use cluster_events::{Refusal, Reply, State};
@@ -112,8 +112,26 @@ fn awaited_in(snapshot: &SnapshotRecord) -> Option<Listed>
     first_unacked(snapshot.listed.as_slice())
 }
 
-// There is no such operation, or it doesn't wait for the tablet.
-fn not_pending(operation: &Ident) -> Decision
+/// What a move waits for: the first listed tablet that has not said that it did its part, and else a snapshot.
+pub(crate) fn waits_for(listed: &[Listed], awaited: Option<Ident>) -> Option<Ident>
+    ensures exact { result ≡ waits_for (records.first_unacked listed.now) awaited }
+{
+    match first_unacked(listed) {
+        Some(next) => Some(next.tablet),
+        None => awaited,
+    }
+}
+
+/// A move waits for a tablet or a snapshot.
+pub(crate) fn waiting(on: Ident) -> Decision
+    ensures plan { (parts : ℕ → Tablet) (operation : Id) (next : records.State) → outcome_by parts result ≡ moving (Some on) operation next }
+    ensures may { (n : ℕ) (m : Master) → MayDo result n m }
+{
+    Decision::Answers(Reply::Refused(Refusal::Waiting { on }))
+}
+
+/// There is no such operation, or it doesn't wait for the tablet.
+pub(crate) fn not_pending(operation: &Ident) -> Decision
     ensures plan { (parts : ℕ → Tablet) → outcome_by parts result ≡ refused (NotPending operation.now) }
     ensures may { (n : ℕ) (m : Master) → MayDo result n m }
 {

@@ -18,6 +18,7 @@ use Rattle.law.proofs.Law.{legal_holds}
 use Rattle.catalog_core.specs.Kept.{over_or_open, ends_by}
 use Rattle.master_part.specs.Acts.{IsLawful}
 use Rattle.master_laws.proofs.Homes.{homes}
+use Rattle.master_laws.proofs.Targets.{target_fits}
 
 -- Identifiers
 
@@ -84,5 +85,5 @@ is_lawful slots history legal most =
       one_restoration = ?;
       one_clone = ?;
       switches = ?;
-      shows = ?;
+      shows = λ r serving copied_at isin is. target_fits m (journal_of slots history) r serving copied_at (inv.operations.clones r isin) good.tables.owned is;
     }

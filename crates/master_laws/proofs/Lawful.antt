@@ -7,7 +7,7 @@ use Rattle.model.specs.Catalog.{TableRecord, current_table}
 use Rattle.model.specs.Changed.{next_namespace, next_table}
 use Rattle.model.specs.Drawn.{drawn_of, most_slots}
 use Rattle.model.specs.Entries.{Entry}
-use Rattle.model.specs.History.{Legal, replay, held, most_entries, journal_of}
+use Rattle.model.specs.History.{Legal, replay, held, most_entries, activity_of, journal_of}
 use Rattle.law_invariants.specs.Invariant.{EndsBy, IsPast, MasterGood}
 use Rattle.law_invariants.proofs.Finding.{passes_both, second_fails, not_same, apart_by_number, none_found}
 use Rattle.law_invariants.proofs.Names.{name_fresh}
@@ -18,6 +18,7 @@ use Rattle.law.proofs.Law.{legal_holds}
 use Rattle.catalog_core.specs.Kept.{over_or_open, ends_by}
 use Rattle.master_part.specs.Acts.{IsLawful}
 use Rattle.master_laws.proofs.Homes.{homes}
+use Rattle.master_laws.proofs.Places.{places_few}
 use Rattle.master_laws.proofs.Targets.{target_fits}
 
 -- Identifiers
@@ -77,7 +78,7 @@ is_lawful slots history legal most =
       placed = λ i isin. let g = (inv.slots i.slot).each i isin refl in (g.slot_from, g.slot_to);
       complete = good.complete;
       clones = ?;
-      places = ?;
+      places = places_few (replay slots history) (activity_of slots history) (journal_of slots history) inv;
       unowned = good.tables.owners_drawn;
       owned = good.tables.owned;
       newest = λ t isin. newest_most m.catalog.tables t t good.tables.rise isin refl;

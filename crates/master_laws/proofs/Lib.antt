@@ -1,3 +1,4 @@
 pub mod Homes
 pub mod Targets
+pub mod Places
 pub mod Lawful

@@ -2,10 +2,8 @@
 use Rattle.std.specs.Prelude.{ℕ, ◌≡◌, ◌≤◌, ◌<◌, ◌+◌, Bool, true, false, List, [], ◌∷◌, Option, Some, None, length, filter, if◌then◌else◌}
 use Rattle.row_values.specs.Ids.{Id, Restoration as RestorationKind, Clone as CloneKind, same, id_bound}
 use Rattle.model.specs.Times.{end_of_time}
-use Rattle.model.specs.Activity.{Interval}
 use Rattle.model.specs.Catalog.{TableRecord, owner_of}
 use Rattle.model.specs.Parts.{Master}
-use Rattle.model.specs.Records as book
 use Rattle.model.specs.Records.{Schedule, Listed, SnapshotRecord, RestorationRecord, CloneRecord, RestorationState, CloneState, Fencing, Snapshotting, Switching, Restoring, Releasing, Restored, Accepted, CloneSnapshot, Copying, CloneReleasing, CloneComplete, schedule_of}
 use Rattle.model.specs.Coordination.{unfinished_restoration, unfinished_clone}
 use Rattle.model.specs.Lists.{new_snapshot, tablets_active_at}

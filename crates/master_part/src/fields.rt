@@ -1,12 +1,13 @@
 //! Fields of records, as the book's.
 ghost use Rattle.std.specs.Prelude.{◌≡◌};
+ghost use Rattle.restore_coord.specs.Seen as restorations;
 ghost use Rattle.yb_ident.specs.Seen as kinds;
 
 use catalog_core::TableRecord;
 use catalog_tablets::Interval;
 use clone_coord::CloneRecord;
 use hybrid_time::HybridTime;
-use restore_coord::RestorationRecord;
+use restore_coord::{RestorationRecord, RestorationState};
 use schedules::Schedule;
 use snapshot_coord::SnapshotRecord;
 use yb_ident::{Ident, Kind};
@@ -15,6 +16,20 @@ pub fn restoration_id(restoration: &RestorationRecord) -> Ident
     ensures exact { result ≡ restoration.now.id }
 {
     restoration.id
+}
+
+/// The namespace of a restoration.
+pub fn restoration_namespace(restoration: &RestorationRecord) -> Ident
+    ensures exact { result ≡ restoration.now.namespace }
+{
+    restoration.namespace
+}
+
+/// How far a restoration is.
+pub fn restoration_state(restoration: &RestorationRecord) -> RestorationState
+    ensures exact { restorations.state_of result ≡ restoration.now.state }
+{
+    restoration.state
 }
 
 pub fn clone_id(clone: &CloneRecord) -> Ident

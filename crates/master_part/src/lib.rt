@@ -23,6 +23,7 @@ mod part;
 mod sending;
 mod sent;
 mod switch;
+mod switching;
 mod told;
 mod within;
 

@@ -5,7 +5,7 @@ ghost use Rattle.yb_ident.specs.Seen as kinds;
 
 use catalog_core::TableRecord;
 use catalog_tablets::Interval;
-use clone_coord::CloneRecord;
+use clone_coord::{CloneRecord, IdPair, TabletPair};
 use hybrid_time::HybridTime;
 use restore_coord::{RestorationRecord, RestorationState};
 use schedules::Schedule;
@@ -25,6 +25,12 @@ pub fn restoration_namespace(restoration: &RestorationRecord) -> Ident
     restoration.namespace
 }
 
+pub fn restoration_schedule(restoration: &RestorationRecord) -> Ident
+    ensures exact { result ≡ restoration.now.schedule }
+{
+    restoration.schedule
+}
+
 /// How far a restoration is.
 pub fn restoration_state(restoration: &RestorationRecord) -> RestorationState
     ensures exact { restorations.state_of result ≡ restoration.now.state }
@@ -36,6 +42,34 @@ pub fn clone_id(clone: &CloneRecord) -> Ident
     ensures exact { result ≡ clone.now.id }
 {
     clone.id
+}
+
+/// The namespace that a clone takes its tables from.
+pub fn clone_source(clone: &CloneRecord) -> Ident
+    ensures exact { result ≡ clone.now.source }
+{
+    clone.source
+}
+
+/// The namespace that a clone makes.
+pub fn clone_target(clone: &CloneRecord) -> Ident
+    ensures exact { result ≡ clone.now.target_id }
+{
+    clone.target_id
+}
+
+/// The tables of a clone.
+pub fn clone_tables(clone: &CloneRecord) -> &[IdPair]
+    ensures exact { result.now ≡ clone.now.tables }
+{
+    clone.tables.as_slice()
+}
+
+/// The tablets of a clone.
+pub fn clone_tablets(clone: &CloneRecord) -> &[TabletPair]
+    ensures exact { result.now ≡ clone.now.tablets }
+{
+    clone.tablets.as_slice()
 }
 
 /// The identifier of a table.
@@ -63,6 +97,12 @@ pub fn snapshot_id(snapshot: &SnapshotRecord) -> Ident
     ensures exact { result ≡ snapshot.now.id }
 {
     snapshot.id
+}
+
+pub fn snapshot_schedule(snapshot: &SnapshotRecord) -> Ident
+    ensures exact { result ≡ snapshot.now.schedule }
+{
+    snapshot.schedule
 }
 
 pub fn snapshot_namespace(snapshot: &SnapshotRecord) -> Ident

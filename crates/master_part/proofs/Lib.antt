@@ -2,3 +2,4 @@ pub mod Slots
 pub mod Ordering
 pub mod Least
 pub mod ByKind
+pub mod Same

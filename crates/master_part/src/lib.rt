@@ -32,11 +32,14 @@ pub use change::{PartChange, PartKind};
 pub use cut::Cut;
 pub use decision::Decision;
 pub use drawn::Drawn;
-pub use fields::{kind_of, number_of, schedule_id, scheduled_namespace, table_id, tablet_of};
+pub use fields::{
+    kind_of, number_of, schedule_id, scheduled_namespace, snapshot_id, snapshot_namespace,
+    snapshot_time, table_id, tablet_of,
+};
 pub use listed::listing;
 pub use order::{Orders, put_all_in_order};
 pub use part::MasterPart;
-pub use placing::put_slot;
+pub use placing::{put_slot, same_slots};
 pub use sent::Sent;
 pub use switch::Switch;
 pub use within::{once, tablets_active_within};

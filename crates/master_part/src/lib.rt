@@ -23,6 +23,7 @@ mod placing;
 mod sending;
 mod sent;
 mod switch;
+mod telling;
 mod told;
 mod within;
 
@@ -42,4 +43,5 @@ pub use part::MasterPart;
 pub use placing::{put_slot, same_slots};
 pub use sent::Sent;
 pub use switch::Switch;
+pub use telling::told_all;
 pub use within::{once, tablets_active_within};

@@ -3,5 +3,4 @@ pub mod Cloned
 pub mod Making
 pub mod Planned
 pub mod Changing
-pub mod Raising
 pub mod Looking

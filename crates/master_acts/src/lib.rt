@@ -7,7 +7,6 @@
 mod batches;
 mod cloning;
 mod columns;
-mod cutoffs;
 mod decide;
 mod decided;
 mod fields;
@@ -24,7 +23,6 @@ mod scheduling;
 
 pub use cloning::{CloneSource, decide_clone, found_source};
 pub use columns::{decide_add_column, decide_drop_column, decide_rename_table};
-pub use cutoffs::allowed_cutoff;
 pub use decide::{
     decide_create_namespace, decide_create_schedule, decide_create_table, decide_delete_schedule,
     decide_drop_namespace, decide_drop_table, decide_edit_schedule, decide_split,
@@ -37,7 +35,6 @@ pub use judges::{
 };
 pub use looks::{look, look_keys, look_table};
 pub use operations::{decide_restore, decide_take_snapshot};
-pub use places::put_slot;
 pub use plans::plan_of;
 pub use scheduling::{
     judge_create_schedule, judge_delete_schedule, judge_edit_schedule, judge_restore,

@@ -2,7 +2,7 @@ use Rattle.std.proofs.Common.{ℕ, ◌≡◌, map, take}
 use Rattle.model.specs.Tablets.{Tablet}
 use Rattle.model.specs.Changes.{tell}
 use Rattle.master_part.specs.Decisions.{act_by, told_by}
-use Rattle.master_acts.proofs.decide.told_all.Given as goal
+use Rattle.master_part.proofs.telling.told_all.Given as goal
 
 abbrev pub invariant-loop-slot : goal.invariant-loop-slot
 invariant-loop-slot l =

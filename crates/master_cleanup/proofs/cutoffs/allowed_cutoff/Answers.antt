@@ -1,8 +1,8 @@
 use Rattle.std.proofs.Common.{◌≤◌, ◌+◌, sym, subst, ◌∙◌, arith}
 use Rattle.model.specs.Records.{ScheduledNamespace}
 use Rattle.model.specs.Schedules.{complete_to}
-use Rattle.master_acts.proofs.Raising.{complete_over, complete_before}
-use Rattle.master_acts.proofs.cutoffs.allowed_cutoff.Goals as goal
+use Rattle.master_cleanup.proofs.Raising.{complete_over, complete_before}
+use Rattle.master_cleanup.proofs.cutoffs.allowed_cutoff.Goals as goal
 
 pub allowed_cutoff-requires : goal.allowed_cutoff-requires
 allowed_cutoff-requires c =

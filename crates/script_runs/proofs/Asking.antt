@@ -1,11 +1,11 @@
 -- The courses of commands that may be asked: the acts that follow a look may be asked too, and a read's line shows at
 -- most one act behind its look.
-use Rattle.std.proofs.Common.{◌≡◌, ℕ, ◌≤◌, ◌<◌, ◌^◌, List, [], ◌∷◌, length, Option, Some, None, sym, subst, arith}
+use Rattle.std.proofs.Common.{ℕ, ◌≤◌, ◌<◌, ◌^◌, List, [], ◌∷◌, length, Option, Some, None, sym, subst, arith}
 use Rattle.row_values.specs.Elements.{AllOf}
 use Rattle.model.specs.Acts.{Act, Look, Ask}
 use Rattle.model.specs.Entries.{ActAsked}
 use Rattle.model.specs.History.{Legal}
-use Rattle.model.specs.Scripts.{ScriptCommand, Tick, Lag, CreateTable, AddColumn, DropColumn, DropTable, WriteRows, ReadRow, ReadTable, Split, RaiseCutoffs, CompactTablets, CleanUp, asked_at}
+use Rattle.model.specs.Scripts.{ScriptCommand, CreateTable, AddColumn, DropColumn, DropTable, WriteRows, ReadRow, ReadTable, Split, RaiseCutoffs, CompactTablets, CleanUp, asked_at}
 use Rattle.model_runs.specs.Courses.{Found, FoundSlots, FoundPlaces, FoundTargets, FoundRows, FoundNothing, found_by, Showing, ShowReply, ShowRow, ShowTable, ShowCount, Course, SetReading, SetLag, Perform, LookFor, WorkOff, ShowEntries, course_of, read_places, CourseAsked}
 use Rattle.law.proofs.Following.{IsFit, CourseFits, course_fits}
 use Rattle.law.proofs.Runs.{look_answers}

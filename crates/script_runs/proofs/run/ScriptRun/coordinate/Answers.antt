@@ -1,5 +1,4 @@
-use Rattle.std.proofs.Common.{◌≡◌, ◌-◌, suc, sym, ap, subst, ◌∙◌, arith}
-use Rattle.std.specs.Option.{option_map}
+use Rattle.std.proofs.Common.{◌≡◌, ◌-◌, suc, sym, subst, arith}
 use Rattle.cluster_events.specs.SeenActs.{act_of}
 use Rattle.script_runs.proofs.Going.{handed_on}
 use Rattle.script_runs.proofs.Working.{Working, Next, acts_none, next_working, goes_working, stopped_working}

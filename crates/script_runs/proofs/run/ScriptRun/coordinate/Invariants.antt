@@ -1,4 +1,3 @@
-use Rattle.std.proofs.Common.{◌≤◌}
 use Rattle.script_runs.proofs.Working.{Working}
 use Rattle.script_runs.proofs.run.ScriptRun.coordinate.Given as goal
 

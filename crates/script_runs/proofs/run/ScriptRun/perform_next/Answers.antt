@@ -1,4 +1,4 @@
-use Rattle.std.proofs.Common.{◌≡◌, ◌<◌, ◌^◌, Some, subst}
+use Rattle.std.proofs.Common.{subst}
 use Rattle.model.specs.History.{Legal}
 use Rattle.cluster_events.specs.SeenActs.{act_of}
 use Rattle.script_runs.specs.Runs.{RunState}

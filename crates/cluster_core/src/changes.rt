@@ -159,6 +159,10 @@ fn told_change<V: VersionStore>(
         PartKind::Version { version } => TabletTold::SetVersion { version },
         PartKind::Hide { ended } => TabletTold::Hide { ended },
         PartKind::Offer { command } => TabletTold::Offer { command },
+        PartKind::Clear => TabletTold::Clear {
+            store: ReadyStore::of(TabletPart::prepare_clear(alloc)?),
+        },
+        PartKind::DropFrozen { snapshot } => TabletTold::DropFrozen { snapshot },
     };
     Ok(SlotTold::of(change.slot, told))
 }

@@ -1,7 +1,7 @@
 -- Records of one table are of one namespace.
-use Rattle.std.proofs.Common.{inl, inr, ℕ, zero, suc, ◌≡◌, true, List, [], ◌∷◌, Option, Some, None, refl, sym, ap, subst, ◌∙◌}
+use Rattle.std.proofs.Common.{inl, inr, ℕ, zero, suc, ◌≡◌, List, [], ◌∷◌, Some, sym, ap, ◌∙◌}
 use Rattle.std.specs.Prelude.{slice_get}
-use Rattle.row_values.specs.Ids.{Id, same}
+use Rattle.row_values.specs.Ids.{same}
 use Rattle.row_values.specs.Elements.{In}
 use Rattle.model.specs.Catalog.{TableRecord, Owner, owner_of}
 use Rattle.law_invariants.proofs.Finding.{same_equal, same_self}

@@ -22,10 +22,11 @@ use Rattle.law.proofs.Giving.{clone_few}
 use Rattle.law_clones.proofs.Commanding.{may_clone}
 use Rattle.catalog_core.specs.Kept.{over_or_open, ends_by}
 use Rattle.master_part.specs.Acts.{IsLawful}
-use Rattle.master_laws.proofs.Placing.{active_few}
 use Rattle.master_laws.proofs.Pointing.{point_ends}
 use Rattle.master_laws.proofs.Singles.{one_restoration, one_clone}
 use Rattle.master_laws.proofs.Homes.{homes}
+use Rattle.master_laws.proofs.Places.{places_few}
+use Rattle.master_laws.proofs.Targets.{target_fits}
 
 -- Identifiers
 
@@ -98,7 +99,7 @@ is_lawful slots history legal most =
       placed = λ i isin. let g = (inv.slots i.slot).each i isin refl in (g.slot_from, g.slot_to);
       complete = good.complete;
       clones = clones_few slots history legal most;
-      places = λ ns to. active_few (replay slots history) (activity_of slots history) (journal_of slots history) ns to inv;
+      places = places_few (replay slots history) (activity_of slots history) (journal_of slots history) inv;
       unowned = good.tables.owners_drawn;
       owned = good.tables.owned;
       newest = λ t isin. newest_most m.catalog.tables t t good.tables.rise isin refl;
@@ -106,5 +107,5 @@ is_lawful slots history legal most =
       one_restoration = one_restoration history slots;
       one_clone = one_clone history slots;
       switches = point_ends (replay slots history) (activity_of slots history) (journal_of slots history) inv;
-      shows = ?;
+      shows = λ r serving copied_at isin is. target_fits m (journal_of slots history) r serving copied_at (inv.operations.clones r isin) good.tables.owned is;
     }

@@ -1,5 +1,5 @@
 -- Before the switch of a restoration no record of its namespace's tables ends after the point.
-use Rattle.std.proofs.Common.{inl, inr, ℕ, ◌≡◌, ◌≤◌, true, false, List, [], ◌∷◌, Option, Some, None, refl, subst, le-leb}
+use Rattle.std.proofs.Common.{inl, inr, ℕ, ◌≡◌, ◌≤◌, true, List, [], ◌∷◌, Option, Some, None, refl, subst, le-leb}
 use Rattle.row_values.specs.Ids.{Id, same}
 use Rattle.row_values.specs.Elements.{In}
 use Rattle.model.specs.Catalog.{TableRecord}
@@ -11,7 +11,7 @@ use Rattle.law_store.proofs.Keys.{either_way}
 use Rattle.law_invariants.specs.Invariant.{Inv}
 use Rattle.law_invariants.specs.Operations.{RestorationStateGood}
 use Rattle.law_invariants.proofs.Finding.{same_equal, passes_both}
-use Rattle.catalog_core.specs.Kept.{over_or_open, ends_by, ends_in}
+use Rattle.catalog_core.specs.Kept.{over_or_open, ends_in}
 
 over_when : (o : Option ℕ) (at : ℕ) → ((end_ : ℕ) → o ≡ Some end_ → end_ ≤ at) → over_or_open at o ≡ true
 over_when None at within = refl

@@ -1,14 +1,13 @@
 -- An identifier is that of one restoration's record, and of one clone's: each is numbered anew, and none is taken out or changes its
 -- identifier.
-use Rattle.std.proofs.Common.{ℕ, ◌≡◌, ◌≤◌, ◌<◌, ◌+◌, List, [], ◌∷◌, ◌++◌, map, length, true, false, inl, inr, refl, sym, ap, subst, ◌∙◌, arith}
+use Rattle.std.proofs.Common.{ℕ, ◌≡◌, ◌≤◌, ◌+◌, List, [], ◌∷◌, ◌++◌, map, length, false, inl, inr, refl, sym, ap, ◌∙◌, arith}
 use Rattle.std.specs.List.{filter}
 use Rattle.std.proofs.lemmas.Bool.{cond_both}
 use Rattle.std.proofs.lemmas.List.{map-append}
 use Rattle.row_values.specs.Ids.{Id, same}
 use Rattle.row_values.specs.Elements.{In}
 use Rattle.model.specs.Cluster.{has, RestorationRecord, RestorationState, Fencing, Snapshotting, Switching, Restoring, Releasing, Restored, CloneRecord, CloneState, Accepted, CloneSnapshot, Copying, CloneReleasing, CloneComplete, Act, Master, Parts, MasterAct, BeginsRestoration, BeginsClone, Acks, Moves, Removes, Outcome}
-use Rattle.model.specs.Changed.{next_restoration, next_clone, new_clone}
-use Rattle.model.specs.Coordination.{acked_restoration, acked_clone}
+use Rattle.model.specs.Changed.{next_restoration, next_clone}
 use Rattle.model.specs.Moves.{restoration_moved, clone_moved}
 use Rattle.model.specs.Entries.{Entry, slots_of}
 use Rattle.model.specs.History.{master_effect, told, outcome, replay}
@@ -45,7 +44,7 @@ single_next ids made drawn next h = record {
       (λ b.
       let is = same_equal made id b in
       let before : length (filter (λ (i : Id). same i id) ids) ≡ 0 =
-          none_alike ids id (λ i isin. not_same i id (apart_by_number i id (let le = h.within i isin in let n : id.number ≡ drawn + 1 = ap (λ (k : Id). k.number) (sym is) ∙ next in omega arith))) in
+      none_alike ids id (λ i isin. not_same i id (apart_by_number i id (let le = h.within i isin in let n : id.number ≡ drawn + 1 = ap (λ (k : Id). k.number) (sym is) ∙ next in omega arith))) in
       let all = counted_next ids made id in
       let last = one_at_most made id in
       omega arith)
@@ -105,12 +104,15 @@ restoration_single state r n m h = restorations_kept (restoration_moved state r 
     ids (Switching point serving) = kept_ids restoration_id _ m.restorations (λ x. refl)
     ids (Restoring point serving) = kept_ids restoration_id _ m.restorations (λ x. refl)
     ids (Releasing point serving) = kept_ids restoration_id _ m.restorations (λ x. refl)
+
     drawn : (s : RestorationState) → (restoration_moved s r n m).drawn.restorations ≡ m.drawn.restorations
     drawn Fencing = refl
     drawn _ = refl
+
     clones : (s : RestorationState) → (restoration_moved s r n m).clones ≡ m.clones
     clones Fencing = refl
     clones _ = refl
+
     clones_drawn : (s : RestorationState) → (restoration_moved s r n m).drawn.clones ≡ m.drawn.clones
     clones_drawn Fencing = refl
     clones_drawn _ = refl

@@ -7,3 +7,4 @@ pub mod CloneMoves
 pub mod Owned
 pub mod Pruned
 pub mod Switches
+pub mod Same

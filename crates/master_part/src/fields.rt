@@ -12,6 +12,7 @@ use schedules::Schedule;
 use snapshot_coord::SnapshotRecord;
 use yb_ident::{Ident, Kind};
 
+/// The identifier of a restoration.
 pub fn restoration_id(restoration: &RestorationRecord) -> Ident
     ensures exact { result ≡ restoration.now.id }
 {
@@ -25,6 +26,7 @@ pub fn restoration_namespace(restoration: &RestorationRecord) -> Ident
     restoration.namespace
 }
 
+/// The schedule of a restoration.
 pub fn restoration_schedule(restoration: &RestorationRecord) -> Ident
     ensures exact { result ≡ restoration.now.schedule }
 {
@@ -38,6 +40,7 @@ pub fn restoration_state(restoration: &RestorationRecord) -> RestorationState
     restoration.state
 }
 
+/// The identifier of a clone.
 pub fn clone_id(clone: &CloneRecord) -> Ident
     ensures exact { result ≡ clone.now.id }
 {
@@ -93,24 +96,28 @@ pub fn schedule_id(schedule: &Schedule) -> Ident
     schedule.id
 }
 
+/// The identifier of a snapshot.
 pub fn snapshot_id(snapshot: &SnapshotRecord) -> Ident
     ensures exact { result ≡ snapshot.now.id }
 {
     snapshot.id
 }
 
+/// The schedule of a snapshot.
 pub fn snapshot_schedule(snapshot: &SnapshotRecord) -> Ident
     ensures exact { result ≡ snapshot.now.schedule }
 {
     snapshot.schedule
 }
 
+/// The namespace of a snapshot.
 pub fn snapshot_namespace(snapshot: &SnapshotRecord) -> Ident
     ensures exact { result ≡ snapshot.now.namespace }
 {
     snapshot.namespace
 }
 
+/// The time of a snapshot.
 pub fn snapshot_time(snapshot: &SnapshotRecord) -> HybridTime
     ensures exact { result ≡ snapshot.now.at }
 {

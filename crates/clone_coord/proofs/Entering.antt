@@ -1,5 +1,5 @@
 -- A clone that enters a state, of which one record alone has the identifier.
-use Rattle.std.proofs.Common.{ℕ, zero, suc, ◌≡◌, ◌≤◌, ◌+◌, ◌||◌, Bool, true, false, cond, List, [], ◌∷◌, Some, if◌then◌else◌, length, slice_get, get_or, slice_set, refl, sym, ap, ◌∙◌, arith}
+use Rattle.std.proofs.Common.{ℕ, zero, suc, ◌≡◌, ◌≤◌, ◌||◌, Bool, true, false, cond, List, [], ◌∷◌, Some, if◌then◌else◌, length, slice_get, get_or, slice_set, refl, sym, ap, ◌∙◌, arith}
 use Rattle.std.specs.List.{filter, list_any}
 use Rattle.row_values.specs.Ids.{Id, same}
 use Rattle.model.specs.Records.{Listed, CloneState, CloneRecord}

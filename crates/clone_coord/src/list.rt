@@ -232,11 +232,7 @@ fn place_of(records: &[CloneRecord], id: &Ident) -> Option<usize>
 }
 
 // A record enters a state, with the tablets that it lists there.
-fn enter_record(
-    clone: &mut CloneRecord,
-    state: CloneState,
-    listed: Records<Listed>,
-)
+fn enter_record(clone: &mut CloneRecord, state: CloneState, listed: Records<Listed>)
     ensures entered { clone.new ≡ entered (state_of state) listed clone.old }
 {
     clone.state = state;

@@ -1,6 +1,5 @@
 //! What each command comes to. A client's command is planned first, and refused where its plan is not the same any more.
 ghost use Rattle.std.specs.Prelude.{◌≡◌, ◌<◌, IfOk};
-ghost use Rattle.row_values.specs.Slots.{same_slots};
 ghost use Rattle.model.specs.Parts.{Parts};
 ghost use Rattle.model.specs.Rules.{CommandAsked};
 ghost use Rattle.model.specs.Looks.{plan_of};
@@ -21,7 +20,7 @@ use crate::plans::plan_of;
 use cluster_events::{Refusal, Reply};
 use commands::Command;
 use hybrid_time::HybridTime;
-use master_part::{Decision, MasterPart};
+use master_part::{Decision, MasterPart, same_slots};
 use row_values::{NoMemory, Slots};
 
 /// What a command comes to whose plan was these slots.
@@ -119,12 +118,4 @@ fn decide_planned(
             master, namespace,
         )?)),
     }
-}
-
-// Whether two lists of slots are the same.
-#[tactic(auto, using(crate::proofs::Planned::same_by_items))]
-fn same_slots(slots: &Slots, kept: &Slots) -> bool
-    ensures exact { result ≡ same_slots slots.now kept.now }
-{
-    slots.as_slice() == kept.as_slice()
 }

@@ -1,1 +1,4 @@
 pub mod Raising
+pub mod Staying
+pub mod Judged
+pub mod Used

@@ -5,6 +5,10 @@
 #![tactic(auto)]
 
 mod cutoffs;
+mod floors;
+mod judging;
+mod listers;
+mod plans;
 mod pruning;
 mod removals;
 mod removing;

@@ -1,22 +1,21 @@
 -- What a switch brings back, where the master is lawful.
-use Rattle.std.proofs.Common.{ℕ, zero, suc, ◌≡◌, ◌≤◌, ◌<◌, ◌+◌, ◌^◌, Bool, true, false, cond, List, [], ◌∷◌, ◌++◌, map, Option, Some, None, length, get_or, ◌&&◌, inl, inr, refl, sym, ap, subst, ◌∙◌, arith, ltb}
+use Rattle.std.proofs.Common.{ℕ, zero, suc, ◌≡◌, ◌<◌, ◌+◌, ◌^◌, Bool, true, false, cond, List, [], ◌∷◌, ◌++◌, map, Option, Some, None, length, get_or, ◌&&◌, inl, inr, refl, sym, ap, subst, ◌∙◌, arith, ltb}
 use Rattle.std.specs.List.{filter, find}
 use Rattle.std.specs.Option.{unwrap_or}
-use Rattle.std.proofs.lemmas.Bool.{true≢false}
 use Rattle.row_values.specs.Elements.{In}
 use Rattle.row_values.specs.Ids.{Id, same}
 use Rattle.row_values.specs.Schema.{Schema}
 use Rattle.model.specs.Activity.{Interval, active_at}
-use Rattle.model.specs.Catalog.{TableRecord, Owner, owner_of, owns, put_table, by_id, tables_at, current_table, end_tables, latest_from, latest}
-use Rattle.model.specs.Lists.{once, intervals_in, active_tablets, tablets_active_at, by_table_and_number}
+use Rattle.model.specs.Catalog.{TableRecord, Owner, owner_of, owns, put_table, by_id, tables_at, end_tables, latest_from}
+use Rattle.model.specs.Lists.{once, intervals_in, active_tablets, tablets_active_at}
 use Rattle.model.specs.Cluster.{option_map_or}
 use Rattle.model.specs.Parts.{Master}
 use Rattle.model.specs.Records.{Listed}
-use Rattle.model.specs.Restored.{newest, tables_back, restored_tables, version_of, concerned, switch_list}
+use Rattle.model.specs.Restored.{tables_back, restored_tables, version_of, concerned, switch_list}
 use Rattle.model.specs.Tablets.{RestoreFrom, Hide}
 use Rattle.model.specs.Times.{holds_at, is_open, ended}
 use Rattle.law_store.proofs.Keys.{either_way}
-use Rattle.law_invariants.proofs.Finding.{in_append, filter_in, in_mapped, none_found, same_equal, same_self, both_pass, first_fails, second_fails, not_passing}
+use Rattle.law_invariants.proofs.Finding.{in_append, filter_in, in_mapped, none_found, same_equal, same_self, first_fails, second_fails}
 use Rattle.law_invariants.proofs.Listing.{once_only}
 use Rattle.law_invariants.proofs.Parting.{ordered_only}
 use Rattle.law_invariants.proofs.Undoing.{owned_is}
@@ -123,7 +122,7 @@ concerned_owned owners activity ns to i isin =
     let now_ = active_tablets owners activity ns in
     let both : In i (first ++ now_) = once_only (first ++ now_) i (ordered_only _ (once (first ++ now_)) i isin) in
     let within : In i (intervals_in owners activity ns) = elim (in_append first now_ i both) as (λ _. In i (intervals_in owners activity ns)) [
-      inl was ↦ (filter_in (intervals_in owners activity ns) (active_at to) i was).0
+      | inl was ↦ (filter_in (intervals_in owners activity ns) (active_at to) i was).0
       | inr is ↦ (filter_in (intervals_in owners activity ns) (λ i. is_open i.to) i is).0
     ] in
     (filter_in activity owned i within).1

@@ -2,6 +2,7 @@
 ghost use Rattle.std.specs.Prelude.{◌≡◌};
 
 use clone_coord::CloneRecord;
+use hybrid_time::HybridTime;
 use restore_coord::RestorationRecord;
 use snapshot_coord::SnapshotRecord;
 use tablet_inbox::Listed;
@@ -23,6 +24,25 @@ pub(crate) fn clone_id(clone: &CloneRecord) -> Ident
     ensures exact { result ≡ clone.now.id }
 {
     clone.id
+}
+
+pub(crate) fn restoration_namespace(restoration: &RestorationRecord) -> Ident
+    ensures exact { result ≡ restoration.now.namespace }
+{
+    restoration.namespace
+}
+
+pub(crate) fn restoration_schedule(restoration: &RestorationRecord) -> Ident
+    ensures exact { result ≡ restoration.now.schedule }
+{
+    restoration.schedule
+}
+
+// The time to which a restoration brings its namespace back.
+pub(crate) fn restoration_time(restoration: &RestorationRecord) -> HybridTime
+    ensures exact { result ≡ restoration.now.to }
+{
+    restoration.to
 }
 
 // The tablets that a snapshot lists.

@@ -11,6 +11,7 @@ mod fields;
 mod lists;
 mod restoring;
 mod switching;
+mod targets;
 mod working;
 
 pub use advancing::decide_advance;

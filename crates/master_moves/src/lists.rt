@@ -28,10 +28,7 @@ pub(crate) fn released(
 }
 
 /// The tablets that took back their rows.
-pub(crate) fn brought_back(
-    alloc: Global,
-    listed: &[Listed],
-) -> Result<Records<Listed>, NoMemory>
+pub(crate) fn brought_back(alloc: Global, listed: &[Listed]) -> Result<Records<Listed>, NoMemory>
     ensures exact { IfOk result (λ found. found ≡ book.brought_back listed.now) }
 {
     let mut found = Records::new(alloc);

@@ -3,7 +3,6 @@
 ghost use Rattle.std.specs.Prelude.{◌≡◌, ◌&&◌, ◌++◌, IfOk, map};
 ghost use Rattle.row_values.specs.Ids.{same};
 ghost use Rattle.model.specs.Times.{is_open};
-
 ghost use Rattle.model.specs.Lists as lists;
 ghost use Rattle.model.specs.Restored as book;
 ghost use Rattle.model.specs.Restored.{newest, concerned, version_of};
@@ -65,8 +64,8 @@ fn back_at(
     })
 }
 
-// The newest kept schema of the table of a record.
-fn newest<'a>(catalog: &'a Catalog, table: &'a TableRecord) -> &'a Schema
+/// The newest kept schema of the table of a record.
+pub(crate) fn newest<'a>(catalog: &'a Catalog, table: &'a TableRecord) -> &'a Schema
     ensures exact { result.now ≡ newest catalog.now.catalog.tables table.now }
 {
     match catalog.latest(&table_id(table)) {
@@ -90,7 +89,14 @@ pub(crate) fn switch_list(
     ensures exact { IfOk result (λ listed. listed ≡ map (line_with to point serving.now tables.now) (concerned master.now.master.catalog.owners master.now.master.activity namespace.now to)) }
 {
     let intervals = concerned(master, namespace, active)?;
-    lines(master.alloc(), intervals.as_slice(), to, point, serving, tables)
+    lines(
+        master.alloc(),
+        intervals.as_slice(),
+        to,
+        point,
+        serving,
+        tables,
+    )
 }
 
 // The tablets that a switch concerns: those that were active at its time, and the others that are now.

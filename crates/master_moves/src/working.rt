@@ -7,11 +7,12 @@ ghost use Rattle.model.specs.Work.{first_work};
 ghost use Rattle.cluster_events.specs.SeenReplies.{work_of};
 ghost use Rattle.master_moves.specs.Works.{work_if};
 
+use crate::cloning::awaited_by_clone;
 use crate::fields::{
-    clone_id, listed_by_clone, listed_by_restoration, listed_by_snapshot, restoration_id, snapshot_id,
+    clone_id, listed_by_clone, listed_by_restoration, listed_by_snapshot, restoration_id,
+    snapshot_id,
 };
 use crate::restoring::awaited_by_restoration;
-use crate::cloning::awaited_by_clone;
 use clone_coord::CloneRecord;
 use cluster_events::WorkItem;
 use master_part::MasterPart;
@@ -54,14 +55,16 @@ fn work_of_snapshot(master: &MasterPart, snapshot: &SnapshotRecord) -> Option<Wo
     if snapshot.complete {
         return None;
     }
-    work_for(master, listed_by_snapshot(snapshot), None, snapshot_id(snapshot))
+    work_for(
+        master,
+        listed_by_snapshot(snapshot),
+        None,
+        snapshot_id(snapshot),
+    )
 }
 
 // What is to be done for the first of these restorations that is unfinished, and that no snapshot holds up.
-fn work_of_restorations(
-    master: &MasterPart,
-    restorations: &[RestorationRecord],
-) -> Option<WorkItem>
+fn work_of_restorations(master: &MasterPart, restorations: &[RestorationRecord]) -> Option<WorkItem>
     ensures exact { option_map work_of result ≡ first_work (map (restoration_progress master.now.master) (filter (λ r. not (records.is_restored r.state)) restorations.now)) master.now.master.sent }
 {
     for restoration in restorations {
@@ -80,7 +83,12 @@ fn work_of_restoration(master: &MasterPart, restoration: &RestorationRecord) -> 
         return None;
     }
     let awaited = awaited_by_restoration(master, restoration);
-    work_for(master, listed_by_restoration(restoration), awaited, restoration_id(restoration))
+    work_for(
+        master,
+        listed_by_restoration(restoration),
+        awaited,
+        restoration_id(restoration),
+    )
 }
 
 // What is to be done for the first of these clones that is unfinished, and that no snapshot holds up.

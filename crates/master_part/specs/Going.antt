@@ -2,10 +2,8 @@
 use Rattle.std.specs.Prelude.{ℕ, ◌≡◌, ◌≤◌, ◌<◌, ◌+◌, Bool, true, false, List, [], ◌∷◌, Option, Some, None, length, filter, if◌then◌else◌}
 use Rattle.row_values.specs.Ids.{Id, Restoration as RestorationKind, Clone as CloneKind, same, id_bound}
 use Rattle.model.specs.Times.{end_of_time}
-use Rattle.model.specs.Activity.{Interval}
 use Rattle.model.specs.Catalog.{TableRecord, owner_of}
 use Rattle.model.specs.Parts.{Master}
-use Rattle.model.specs.Records as book
 use Rattle.model.specs.Records.{Schedule, Listed, SnapshotRecord, RestorationRecord, CloneRecord, RestorationState, CloneState, Fencing, Snapshotting, Switching, Restoring, Releasing, Restored, Accepted, CloneSnapshot, Copying, CloneReleasing, CloneComplete, schedule_of}
 use Rattle.model.specs.Coordination.{unfinished_restoration, unfinished_clone}
 use Rattle.model.specs.Lists.{new_snapshot, tablets_active_at}
@@ -14,11 +12,12 @@ use Rattle.model.specs.Restored.{tables_back, restored_tables, switch_list, clon
 use Rattle.model.specs.Cleanup.{prune_to, has_records}
 use Rattle.catalog_core.specs.Begins.{IsHome}
 use Rattle.catalog_core.specs.Cloned.{TargetFits}
-use Rattle.catalog_core.specs.Kept.{ends_in}
+use Rattle.catalog_core.specs.Kept.{ends_in, KeepRoom}
 use Rattle.restore_coord.specs.Seen as restoration
 use Rattle.clone_coord.specs.Seen as clone
 use Rattle.restore_coord.specs.declared.state.RestorationState.{RestorationState as RestorationStep}
 use Rattle.clone_coord.specs.declared.state.CloneState.{CloneState as CloneStep}
+use Rattle.master_part.specs.View.{MasterView}
 use Rattle.master_part.specs.declared.switch.Switch.{Switch}
 use Rattle.master_part.specs.declared.cut.Cut.{Cut}
 
@@ -145,3 +144,7 @@ cut_of (c ∷ cs) ns = if same c.namespace ns then c.to else cut_of cs ns
 -- each namespace that has records has the book's cut
 abbrev pub CutsBy : List Cut → ℕ → Master → Type 0
 CutsBy cuts n m = (ns : Id) → has_records m.catalog ns ≡ true → cut_of cuts ns ≡ prune_to m ns n
+
+-- whether there is room to look up anew what a prune leaves of the catalog
+abbrev pub PruneRoom : MasterView → Type 0
+PruneRoom p = KeepRoom (record { catalog = p.master.catalog; room = p.catalog_room })

@@ -1,4 +1,4 @@
-use Rattle.std.proofs.Common.{sym, ap, subst, ◌∙◌, rules}
+use Rattle.std.proofs.Common.{sym, ap, subst, rules}
 use Rattle.row_values.specs.Ids.{Id}
 use Rattle.model.specs.Changes.{CloneSource}
 use Rattle.master_acts.specs.Draws.{DrawsFew}

@@ -1,4 +1,4 @@
-use Rattle.std.proofs.Common.{◌≡◌, get_or, sym, ap, subst, ◌∙◌, arith}
+use Rattle.std.proofs.Common.{get_or, sym, ap, subst, ◌∙◌, arith}
 use Rattle.row_values.specs.Elements.{In}
 use Rattle.model.specs.Catalog.{Catalog, TableRecord, tables_at}
 use Rattle.master_moves.specs.Switches.{GoesOn}

@@ -26,4 +26,4 @@ returns-clause-restorations c =
     ap (λ (x : RestorationRecord). slice_set c.self.inside.records.items p x) (c.enter_record.ensures.entered ∙ ap (entered state listed) is)
     ∙ ap (λ (rs : List RestorationRecord). slice_set rs p (entered state listed found.0)) view
     ∙ entered_at c.args.id.now state listed c.args.self.now.restorations p found.0 c.requires.once
-        (subst (λ (rs : List RestorationRecord). slice_get rs p ≡ Some found.0) view there) found.1.1
+    (subst (λ (rs : List RestorationRecord). slice_get rs p ≡ Some found.0) view there) found.1.1

@@ -132,13 +132,13 @@ unfolding prune
 pruned_as ps m n cs spaces tables same_master right spaces_are tables_are =
     ap (λ (count : ℕ). made count)
     (ap (λ k. k + tables)
-     (spaces_are ∙ goes_as (λ (r : NamespaceRecord). r.id) (λ (r : NamespaceRecord). r.to) (cut_of cs) (λ ns. prune_to m ns n) m.catalog.namespaces
-      (λ k any. right k (either_one _ _ any)))
+    (spaces_are ∙ goes_as (λ (r : NamespaceRecord). r.id) (λ (r : NamespaceRecord). r.to) (cut_of cs) (λ ns. prune_to m ns n) m.catalog.namespaces
+    (λ k any. right k (either_one _ _ any)))
     ∙ ap (λ k. length (filter (is_old_namespace m n) m.catalog.namespaces) + k)
-      (tables_are ∙ goes_as (λ (r : TableRecord). r.namespace) (λ (r : TableRecord). r.to) (cut_of cs) (λ ns. prune_to m ns n) m.catalog.tables
-       (λ k any. right k (either_other (list_any (λ (r : NamespaceRecord). same r.id k) m.catalog.namespaces) _ any))))
+    (tables_are ∙ goes_as (λ (r : TableRecord). r.namespace) (λ (r : TableRecord). r.to) (cut_of cs) (λ ns. prune_to m ns n) m.catalog.tables
+    (λ k any. right k (either_other (list_any (λ (r : NamespaceRecord). same r.id k) m.catalog.namespaces) _ any))))
     ∙ ap (λ (m : Master). made (length (filter (is_old_namespace m n) m.catalog.namespaces) + length (filter (is_old_table m n) m.catalog.tables)))
-      (sym same_master)
+    (sym same_master)
   where
     made : ℕ → Outcome
     made count = record { master = Prunes; tablets = []; reply = Pruned count }

@@ -19,15 +19,15 @@ returns-clause-plan c ps same =
     let spaces = c.count_namespaces-namespaces.result in
     let tables = c.count_tables-tables.result in
     let spaces_are =
-        c.count_namespaces-namespaces.ensures.count
-        ∙ ap (λ (cs : List Cut). length (filter (space_goes (cut_of cs)) c.namespaces.result.now)) c.as_slice.ensures.same
-        ∙ ap (λ (rs : List NamespaceRecord). length (filter (space_goes (cut_of cuts)) rs))
-          (c.namespaces.ensures.all ∙ ap (λ (k : Catalog). k.namespaces) c.catalog.ensures.catalog) in
+    c.count_namespaces-namespaces.ensures.count
+    ∙ ap (λ (cs : List Cut). length (filter (space_goes (cut_of cs)) c.namespaces.result.now)) c.as_slice.ensures.same
+    ∙ ap (λ (rs : List NamespaceRecord). length (filter (space_goes (cut_of cuts)) rs))
+    (c.namespaces.ensures.all ∙ ap (λ (k : Catalog). k.namespaces) c.catalog.ensures.catalog) in
     let tables_are =
-        c.count_tables-tables.ensures.count
-        ∙ ap (λ (cs : List Cut). length (filter (table_goes (cut_of cs)) c.tables.result.now)) c.as_slice-2.ensures.same
-        ∙ ap (λ (rs : List TableRecord). length (filter (table_goes (cut_of cuts)) rs))
-          (c.tables.ensures.all ∙ ap (λ (k : Catalog). k.tables) c.catalog-2.ensures.catalog) in
+    c.count_tables-tables.ensures.count
+    ∙ ap (λ (cs : List Cut). length (filter (table_goes (cut_of cs)) c.tables.result.now)) c.as_slice-2.ensures.same
+    ∙ ap (λ (rs : List TableRecord). length (filter (table_goes (cut_of cuts)) rs))
+    (c.tables.ensures.all ∙ ap (λ (k : Catalog). k.tables) c.catalog-2.ensures.catalog) in
     ap (λ (cs : List PartChange). the_outcome (map (told_by ps.tablet) cs) (spaces + tables)) c.new.ensures.empty
     ∙ pruned_as ps m c.args.stamp cuts spaces tables same (cuts_right m c.args.stamp cuts c.in_ok-cuts.ensures.exact) spaces_are tables_are
   where

@@ -16,7 +16,7 @@ use crate::held::{master_in, tablet_in};
 use crate::outcome::EventPlan;
 use crate::part::ClusterPart;
 use hybrid_time::HybridTime;
-use master_acts::{decide_ack, decide_advance_snapshot, decide_send, pending_mark};
+use master_moves::{decide_ack, decide_advance_snapshot, decide_send, pending_mark};
 use master_part::MasterPart;
 use row_values::NoMemory;
 use std::alloc::Global;

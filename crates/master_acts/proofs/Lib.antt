@@ -1,4 +1,5 @@
 pub mod Allowed
+pub mod Cloned
 pub mod Making
 pub mod Planned
 pub mod Changing

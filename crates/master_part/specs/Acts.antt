@@ -17,10 +17,11 @@ use Rattle.model.specs.Changes.{CloneSource, judge_clone}
 use Rattle.model.specs.Restored.{newest}
 use Rattle.model.specs.Drawn.{drawn_of, drawn_for_clone, most_slots}
 use Rattle.catalog_core.specs.Begins.{IsHome}
-use Rattle.catalog_core.specs.Kept.{ends_by, is_free_for}
+use Rattle.catalog_core.specs.Cloned.{TargetFits}
+use Rattle.catalog_core.specs.Kept.{ends_by, ends_in, is_free_for}
 use Rattle.schedules.specs.Periods.{IsPeriod}
 use Rattle.master_part.specs.View.{MasterView}
-use Rattle.master_part.specs.Going.{IsRestoration, IsClone, OfRestoration, MakesSnapshot, Enters, SwitchesBy, EndsIn, OfClone, CloneFits, MakesServing, CloneEnters, ShowsBy, MayShow, CutsBy}
+use Rattle.master_part.specs.Going.{IsRestoration, IsClone, OfRestoration, MakesSnapshot, Enters, SwitchesBy, OfClone, CloneFits, MakesServing, CloneEnters, ShowsBy, CutsBy, PruneRoom}
 use Rattle.master_part.specs.declared.act.MasterAct.{MasterAct}
 use Rattle.master_part.specs.declared.act.MasterAct.TheVariants as act
 
@@ -80,9 +81,9 @@ pub record IsLawful (m : Master) : Type 0 where
   pub one_restoration : (id : Id) → length (filter (λ (r : RestorationRecord). same r.id id) m.restorations) ≤ 1
   pub one_clone : (id : Id) → length (filter (λ (r : CloneRecord). same r.id id) m.clones) ≤ 1
   pub switches : (r : RestorationRecord) (point : ℕ) (serving : Id) → In r m.restorations
-      → r.state ≡ Switching point serving → EndsIn r.namespace point m.catalog.tables
-  pub shows : (r : CloneRecord) (serving : Id) (copied_at n : ℕ) → In r m.clones
-      → r.state ≡ Copying serving copied_at → m.clock < n → MayShow r n m
+      → r.state ≡ Switching point serving → ends_in r.namespace point m.catalog.tables ≡ true
+  pub shows : (r : CloneRecord) (serving : Id) (copied_at : ℕ) → In r m.clones → r.state ≡ Copying serving copied_at
+      → TargetFits m.catalog r
 
 -- a namespace of the name may be made
 pub record NamespaceFits (name : List ℕ) (m : Master) : Type 0 where
@@ -193,13 +194,17 @@ HasRoom (act.Sends operation slot) p = 1 ≤ p.sent_room
 HasRoom (act.Acks operation slot) p = Unit {0}
 HasRoom (act.Unsends operation slot) p = Unit {0}
 HasRoom (act.CompletesSnapshot operation) p = Unit {0}
-HasRoom (act.SnapshotsRestoration operation made) p = ⊥
-HasRoom (act.MovesRestoration operation state listed) p = ⊥
-HasRoom (act.SwitchesRestoration operation switch) p = ⊥
-HasRoom (act.BeginsClone namespace source target to made) p = ⊥
-HasRoom (act.SnapshotsClone operation made) p = ⊥
-HasRoom (act.MovesClone operation state listed) p = ⊥
-HasRoom (act.ShowsClone operation name tables listed) p = ⊥
-HasRoom (act.Removes target) p = ⊥
-HasRoom (act.Prunes cuts) p = ⊥
+HasRoom (act.SnapshotsRestoration operation made) p = 1 ≤ p.snapshot_room
+HasRoom (act.MovesRestoration operation state listed) p = Unit {0}
+HasRoom (act.SwitchesRestoration operation switch) p =
+    (length switch.tables ≤ p.catalog_room) × (length switch.active ≤ p.activity_room)
+HasRoom (act.BeginsClone namespace source target to made) p =
+    (length made.tables ≤ p.catalog_room) × (1 ≤ p.clone_room)
+HasRoom (act.SnapshotsClone operation made) p = 1 ≤ p.snapshot_room
+HasRoom (act.MovesClone operation state listed) p = Unit {0}
+HasRoom (act.ShowsClone operation name tables listed) p =
+    (1 ≤ p.catalog_room) × ((length tables ≤ p.catalog_room)
+    × OfClone operation p.master (λ r. length r.tablets ≤ p.activity_room))
+HasRoom (act.Removes target) p = Unit {0}
+HasRoom (act.Prunes cuts) p = PruneRoom p
 HasRoom act.Restarts p = Unit {0}

@@ -2,22 +2,22 @@
 use Rattle.std.specs.Prelude.{ℕ, ◌≡◌, ◌≤◌, ◌<◌, ◌+◌, Bool, true, false, List, [], ◌∷◌, Option, Some, None, length, filter, if◌then◌else◌}
 use Rattle.row_values.specs.Ids.{Id, Restoration as RestorationKind, Clone as CloneKind, same, id_bound}
 use Rattle.model.specs.Times.{end_of_time}
-use Rattle.model.specs.Activity.{Interval}
-use Rattle.model.specs.Catalog.{TableRecord, namespace_named, name_of, owner_of}
+use Rattle.model.specs.Catalog.{TableRecord, owner_of}
 use Rattle.model.specs.Parts.{Master}
-use Rattle.model.specs.Records as book
 use Rattle.model.specs.Records.{Schedule, Listed, SnapshotRecord, RestorationRecord, CloneRecord, RestorationState, CloneState, Fencing, Snapshotting, Switching, Restoring, Releasing, Restored, Accepted, CloneSnapshot, Copying, CloneReleasing, CloneComplete, schedule_of}
 use Rattle.model.specs.Coordination.{unfinished_restoration, unfinished_clone}
 use Rattle.model.specs.Lists.{new_snapshot, tablets_active_at}
 use Rattle.model.specs.Moves.{restoration_next, restoration_lists, given_restoration, clone_next, clone_lists, given_clone, id_of_snapshot, serving_clone, released}
 use Rattle.model.specs.Restored.{tables_back, restored_tables, switch_list, cloned_tables}
 use Rattle.model.specs.Cleanup.{prune_to, has_records}
-use Rattle.catalog_core.specs.Begins.{BeginsAll, IsHome}
-use Rattle.catalog_core.specs.Kept.{ends_by}
+use Rattle.catalog_core.specs.Begins.{IsHome}
+use Rattle.catalog_core.specs.Cloned.{TargetFits}
+use Rattle.catalog_core.specs.Kept.{ends_in, KeepRoom}
 use Rattle.restore_coord.specs.Seen as restoration
 use Rattle.clone_coord.specs.Seen as clone
 use Rattle.restore_coord.specs.declared.state.RestorationState.{RestorationState as RestorationStep}
 use Rattle.clone_coord.specs.declared.state.CloneState.{CloneState as CloneStep}
+use Rattle.master_part.specs.View.{MasterView}
 use Rattle.master_part.specs.declared.switch.Switch.{Switch}
 use Rattle.master_part.specs.declared.cut.Cut.{Cut}
 
@@ -45,17 +45,13 @@ pub record Enters (state : RestorationStep) (listed : List Listed) (r : Restorat
   pub into : restoration_next r.state (given_restoration r.state r n m) ≡ restoration.state_of state
   pub lists : restoration_lists r.state r m ≡ listed
 
--- no record of a table of the namespace ends after a time
-abbrev pub EndsIn : Id → ℕ → List TableRecord → Type 0
-EndsIn ns at rs = ends_by at (filter (λ (r : TableRecord). same r.namespace ns) rs) ≡ true
-
 -- this is what the switch of a restoration at a point brings back
 pub record Brings (s : Switch) (r : RestorationRecord) (point : ℕ) (serving : Id) (m : Master) : Type 0 where
   pub tables : tables_back m.catalog.tables r.namespace r.to point ≡ s.tables
   pub active : tablets_active_at m.catalog.owners m.activity r.namespace r.to ≡ s.active
   pub listed : switch_list m.catalog.owners m.activity r.namespace r.to point serving
       (restored_tables m.catalog.tables r.namespace r.to point) ≡ s.listed
-  pub past : EndsIn r.namespace point m.catalog.tables
+  pub past : ends_in r.namespace point m.catalog.tables ≡ true
   pub home : IsHome m.catalog.tables
 
 abbrev pub SwitchesBy : RestorationState → Switch → RestorationRecord → Master → Type 0
@@ -115,15 +111,9 @@ pub record CloneEnters (state : CloneStep) (listed : List Listed) (r : CloneReco
   pub into : clone_next r.state (given_clone r.state (serves m r) r n m) ≡ clone.state_of state
   pub lists : clone_lists r.state (serves m r) r n ≡ listed
 
--- the target of a clone may become current at a stamp
-pub record MayShow (r : CloneRecord) (n : ℕ) (m : Master) : Type 0 where
-  pub free : namespace_named m.catalog.namespaces r.target ≡ None
-  pub fresh : name_of m.catalog.namespaces r.target_id ≡ None
-  pub begin : BeginsAll m.catalog.tables (cloned_tables r.tables m.catalog.tables r.target_id r.to n)
-
--- it becomes current under this name, with these tables, and lists these tablets
+-- the target of a clone becomes current under this name, with these tables, and lists these tablets
 pub record Shows (name : List ℕ) (tables : List TableRecord) (listed : List Listed) (r : CloneRecord) (n : ℕ) (m : Master) : Type 0 where
-  pub may : MayShow r n m
+  pub may : TargetFits m.catalog r
   pub named : r.target ≡ name
   pub has : cloned_tables r.tables m.catalog.tables r.target_id r.to n ≡ tables
   pub lists : released n r.listed ≡ listed
@@ -154,3 +144,7 @@ cut_of (c ∷ cs) ns = if same c.namespace ns then c.to else cut_of cs ns
 -- each namespace that has records has the book's cut
 abbrev pub CutsBy : List Cut → ℕ → Master → Type 0
 CutsBy cuts n m = (ns : Id) → has_records m.catalog ns ≡ true → cut_of cuts ns ≡ prune_to m ns n
+
+-- whether there is room to look up anew what a prune leaves of the catalog
+abbrev pub PruneRoom : MasterView → Type 0
+PruneRoom p = KeepRoom (record { catalog = p.master.catalog; room = p.catalog_room })

@@ -9,6 +9,7 @@
 mod act;
 mod beginning;
 mod change;
+mod cloning;
 mod cut;
 mod decision;
 mod drawn;
@@ -17,12 +18,16 @@ mod fields;
 mod found;
 mod free;
 mod listed;
+mod moving;
+mod numbering;
 mod order;
 mod part;
 mod placing;
+mod removing;
 mod sending;
 mod sent;
 mod switch;
+mod switching;
 mod telling;
 mod told;
 mod within;
@@ -35,9 +40,9 @@ pub use decision::Decision;
 pub use drawn::Drawn;
 pub use fields::{
     kind_of, number_of, schedule_id, scheduled_namespace, snapshot_id, snapshot_namespace,
-    snapshot_time, table_id, tablet_of,
+    snapshot_time, table_id, table_number, tablet_of,
 };
-pub use listed::listing;
+pub use listed::{by_table_and_number, listing};
 pub use order::{Orders, put_all_in_order};
 pub use part::MasterPart;
 pub use placing::{put_slot, same_slots};

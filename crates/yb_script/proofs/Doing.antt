@@ -1,7 +1,7 @@
 -- Where a run of commands is, and how it ends.
-use Rattle.std.proofs.Common.{◌≡◌, ℕ, ◌+◌, suc, ◌<◌, ◌≤◌, Bool, true, false, cond, List, [], ◌∷◌, ◌++◌, length, take, refl, sym, ap, subst, ◌∙◌, arith, append_assoc, append-nil, length-append}
+use Rattle.std.proofs.Common.{◌≡◌, ℕ, ◌+◌, suc, ◌<◌, Bool, true, false, cond, List, [], ◌∷◌, ◌++◌, length, take, refl, sym, ap, subst, ◌∙◌, arith, append_assoc, append-nil, length-append}
 use Rattle.std.specs.Prelude.{Option, Some, None, Ok, Err}
-use Rattle.std.proofs.Math.Seq.{take-append_seam, take-append-add, take-length}
+use Rattle.std.proofs.Math.Seq.{take-append_seam, take-append-add}
 use Rattle.std.specs.Io.KnownBytes.{Appends}
 use Rattle.script_io.specs.Streams.{AppendsPart}
 use Rattle.row_values.specs.Elements.{AllOf}
@@ -12,12 +12,10 @@ use Rattle.model_runs.specs.Running.{Run, begun, run_of, run_from, ran, made_by,
 use Rattle.script_lang.specs.declared.script.ScriptLine.{ScriptLine}
 use Rattle.script_lang.specs.declared.script.ScriptLine.TheVariants.{Single}
 use Rattle.script_asked.specs.Numbered.{numbered_of}
-use Rattle.script_runs.specs.Runs.{RunState, run_at, text_between, IsPart, Ran, RanFull, RanInPart}
-use Rattle.script_runs.specs.Served.{IsServedCommand}
+use Rattle.script_runs.specs.Runs.{RunState, run_at, text_between, Ran, RanFull, RanInPart}
 use Rattle.yb_script.specs.declared.performing.Halt.{Halt}
 use Rattle.yb_script.specs.declared.performing.Halt.TheVariants.{WriteFault, Full, NoMemory}
-use Rattle.yb_script.specs.Programs.{Program}
-use Rattle.yb_script.specs.Endings.{run_first, status_of, IsHalted, IsMemoryFault, IsWhole, IsFull, IsCut, IsBroken, OfTold}
+use Rattle.yb_script.specs.Endings.{Program, run_first, status_of, IsHalted, IsMemoryFault, IsWhole, IsFull, IsCut, IsBroken, OfTold}
 
 -- Runs
 
@@ -86,13 +84,12 @@ pub record IsAt (slots : ℕ) (commands left : List Numbered) (k : ℕ) (s : Run
   pub count : k ≡ length did
   pub run : run_of slots did ≡ run_at s (run_of slots did).text k
   pub text : Appends old now (run_of slots did).text
-  pub served : AllOf (λ (c : Numbered). IsServedCommand c.command) left
   pub asked : AllOf (λ (c : Numbered). ScriptAsked slots c.command) left
 
 pub at_begin : (slots : ℕ) (commands : List Numbered) (s : RunState) (old : Option (List ℕ)) → s.slots ≡ slots → run_at s [] 0 ≡ begun
-    → AllOf (λ (c : Numbered). IsServedCommand c.command) commands → AllOf (λ (c : Numbered). ScriptAsked slots c.command) commands
+    → AllOf (λ (c : Numbered). ScriptAsked slots c.command) commands
     → IsAt slots commands commands 0 s old old
-at_begin slots commands s old slots_is is served asked =
+at_begin slots commands s old slots_is is asked =
     let begins = of-nil slots in
     record {
       slots_is = slots_is;
@@ -101,7 +98,6 @@ at_begin slots commands s old slots_is is served asked =
       count = refl;
       run = subst (λ (r : Run). r ≡ run_at s r.text 0) (sym begins) (sym is);
       text = subst (λ (r : Run). Appends old old r.text) (sym begins) (appends-nothing old);
-      served = served;
       asked = asked;
     }
 
@@ -133,7 +129,6 @@ at_next slots commands left c k s new old now later at slots_is ran_ text =
       count = rw (length-append at.did (c ∷ [])) (omega (arith, at.count));
       run = run ∙ ap (λ t. run_at new t (k + 1)) (sym text_is);
       text = subst (λ t. Appends old later t) (sym text_is) (appends-append old now later told (text_between c s new) at.text text);
-      served = at.served.1;
       asked = at.asked.1;
     }
 

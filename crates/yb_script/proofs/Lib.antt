@@ -1,3 +1,2 @@
 pub mod Doing
-pub mod Serving
 pub mod Counting

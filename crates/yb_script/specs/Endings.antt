@@ -1,5 +1,5 @@
 -- What each end of a run means.
-use Rattle.std.specs.Prelude.{◌≡◌, ℕ, ◌+◌, ◌<◌, ◌≤◌, ⊤, true, false, List, [], ◌∷◌, ◌++◌, length, take, codes, Option, Some, None, Ok, Err}
+use Rattle.std.specs.Prelude.{◌≡◌, ℕ, ◌+◌, ◌<◌, ◌≤◌, ⊤, true, false, List, [], ◌∷◌, ◌++◌, length, take, codes, Option, Some, None, Ok, Err, Result}
 use Rattle.std.specs.Fmt.{decimal}
 use Rattle.std.specs.Io.KnownBytes.{Appends}
 use Rattle.script_io.specs.Causes.{Rose}
@@ -11,9 +11,13 @@ use Rattle.model.specs.Scripts.{Numbered}
 use Rattle.model_runs.specs.Running.{Run, run_of}
 use Rattle.script_asked.specs.Numbered.{numbered_of}
 use Rattle.script_runs.specs.Runs.{RunState, IsPart, Ran, RanFull, RanInPart, text_between}
-use Rattle.yb_script.specs.Programs.{Program}
+use Rattle.script_lang.specs.declared.script.ScriptLine.{ScriptLine}
 use Rattle.yb_script.specs.declared.performing.Halt.{Halt}
 use Rattle.yb_script.specs.declared.performing.Halt.TheVariants.{WriteFault, Full, NoMemory}
+
+-- what a text says: the commands of its lines, or the number of the first line that is refused, and its cause
+abbrev pub Program : Type 0
+Program = Result (List ScriptLine) (ℕ × Cause)
 
 -- this holds of what is left, where it is told
 abbrev pub OfTold : Option (List ℕ) → (List ℕ → Type 0) → Type 0

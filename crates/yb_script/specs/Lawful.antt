@@ -2,7 +2,7 @@
 use Rattle.std.specs.Prelude.{◌≡◌, ◌⊎◌, ℕ, ◌+◌, ◌<◌, ◌≤◌, ◌^◌, true, is_some, List, [], ◌∷◌, ◌++◌, Some}
 use Rattle.row_values.specs.Elements.{In}
 use Rattle.row_values.specs.Ids.{Id}
-use Rattle.model.specs.Acts.{Act, Change, Restore}
+use Rattle.model.specs.Acts.{Change, Restore}
 use Rattle.model.specs.Catalog.{TableRecord, owner_of}
 use Rattle.model.specs.Drawn.{DrawsInTurn, DrawnWithin, DrawnBelow, SchemasDrawn, SnapshotsAsTaken}
 use Rattle.model.specs.Entering.{ClocksAfter, EntersAt, EntersOnce, entered}

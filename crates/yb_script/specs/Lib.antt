@@ -1,4 +1,3 @@
 pub mod Called
-pub mod Programs
 pub mod Endings
 pub mod Lawful

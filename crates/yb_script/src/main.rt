@@ -4,7 +4,6 @@
 mod called;
 mod laws;
 mod performing;
-mod program;
 mod refusal;
 mod run;
 #[cfg(test)]

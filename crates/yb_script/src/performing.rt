@@ -11,7 +11,6 @@ ghost use Rattle.script_io.specs.Causes.{Rose};
 ghost use Rattle.script_lang.specs.declared.script.ScriptLine.TheVariants.{Single};
 ghost use Rattle.script_asked.specs.Numbered.{numbered_of};
 ghost use Rattle.script_runs.specs.Runs.{run_at, numbered, text_between, Ran};
-ghost use Rattle.script_runs.specs.Served.{IsServedCommand};
 ghost use Rattle.yb_script.specs.Endings.{HaltedBy, IsHalted, IsWhole, IsCut, IsBroken, IsFull, status_of};
 
 use admin_words::Text;
@@ -62,7 +61,6 @@ fn answer<V: VersionStore, K: Sink>(
     run: &mut ScriptRun<V>,
     sink: &mut K,
 ) -> Result<(), Halt>
-    requires served { IsServedCommand command.command }
     requires asked { ScriptAsked run.old.slots command.command }
     ensures slots { run.new.slots ≡ run.old.slots }
     ensures ran { OnOk result (Ran command run.old run.new) }
@@ -116,7 +114,6 @@ pub fn run_commands<V: VersionStore, K: Sink>(
     sink: &mut K,
 ) -> Ended<V>
     requires begun { run_at empty [] 0 ≡ begun }
-    requires served { AllOf (λ c. IsServedCommand c.command) (numbered_of script.lines) }
     requires asked { AllOf (λ c. ScriptAsked empty.slots c.command) (numbered_of script.lines) }
     ensures statuses { (result.status ≡ 0) ⊎ (result.status ≡ 5) ⊎ (result.status ≡ 6) ⊎ (result.status ≡ 8) }
     ensures whole { result.status ≡ 0 → IsWhole empty.slots (numbered_of script.lines) result.history result.done (K.written sink.old) (K.written sink.new) }

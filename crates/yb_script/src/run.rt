@@ -4,21 +4,21 @@ ghost use Rattle.std.specs.Prelude.{◌≡◌, ◌≢◌, ◌≤◌, ◌<◌, �
 ghost use Rattle.std.specs.Io.KnownBytes.{Appends};
 ghost use Rattle.model.specs.Drawn.{most_slots};
 ghost use Rattle.model.specs.History.{Legal};
+ghost use Rattle.script_lang.specs.Script.{script_of};
 ghost use Rattle.script_io.specs.Causes.{Rose};
 ghost use Rattle.script_io.specs.Streams.{IsLonger, AppendsPart};
 ghost use Rattle.yb_script.specs.Called.{IsForm, slot_count};
-ghost use Rattle.yb_script.specs.Programs.{program_of};
 ghost use Rattle.yb_script.specs.Endings.{GoesThrough, IsRun, IsFault, IsWriteFault, IsMemoryFault, IsFullRun, OfTold, fault_line};
 ghost use Rattle.yb_script.specs.Lawful.{IsRight};
 
 use crate::called::slots_asked;
 use crate::laws::what_is_legal_is_right;
 use crate::performing::{Ended, run_commands};
-use crate::program::read_program;
 use crate::refusal::fault_line;
 use cluster_core::History;
 use script_io::{ReadRefused, Sink, Source, read_all, write_all};
-use script_lang::{Cause, ScriptRefused};
+use script_asked::what_a_script_spells_may_be_asked;
+use script_lang::{Cause, ScriptRefused, read_script};
 use script_runs::ScriptRun;
 use std::alloc::Global;
 use versions::{PlainStore, VersionStore};
@@ -71,16 +71,17 @@ fn run_script<V: VersionStore, K: Sink>(
 ) -> Ended<V>
     requires few { slots ≤ most_slots }
     ensures statuses { (result.status ≡ 0) ⊎ (result.status ≡ 3) ⊎ (result.status ≡ 5) ⊎ (result.status ≡ 6) ⊎ (result.status ≡ 8) }
-    ensures run { result.status ≡ 0 → IsRun slots (program_of slots bytes.now) result.history result.done (K.written sink.old) (K.written sink.new) }
-    ensures fault { result.status ≡ 3 → IsFault (program_of slots bytes.now) result.history result.done (K.written sink.old) (K.written sink.new) }
-    ensures cut { result.status ≡ 5 → IsWriteFault slots (program_of slots bytes.now) result.history result.done (K.written sink.old) (K.written sink.new) }
-    ensures broken { result.status ≡ 6 → IsMemoryFault slots (program_of slots bytes.now) result.history result.done (K.written sink.old) (K.written sink.new) }
-    ensures full { result.status ≡ 8 → IsFullRun slots (program_of slots bytes.now) result.history result.done (K.written sink.old) (K.written sink.new) }
+    ensures run { result.status ≡ 0 → IsRun slots (script_of slots bytes.now) result.history result.done (K.written sink.old) (K.written sink.new) }
+    ensures fault { result.status ≡ 3 → IsFault (script_of slots bytes.now) result.history result.done (K.written sink.old) (K.written sink.new) }
+    ensures cut { result.status ≡ 5 → IsWriteFault slots (script_of slots bytes.now) result.history result.done (K.written sink.old) (K.written sink.new) }
+    ensures broken { result.status ≡ 6 → IsMemoryFault slots (script_of slots bytes.now) result.history result.done (K.written sink.old) (K.written sink.new) }
+    ensures full { result.status ≡ 8 → IsFullRun slots (script_of slots bytes.now) result.history result.done (K.written sink.old) (K.written sink.new) }
     ensures write_fault { result.status ≡ 5 → Rose (K.faults sink.old) (K.faults sink.new) }
-    ensures complete { GoesThrough slots (program_of slots bytes.now) → ¬ Rose (K.faults sink.old) (K.faults sink.new) → (result.status ≡ 0) ⊎ (result.status ≡ 6) }
+    ensures complete { GoesThrough slots (script_of slots bytes.now) → ¬ Rose (K.faults sink.old) (K.faults sink.new) → (result.status ≡ 0) ⊎ (result.status ≡ 6) }
     ensures legal { Legal slots result.history }
 {
-    match read_program(alloc, bytes, slots) {
+    what_a_script_spells_may_be_asked();
+    match read_script(alloc, bytes, slots) {
         Ok(script) => {
             let Ok(empty) = ScriptRun::begin(alloc, slots) else {
                 return unbegun(6);
@@ -104,15 +105,15 @@ fn run_source<V: VersionStore, S: Source, K: Sink>(
     ensures write_fault { result.status ≡ 5 → Rose (K.faults sink.old) (K.faults sink.new) }
     ensures too_long { result.status ≡ 7 → IsLonger (S.left source.old) 1048576 }
     ensures short { (result.status ≡ 0) ⊎ (result.status ≡ 3) ⊎ (result.status ≡ 5) ⊎ (result.status ≡ 8) → OfTold (S.left source.old) (λ bytes. length bytes ≤ 1048576) }
-    ensures fault { result.status ≡ 3 → OfTold (S.left source.old) (λ bytes. IsFault (program_of slots bytes) result.history result.done (K.written sink.old) (K.written sink.new)) }
-    ensures run { result.status ≡ 0 → OfTold (S.left source.old) (λ bytes. IsRun slots (program_of slots bytes) result.history result.done (K.written sink.old) (K.written sink.new)) }
-    ensures cut { result.status ≡ 5 → OfTold (S.left source.old) (λ bytes. IsWriteFault slots (program_of slots bytes) result.history result.done (K.written sink.old) (K.written sink.new)) }
-    ensures broken { result.status ≡ 6 → OfTold (S.left source.old) (λ bytes. IsMemoryFault slots (program_of slots bytes) result.history result.done (K.written sink.old) (K.written sink.new)) }
-    ensures full { result.status ≡ 8 → OfTold (S.left source.old) (λ bytes. IsFullRun slots (program_of slots bytes) result.history result.done (K.written sink.old) (K.written sink.new)) }
+    ensures fault { result.status ≡ 3 → OfTold (S.left source.old) (λ bytes. IsFault (script_of slots bytes) result.history result.done (K.written sink.old) (K.written sink.new)) }
+    ensures run { result.status ≡ 0 → OfTold (S.left source.old) (λ bytes. IsRun slots (script_of slots bytes) result.history result.done (K.written sink.old) (K.written sink.new)) }
+    ensures cut { result.status ≡ 5 → OfTold (S.left source.old) (λ bytes. IsWriteFault slots (script_of slots bytes) result.history result.done (K.written sink.old) (K.written sink.new)) }
+    ensures broken { result.status ≡ 6 → OfTold (S.left source.old) (λ bytes. IsMemoryFault slots (script_of slots bytes) result.history result.done (K.written sink.old) (K.written sink.new)) }
+    ensures full { result.status ≡ 8 → OfTold (S.left source.old) (λ bytes. IsFullRun slots (script_of slots bytes) result.history result.done (K.written sink.old) (K.written sink.new)) }
     ensures silent { (result.status ≡ 4) ⊎ (result.status ≡ 7) → (K.written sink.new ≡ K.written sink.old) × (result.history ≡ []) × (result.done ≡ 0) }
     ensures statuses { (result.status ≡ 0) ⊎ (result.status ≡ 3) ⊎ (result.status ≡ 4) ⊎ (result.status ≡ 5) ⊎ (result.status ≡ 6) ⊎ (result.status ≡ 7) ⊎ (result.status ≡ 8) }
     ensures long { OfTold (S.left source.old) (λ bytes. 1048576 < length bytes → (result.status ≡ 4) ⊎ (result.status ≡ 6) ⊎ (result.status ≡ 7)) }
-    ensures complete { OfTold (S.left source.old) (λ bytes. length bytes ≤ 1048576 → GoesThrough slots (program_of slots bytes) → ¬ Rose (S.faults source.old) (S.faults source.new) → ¬ Rose (K.faults sink.old) (K.faults sink.new) → (result.status ≡ 0) ⊎ (result.status ≡ 6)) }
+    ensures complete { OfTold (S.left source.old) (λ bytes. length bytes ≤ 1048576 → GoesThrough slots (script_of slots bytes) → ¬ Rose (S.faults source.old) (S.faults source.new) → ¬ Rose (K.faults sink.old) (K.faults sink.new) → (result.status ≡ 0) ⊎ (result.status ≡ 6)) }
     ensures legal { Legal slots result.history }
 {
     match read_all(alloc, source, LIMIT) {
@@ -142,22 +143,22 @@ pub fn run<S: Source, K: Sink>(
     ensures short { (result.status ≡ 0) ⊎ (result.status ≡ 3) ⊎ (result.status ≡ 5) ⊎ (result.status ≡ 8) → OfTold (S.left source.old) (λ bytes. length bytes ≤ 1048576) }
     ensures long { IsForm words.now → OfTold (S.left source.old) (λ bytes. 1048576 < length bytes → (result.status ≡ 4) ⊎ (result.status ≡ 6) ⊎ (result.status ≡ 7)) }
     // 3 comes only where a line is refused: the first one was written, with its cause, and nothing was done.
-    ensures fault { result.status ≡ 3 → OfTold (S.left source.old) (λ bytes. IsFault (program_of (slot_count words.now) bytes) result.history result.done (K.written sink.old) (K.written sink.new)) }
+    ensures fault { result.status ≡ 3 → OfTold (S.left source.old) (λ bytes. IsFault (script_of (slot_count words.now) bytes) result.history result.done (K.written sink.old) (K.written sink.new)) }
     // 0 comes only where no line is refused: the history and the text are those of the commands.
-    ensures run { result.status ≡ 0 → OfTold (S.left source.old) (λ bytes. IsRun (slot_count words.now) (program_of (slot_count words.now) bytes) result.history result.done (K.written sink.old) (K.written sink.new)) }
+    ensures run { result.status ≡ 0 → OfTold (S.left source.old) (λ bytes. IsRun (slot_count words.now) (script_of (slot_count words.now) bytes) result.history result.done (K.written sink.old) (K.written sink.new)) }
     // 5 comes behind the events of the command whose line was written in part, or where the refused line was.
-    ensures cut { result.status ≡ 5 → OfTold (S.left source.old) (λ bytes. IsWriteFault (slot_count words.now) (program_of (slot_count words.now) bytes) result.history result.done (K.written sink.old) (K.written sink.new)) }
+    ensures cut { result.status ≡ 5 → OfTold (S.left source.old) (λ bytes. IsWriteFault (slot_count words.now) (script_of (slot_count words.now) bytes) result.history result.done (K.written sink.old) (K.written sink.new)) }
     // 6 comes within a command at most: the lines of those before it are written, and no more.
-    ensures broken { result.status ≡ 6 → OfTold (S.left source.old) (λ bytes. IsMemoryFault (slot_count words.now) (program_of (slot_count words.now) bytes) result.history result.done (K.written sink.old) (K.written sink.new)) }
+    ensures broken { result.status ≡ 6 → OfTold (S.left source.old) (λ bytes. IsMemoryFault (slot_count words.now) (script_of (slot_count words.now) bytes) result.history result.done (K.written sink.old) (K.written sink.new)) }
     // 8 comes exactly where the book's run stops: the next event can't be stamped, or finds its log full.
-    ensures full { result.status ≡ 8 → OfTold (S.left source.old) (λ bytes. IsFullRun (slot_count words.now) (program_of (slot_count words.now) bytes) result.history result.done (K.written sink.old) (K.written sink.new)) }
+    ensures full { result.status ≡ 8 → OfTold (S.left source.old) (λ bytes. IsFullRun (slot_count words.now) (script_of (slot_count words.now) bytes) result.history result.done (K.written sink.old) (K.written sink.new)) }
     // Whatever the status: the history is legal, and all holds of it that the law says.
     ensures right { IsRight (slot_count words.now) result.history }
     // Nothing is written, and nothing done, where the words are no form or the source is not read whole.
     ensures silent { (result.status ≡ 2) ⊎ (result.status ≡ 4) ⊎ (result.status ≡ 7) → (K.written sink.new ≡ K.written sink.old) × (result.history ≡ []) × (result.done ≡ 0) }
     ensures statuses { (result.status ≤ 8) × (result.status ≢ 1) }
     // A script that the book's run goes through is done whole, unless a count of faults rises or memory ends.
-    ensures complete { IsForm words.now → OfTold (S.left source.old) (λ bytes. length bytes ≤ 1048576 → GoesThrough (slot_count words.now) (program_of (slot_count words.now) bytes) → ¬ Rose (S.faults source.old) (S.faults source.new) → ¬ Rose (K.faults sink.old) (K.faults sink.new) → (result.status ≡ 0) ⊎ (result.status ≡ 6)) }
+    ensures complete { IsForm words.now → OfTold (S.left source.old) (λ bytes. length bytes ≤ 1048576 → GoesThrough (slot_count words.now) (script_of (slot_count words.now) bytes) → ¬ Rose (S.faults source.old) (S.faults source.new) → ¬ Rose (K.faults sink.old) (K.faults sink.new) → (result.status ≡ 0) ⊎ (result.status ≡ 6)) }
 {
     what_is_legal_is_right();
     let Some(slots) = slots_asked(words) else {

@@ -1,4 +1,4 @@
-use Rattle.std.proofs.Common.{◌≡◌, ◌∷◌, [], length, refl, sym, ap, ◌∙◌, subst, arith}
+use Rattle.std.proofs.Common.{refl, sym, ap, ◌∙◌, subst, arith}
 use Rattle.std.specs.Vec.Iter.{into_iter_items}
 use Rattle.model_runs.specs.Courses.{ScriptAsked}
 use Rattle.script_asked.specs.Numbered.{numbered_of}
@@ -9,10 +9,7 @@ pub answer-requires : goal.answer-requires
 answer-requires g c =
     let at = subst (λ left. IsAt c.args.empty.slots (numbered_of c.args.script.lines) left c.loop-line.done c.loop-line.run (g.K.Sink.written c.args.sink.now) (g.K.Sink.written c.loop-line.sink))
     (next_left _ _ c.in-Some.line c.single.result c.in-Some.ensures.steps.0 c.single.ensures.same) c.loop-line.invariant.2 in
-    record {
-      served = at.served.0;
-      asked = subst (λ slots. ScriptAsked slots c.single.result.command) (sym at.slots_is) at.asked.0;
-    }
+    record { asked = subst (λ slots. ScriptAsked slots c.single.result.command) (sym at.slots_is) at.asked.0; }
 
 pub loop-line-preserved : goal.loop-line-preserved
 loop-line-preserved g c =
@@ -30,7 +27,7 @@ loop-line-init g c =
       tt,
       tt,
       subst (λ left. IsAt c.args.empty.slots (numbered_of c.args.script.lines) left 0 c.args.empty (g.K.Sink.written c.args.sink.now) (g.K.Sink.written c.args.sink.now)) (ap numbered_of (sym lines))
-          (at_begin c.args.empty.slots (numbered_of c.args.script.lines) c.args.empty (g.K.Sink.written c.args.sink.now) refl c.requires.begun c.requires.served c.requires.asked),
+          (at_begin c.args.empty.slots (numbered_of c.args.script.lines) c.args.empty (g.K.Sink.written c.args.sink.now) refl c.requires.begun c.requires.asked),
       omega arith,
     )
 

@@ -1,4 +1,4 @@
-use Rattle.std.proofs.Common.{◌≡◌, ◌≤◌}
+use Rattle.std.proofs.Common.{◌≤◌}
 use Rattle.std.specs.Vec.Iter.{into_iter_items}
 use Rattle.script_asked.specs.Numbered.{numbered_of}
 use Rattle.yb_script.proofs.Doing.{IsAt}

@@ -155,6 +155,13 @@ impl Catalog {
         self.tables.tables_at(alloc, namespace, x)
     }
 
+    /// The records of namespaces, the oldest first.
+    pub fn namespaces(&self) -> &[NamespaceRecord]
+        ensures all { result.now ≡ self.now.catalog.namespaces }
+    {
+        self.namespaces.records()
+    }
+
     /// The records of tables, the oldest first.
     pub fn tables(&self) -> &[TableRecord]
         ensures all { result.now ≡ self.now.catalog.tables }

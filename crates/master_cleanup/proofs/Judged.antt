@@ -31,10 +31,10 @@ module _ (i : Interval) (target : Id) (slots : List ℕ) (n : ℕ) (ps : Parts) 
 
   hidden : (b : Bool) (ended : ℕ) (s : Standing) → removing_since (if b then Some ended else None) i target s n ps.master
       ≡ judged
-        (If (not b) (Moved i.slot s)
-        ∷ Fault (removable_tablet ended (floor_of_table ps.master i.table n) (lister_of_tablet ps.master target))
-        ∷ [])
-        (clearing i.slot target)
+      (If (not b) (Moved i.slot s)
+      ∷ Fault (removable_tablet ended (floor_of_table ps.master i.table n) (lister_of_tablet ps.master target))
+      ∷ [])
+      (clearing i.slot target)
   hidden true ended s = refl
   hidden false ended s = refl
 

@@ -2,3 +2,4 @@ pub mod Raising
 pub mod Staying
 pub mod Judged
 pub mod Used
+pub mod Pruned

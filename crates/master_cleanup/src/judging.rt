@@ -41,7 +41,11 @@ pub fn judge_snapshot(
         (λ kept. book.removable_snapshot snapshot.now.at (book.floor_of master.now.master snapshot.now.namespace stamp) (book.lister_of_snapshot master.now.master snapshot.now) ≡ Some (why.refusal_of kept)) }
 {
     let floor = floor_of(master, &snapshot_namespace(snapshot), stamp);
-    removable_snapshot(snapshot_time(snapshot), floor, lister_of_snapshot(master, snapshot))
+    removable_snapshot(
+        snapshot_time(snapshot),
+        floor,
+        lister_of_snapshot(master, snapshot),
+    )
 }
 
 /// Whether a tablet is known as hidden, and retention doesn't need it.
@@ -50,8 +54,14 @@ pub fn is_removable_tablet(master: &MasterPart, interval: &Interval, stamp: Hybr
 {
     match ended_at(interval) {
         None => false,
-        Some(ended) => judge_tablet(master, &table_of(interval), &tablet_of(interval), ended, stamp)
-            .is_ok(),
+        Some(ended) => judge_tablet(
+            master,
+            &table_of(interval),
+            &tablet_of(interval),
+            ended,
+            stamp,
+        )
+        .is_ok(),
     }
 }
 

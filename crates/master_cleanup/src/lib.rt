@@ -5,6 +5,7 @@
 #![tactic(auto)]
 
 mod cutoffs;
+mod cuts;
 mod floors;
 mod judging;
 mod listers;

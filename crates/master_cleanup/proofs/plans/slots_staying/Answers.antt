@@ -13,6 +13,6 @@ listed-preserved c = let l = c.index-listed-upto.result in record {
       c.in_ok-put_staying.ensures.put
       ∙ ap (put_if _ l.slot) c.listed.invariant.slots
       ∙ one_more (λ tablet. not (list_any (λ (t : Removal). same t.target tablet) c.args.gone.now)) c.args.master.now.master c.args.listed.now c.listed.upto l
-          c.index-listed-upto.is (omega (arith, c.listed-test.true)) c.listed.invariant.within;
+      c.index-listed-upto.is (omega (arith, c.listed-test.true)) c.listed.invariant.within;
   within = omega (arith, c.listed.invariant.within);
 }

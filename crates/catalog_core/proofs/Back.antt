@@ -1,5 +1,5 @@
 -- The tables that a namespace had at a time may begin again where its current ones end.
-use Rattle.std.proofs.Common.{ℕ, zero, suc, ◌≡◌, ◌<◌, ◌⊎◌, inl, inr, Bool, true, false, ◌&&◌, cond, List, [], ◌∷◌, ◌++◌, map, Option, Some, None, if◌then◌else◌, length, filter, slice_get, nat_le, nat_lt, refl, sym, ap, subst, ◌∙◌, arith}
+use Rattle.std.proofs.Common.{ℕ, zero, suc, ◌≡◌, ◌⊎◌, inl, inr, Bool, true, false, ◌&&◌, cond, List, [], ◌∷◌, ◌++◌, map, Option, Some, None, if◌then◌else◌, filter, slice_get, nat_le, nat_lt, refl, sym, ap, ◌∙◌, arith}
 use Rattle.std.proofs.lemmas.Grind.{common_steps}
 use Rattle.std.specs.List.{find}
 use Rattle.std.specs.Option.{option_or}
@@ -8,17 +8,17 @@ use Rattle.std.proofs.lemmas.Slice.Eq.{bytes_eq-Decides}
 use Rattle.std.proofs.lemmas.List.Folds.{find-append}
 use Rattle.row_values.specs.Ids.{Id, same}
 use Rattle.row_values.specs.Elements.{AllOf}
-use Rattle.model.specs.Times.{is_open, ended, ended_by, before_end, holds_at}
+use Rattle.model.specs.Times.{is_open, ended_by, before_end, holds_at}
 use Rattle.model.specs.Catalog.{TableRecord, current_named, current_table, put_table, by_id, tables_at, end_tables}
 use Rattle.model.specs.Restored.{back_at, tables_back}
 use Rattle.newest_index.specs.Newest.{InTurn}
-use Rattle.catalog_core.specs.Kept.{same_table_name, same_table_id, table_over, over_or_open, ends_by, stands_in}
-use Rattle.catalog_core.specs.Begins.{Begins, BeginsAll, IsHome}
+use Rattle.catalog_core.specs.Kept.{same_table_name, same_table_id, table_over, over_or_open, ends_by, ends_in, stands_in}
+use Rattle.catalog_core.specs.Begins.{Clears, BeginsAll, IsHome}
 use Rattle.catalog_core.proofs.Names.{both_false, bytes_equal}
 use Rattle.catalog_core.proofs.InSpaces.{closes, gone_by}
 use Rattle.catalog_core.proofs.Replaced.{and_left, and_right, and_both, still_past}
 
-never : (b : Bool) → (b ≡ true → ⊥) → b ≡ false
+pub never : (b : Bool) → (b ≡ true → ⊥) → b ≡ false
 never true deny = absurd (deny refl)
 never false deny = refl
 
@@ -65,14 +65,14 @@ apart_by_id (t ∷ ts) apart = apart_put t (by_id ts) (all_by_id (Differ t) ts a
 
 -- of those that stand at one time no two share a name or an identifier
 
-over_at : (x from : ℕ) (o : Option ℕ) → ended_by from o ≡ true → nat_le from x ≡ true → before_end x o ≡ true → ⊥
+pub over_at : (x from : ℕ) (o : Option ℕ) → ended_by from o ≡ true → nat_le from x ≡ true → before_end x o ≡ true → ⊥
 over_at x from None over le before = absurd (cc)
 over_at x from (Some t) over le before = grind (arith, common_steps, over, le, before)
 
 tail_turn : {alike over : TableRecord → TableRecord → Bool} (r : TableRecord) (rs : List TableRecord) → InTurn alike over (r ∷ rs) → InTurn alike over rs
 tail_turn r rs turn = record { turns = λ i j s t lt is at like. turn.turns (suc i) (suc j) s t (omega (arith, lt)) is at like }
 
-swap_bytes : (xs ys : List ℕ) → bytes_eq xs ys ≡ true → bytes_eq ys xs ≡ true
+pub swap_bytes : (xs ys : List ℕ) → bytes_eq xs ys ≡ true → bytes_eq ys xs ≡ true
 swap_bytes xs ys e = (bytes_eq-Decides ys xs).1 (sym (bytes_equal xs ys e))
 
 -- what each record that passes a test meets
@@ -154,16 +154,35 @@ module _ (equal : (a b : Id) → same a b ≡ true → a ≡ b) where
 pub record IsNew (rs : List TableRecord) (point : ℕ) (t : TableRecord) : Type 0 where
   pub current : t.to ≡ None
   pub begun : t.from ≡ point
+  pub past : Clears rs t
   pub free : current_named rs t.namespace t.name ≡ None
   pub fresh : current_table rs t.id ≡ None
 
 shut_by : (o : Option ℕ) (b : Bool) → b ≡ false → (is_open o && b) ≡ false
 shut_by o b e = both_false (is_open o) b e
 
-new_next : (rs : List TableRecord) (point : ℕ) (t s : TableRecord) → Differ t s → IsNew rs point s → IsNew (rs ++ t ∷ []) point s
-new_next rs point t s apart new = record {
+-- a record behind the others is none of them
+at_next : (rs : List TableRecord) (t : TableRecord) (i : ℕ) (r : TableRecord) → slice_get (rs ++ t ∷ []) i ≡ Some r → slice_get rs i ≡ Some r ⊎ r ≡ t
+at_next [] t zero r is = inr (cc)
+at_next [] t (suc i) r is = absurd (cc)
+at_next (s ∷ ss) t zero r is = inl is
+at_next (s ∷ ss) t (suc i) r is = at_next ss t i r is
+
+clears_next : (rs : List TableRecord) (t s : TableRecord) → t.to ≡ None → Clears rs s → Clears (rs ++ t ∷ []) s
+clears_next rs t s opens past = record {
+  names = λ i r is like. by i r (λ here. past.names i r here like) (at_next rs t i r is);
+  ids = λ i r is like. by i r (λ here. past.ids i r here like) (at_next rs t i r is);
+}
+  where
+    by : (i : ℕ) (r : TableRecord) → (slice_get rs i ≡ Some r → over_or_open s.from r.to ≡ true) → slice_get rs i ≡ Some r ⊎ r ≡ t → over_or_open s.from r.to ≡ true
+    by i r old (inl here) = old here
+    by i r old (inr last) = ap (λ (u : TableRecord). over_or_open s.from u.to) last ∙ ap (over_or_open s.from) opens
+
+new_next : (rs : List TableRecord) (point : ℕ) (t s : TableRecord) → t.to ≡ None → Differ t s → IsNew rs point s → IsNew (rs ++ t ∷ []) point s
+new_next rs point t s opens apart new = record {
   current = new.current;
   begun = new.begun;
+  past = clears_next rs t s opens new.past;
   free =
       find-append (λ (r : TableRecord). is_open r.to && (same r.namespace s.namespace && bytes_eq r.name s.name)) rs (t ∷ [])
       ∙ ap (λ o. option_or o (find (λ (r : TableRecord). is_open r.to && (same r.namespace s.namespace && bytes_eq r.name s.name)) (t ∷ []))) new.free
@@ -174,26 +193,47 @@ new_next rs point t s apart new = record {
       ∙ ap (λ b. cond b (Some t) None) (shut_by t.to (same t.id s.id) apart.ids);
 }
 
-pub past_next : (rs : List TableRecord) (t : TableRecord) (point : ℕ) → t.to ≡ None → ends_by point rs ≡ true → ends_by point (rs ++ t ∷ []) ≡ true
-past_next [] t point opens past = ap (λ o. over_or_open point o && true) opens
-past_next (r ∷ rs) t point opens past =
-    and_both (over_or_open point r.to) (ends_by point (rs ++ t ∷ [])) (and_left (over_or_open point r.to) (ends_by point rs) past)
-    (past_next rs t point opens (and_right (over_or_open point r.to) (ends_by point rs) past))
-
-begin_all : (rs : List TableRecord) (point : ℕ) (ts : List TableRecord) → AllOf (IsNew rs point) ts → Apart ts → ends_by point rs ≡ true → BeginsAll rs ts
-begin_all rs point [] new apart past = tt
-begin_all rs point (t ∷ ts) new apart past = (
-  record { current = new.0.current; past = ap (λ f. ends_by f rs) new.0.begun ∙ past; free = new.0.free; fresh = new.0.fresh },
-  begin_all (rs ++ t ∷ []) point ts (all_both (Differ t) (IsNew rs point) (IsNew (rs ++ t ∷ []) point) ts (λ s d n. new_next rs point t s d n) apart.0 new.1) apart.1
-      (past_next rs t point new.0.current past),
+pub begin_all : (rs : List TableRecord) (point : ℕ) (ts : List TableRecord) → AllOf (IsNew rs point) ts → Apart ts → BeginsAll rs ts
+begin_all rs point [] new apart = tt
+begin_all rs point (t ∷ ts) new apart = (
+  record { current = new.0.current; past = new.0.past; free = new.0.free; fresh = new.0.fresh },
+  begin_all (rs ++ t ∷ []) point ts
+      (all_both (Differ t) (IsNew rs point) (IsNew (rs ++ t ∷ []) point) ts (λ s d n. new_next rs point t s new.0.current d n) apart.0 new.1) apart.1,
 )
 
-closes_past : (rs : List TableRecord) (ns : Id) (at : ℕ) → ends_by at rs ≡ true → ends_by at (end_tables ns at rs) ≡ true
-closes_past [] ns at past = refl
-closes_past (r ∷ rs) ns at past =
-    and_both (over_or_open at (if same r.namespace ns then ended at r.to else r.to)) (ends_by at (end_tables ns at rs))
-    (still_past (same r.namespace ns) r.to at (and_left (over_or_open at r.to) (ends_by at rs) past))
-    (closes_past rs ns at (and_right (over_or_open at r.to) (ends_by at rs) past))
+-- records of the namespace that did not end later don't where its tables end
+
+tail_past : (b : Bool) (s : TableRecord) (at : ℕ) (rest : List TableRecord) → ends_by at (cond b (s ∷ rest) rest) ≡ true → ends_by at rest ≡ true
+tail_past true s at rest past = and_right (over_or_open at s.to) (ends_by at rest) past
+tail_past false s at rest past = past
+
+head_past : (b : Bool) (s : TableRecord) (at : ℕ) (rest : List TableRecord) → ends_by at (cond b (s ∷ rest) rest) ≡ true → b ≡ true → over_or_open at s.to ≡ true
+head_past true s at rest past e = and_left (over_or_open at s.to) (ends_by at rest) past
+head_past false s at rest past e = absurd (cc)
+
+abbrev of_space : Id → TableRecord → Bool
+of_space ns r = same r.namespace ns
+
+space_past : (rs : List TableRecord) (ns : Id) (at : ℕ) → ends_in ns at rs ≡ true
+    → (i : ℕ) (r : TableRecord) → slice_get (end_tables ns at rs) i ≡ Some r → same r.namespace ns ≡ true → over_or_open at r.to ≡ true
+space_past [] ns at past i r is mine = absurd (cc)
+space_past (s ∷ ss) ns at past zero r is mine =
+    let one : closes ns at s ≡ r = cc in
+    let its : same s.namespace ns ≡ true = ap (of_space ns) one ∙ mine in
+    ap (λ (u : TableRecord). over_or_open at u.to) (sym one)
+    ∙ still_past (same s.namespace ns) s.to at (head_past (same s.namespace ns) s at (filter (of_space ns) ss) past its)
+space_past (s ∷ ss) ns at past (suc i) r is mine =
+    space_past ss ns at (tail_past (same s.namespace ns) s at (filter (of_space ns) ss) past) i r is mine
+
+-- nor does an end make a record another table's
+home_kept : (rs : List TableRecord) (ns id : Id) (at : ℕ)
+    → ((j : ℕ) (q : TableRecord) → slice_get rs j ≡ Some q → same q.id id ≡ true → same q.namespace ns ≡ true)
+    → (i : ℕ) (r : TableRecord) → slice_get (end_tables ns at rs) i ≡ Some r → same r.id id ≡ true → same r.namespace ns ≡ true
+home_kept [] ns id at home i r is mine = absurd (cc)
+home_kept (s ∷ ss) ns id at home zero r is mine =
+    let one : closes ns at s ≡ r = cc in
+    ap (λ (u : TableRecord). same u.namespace ns) (sym one) ∙ home 0 s refl (ap (λ (u : TableRecord). same u.id id) one ∙ mine)
+home_kept (s ∷ ss) ns id at home (suc i) r is mine = home_kept ss ns id at (λ j q there. home (suc j) q there) i r is mine
 
 apart_back : (rs : List TableRecord) (point : ℕ) (ts : List TableRecord) → Apart ts → Apart (map (back_at rs point) ts)
 apart_back rs point [] apart = tt
@@ -205,7 +245,7 @@ apart_back rs point (t ∷ ts) apart = (
 
 -- the tables that the namespace had at a time may begin again where its current ones end
 pub back_begins : ((a b : Id) → same a b ≡ true → a ≡ b) → (rs : List TableRecord) (ns : Id) (to point : ℕ)
-    → InTurn same_table_name table_over rs → InTurn same_table_id table_over rs → IsHome rs → ends_by point rs ≡ true
+    → InTurn same_table_name table_over rs → InTurn same_table_id table_over rs → IsHome rs → ends_in ns point rs ≡ true
     → BeginsAll (end_tables ns point rs) (tables_back rs ns to point)
 back_begins equal rs ns to point names ids home past =
     let found = filter (stands_in ns to) rs in
@@ -216,12 +256,18 @@ back_begins equal rs ns to point names ids home past =
     (all_by_id P found (all_filter P (stands_in ns to) rs
     (λ i t at stands.
     let mine = and_right (holds_at to t.from t.to) (same t.namespace ns) stands in
+    let its : (j : ℕ) (q : TableRecord) → slice_get rs j ≡ Some q → same q.id t.id ≡ true → same q.namespace ns ≡ true =
+    λ j q is e. ap (same q.namespace) (sym (equal t.namespace ns mine)) ∙ home j i q t is at e in
     record {
       current = refl;
       begun = refl;
+      past = record {
+        names = λ j q is like.
+            space_past rs ns point past j q is
+            (ap (same q.namespace) (sym (equal t.namespace ns mine)) ∙ and_left (same q.namespace t.namespace) (bytes_eq q.name t.name) like);
+        ids = λ j q is like. space_past rs ns point past j q is (home_kept rs ns t.id point its j q is like);
+      };
       free = name_gone equal rs ns t.namespace t.name point mine;
-      fresh = id_gone equal rs ns t.id point
-          (λ j q is e. ap (same q.namespace) (sym (equal t.namespace ns mine)) ∙ home j i q t is at e);
+      fresh = id_gone equal rs ns t.id point its;
     }))))
     (apart_back rs point (tables_at rs ns to) (apart_by_id found (apart_filter equal ns to rs names ids)))
-    (closes_past rs ns point past)

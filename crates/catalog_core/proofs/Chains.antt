@@ -1,5 +1,5 @@
 -- Records whose names have one number are walked back to the last that passes a test.
-use Rattle.std.proofs.Common.{ℕ, zero, suc, ◌≡◌, ◌<◌, Bool, true, false, List, [], ◌∷◌, map, Some, None, if◌then◌else◌, length, take, slice_get, nat_eq, refl, sym, ap, ◌∙◌, arith}
+use Rattle.std.proofs.Common.{ℕ, ◌≡◌, ◌<◌, Bool, true, false, List, map, Some, None, if◌then◌else◌, length, take, slice_get, nat_eq, sym, ap, ◌∙◌, arith}
 use Rattle.std.proofs.lemmas.Grind.{common_steps}
 use Rattle.std.proofs.lemmas.List.{length-map}
 use Rattle.newest_index.specs.Newest.{last_place}

@@ -18,6 +18,7 @@ use Rattle.newest_index.proofs.Opens.{last_place-at, last_place-same, none_at, k
 use Rattle.newest_index.proofs.Turns.{next_of, last_place-cons, last_place-map, find_last, changes_last, turns_last, in_turn-next, in_turn-map}
 use Rattle.catalog_core.specs.Codes.{table_code, code_in}
 use Rattle.catalog_core.specs.Kept.{table_id, is_begun, table_space, is_current_table, same_table_name, same_table_id, table_over, table_closed, begun_by, is_sought, stood_at, over_or_open, ends_by, namespace_of, is_named, one_if}
+use Rattle.catalog_core.specs.Begins.{Clears}
 use Rattle.catalog_core.proofs.Names.{bytes_meet, code_apart, open_at-record, ended_to, count_set}
 
 abbrev pub has_id : Id → TableRecord → Bool
@@ -263,21 +264,25 @@ over_by : (o : Option ℕ) (b : Bool) (at : ℕ) → (is_open o && b) ≡ false 
 over_by None b at e h past = let q : true ≡ false = sym h ∙ e in absurd (cc)
 over_by (Some t) b at e h past = past
 
-pub added_name : (rs : List TableRecord) (r : TableRecord) → current_named rs r.namespace r.name ≡ None → ends_by r.from rs ≡ true
+-- where no record ends later, none that is like a record does
+pub clears_all : (rs : List TableRecord) (r : TableRecord) → ends_by r.from rs ≡ true → Clears rs r
+clears_all rs r past = record { names = λ i s is like. past_at r.from rs i s past is; ids = λ i s is like. past_at r.from rs i s past is }
+
+pub added_name : (rs : List TableRecord) (r : TableRecord) → current_named rs r.namespace r.name ≡ None → Clears rs r
     → InTurn same_table_name table_over rs → InTurn same_table_name table_over (rs ++ r ∷ [])
 added_name rs r free past turn =
     in_turn-next same_table_name table_over rs r
     (λ i s is like. over_by s.to (same s.namespace r.namespace && bytes_eq s.name r.name) r.from
     (none_at (λ t. is_open t.to && is_sought r.namespace r.name None t) rs i s (sym (current_named-find rs r.namespace r.name) ∙ free) is) like
-    (past_at r.from rs i s past is)) turn
+    (past.names i s is like)) turn
 
-pub added_id : (rs : List TableRecord) (r : TableRecord) → current_table rs r.id ≡ None → ends_by r.from rs ≡ true
+pub added_id : (rs : List TableRecord) (r : TableRecord) → current_table rs r.id ≡ None → Clears rs r
     → InTurn same_table_id table_over rs → InTurn same_table_id table_over (rs ++ r ∷ [])
 added_id rs r fresh past turn =
     in_turn-next same_table_id table_over rs r
     (λ i s is like. over_by s.to (same s.id r.id) r.from
     (none_at (λ t. is_open t.to && same t.id r.id) rs i s (sym (current_table-find rs r.id) ∙ fresh) is) like
-    (past_at r.from rs i s past is)) turn
+    (past.ids i s is like)) turn
 
 -- Counts
 

@@ -1,11 +1,11 @@
 -- The records of one namespace's tables: those that held at a time, what is left where the current ones end, and their count.
-use Rattle.std.proofs.Common.{ℕ, suc, ◌≡◌, ◌+◌, Bool, true, false, ◌&&◌, ◌||◌, cond, List, [], ◌∷◌, map, Option, Some, None, is_some, if◌then◌else◌, length, filter, refl, sym, ap, ◌∙◌, arith}
+use Rattle.std.proofs.Common.{ℕ, ◌≡◌, Bool, true, false, ◌&&◌, ◌||◌, cond, List, [], ◌∷◌, map, Option, Some, None, is_some, if◌then◌else◌, length, refl, sym, ap, ◌∙◌, arith}
 use Rattle.std.specs.Cmp.{IsEquivalence}
 use Rattle.std.specs.List.{list_any}
 use Rattle.std.specs.Option.{option_or}
 use Rattle.row_values.specs.Ids.{Id, same}
 use Rattle.model.specs.Times.{is_open, ended, holds_at}
-use Rattle.model.specs.Catalog.{TableRecord, put_table, by_id, tables_at, end_tables, current_tables}
+use Rattle.model.specs.Catalog.{TableRecord, put_table, tables_at, end_tables, current_tables}
 use Rattle.newest_index.specs.Newest.{last_place, InTurn}
 use Rattle.newest_index.specs.Gathered.{gathered, changed_where}
 use Rattle.newest_index.proofs.Opens.{last_place-same, keys_kept}

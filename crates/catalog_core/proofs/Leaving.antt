@@ -5,7 +5,7 @@ use Rattle.std.specs.Cmp.{IsEquivalence}
 use Rattle.indexmap.specs.IndexMap.{set_value_at}
 use Rattle.row_values.specs.Ids.{Id, same}
 use Rattle.model.specs.Times.{is_open, ended_by}
-use Rattle.model.specs.Catalog.{NamespaceRecord, KeptFrom}
+use Rattle.model.specs.Catalog.{NamespaceRecord}
 use Rattle.newest_index.specs.Newest.{last_place}
 use Rattle.newest_index.proofs.Opens.{last_place-same}
 use Rattle.newest_index.proofs.Turns.{last_place-map}

@@ -9,3 +9,4 @@ pub mod Replaced
 pub mod InSpaces
 pub mod Back
 pub mod Leaving
+pub mod Cloned

@@ -1,5 +1,5 @@
 -- What the parts of the catalog keep.
-use Rattle.std.specs.Prelude.{ℕ, ◌≤◌, length, Bool, List, [], ◌∷◌, Option, Some, None, max, not, ◌&&◌, if◌then◌else◌, nat_le, true, false}
+use Rattle.std.specs.Prelude.{ℕ, ◌≤◌, length, Bool, List, [], ◌∷◌, Option, Some, None, max, not, ◌&&◌, if◌then◌else◌, nat_le, true, false, filter}
 use Rattle.std.specs.Option.{option_map, unwrap_or}
 use Rattle.std.specs.Str.{bytes_eq}
 use Rattle.indexmap.specs.IndexMap.{IndexMap, get}
@@ -104,6 +104,10 @@ over_or_open at (Some to) = nat_le to at
 abbrev pub ends_by : ℕ → List TableRecord → Bool
 ends_by at [] = true
 ends_by at (r ∷ rs) = over_or_open at r.to && ends_by at rs
+
+-- whether no record of a namespace ends after a time
+abbrev pub ends_in : Id → ℕ → List TableRecord → Bool
+ends_in ns at rs = ends_by at (filter (λ (r : TableRecord). same r.namespace ns) rs)
 
 -- a record of the namespace that held at a time
 abbrev pub stands_in : Id → ℕ → TableRecord → Bool

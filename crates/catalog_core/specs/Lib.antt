@@ -2,3 +2,4 @@ pub mod Codes
 pub mod Kept
 pub mod Begins
 pub mod Pruned
+pub mod Cloned

@@ -1,5 +1,5 @@
 -- What a prune makes of the catalog, by up to which time it takes the records of each namespace.
-use Rattle.std.specs.Prelude.{ℕ, not, max, Bool, List, map, filter, if◌then◌else◌, Option, Some}
+use Rattle.std.specs.Prelude.{ℕ, not, max, Bool, map, filter, if◌then◌else◌}
 use Rattle.row_values.specs.Ids.{Id}
 use Rattle.model.specs.Times.{ended_by}
 use Rattle.model.specs.Catalog.{Catalog, NamespaceRecord, TableRecord, KeptFrom}

@@ -2,12 +2,15 @@ ghost use Rattle.std.specs.Prelude.{ℕ, ◌≡◌, ◌≤◌, ◌+◌, None, tr
 ghost use Rattle.std.specs.Option.{option_copied};
 ghost use Rattle.model.specs.Times.{is_open};
 ghost use Rattle.model.specs.Catalog.{Catalog, NamespaceRecord, TableRecord, tables_at, empty_catalog, namespace_named, name_of, current_named, current_table, current_tables, table_named, latest, kept_from, set_kept_from, owner_of, namespace_added, namespace_ended, table_added, table_ended, end_table};
-ghost use Rattle.model.specs.Restored.{tables_back, replace, record_at};
+ghost use Rattle.model.specs.Restored.{tables_back, replace, record_at, cloned_tables};
+ghost use Rattle.model.specs.Records.{CloneRecord};
+ghost use Rattle.catalog_core.specs.Cloned.{TargetFits, target_of};
 ghost use Rattle.catalog_core.specs.Begins.{IsHome};
 ghost use Rattle.catalog_core.specs.Pruned.{pruned_by, space_goes, table_goes};
-ghost use Rattle.catalog_core.specs.Kept.{ends_by, is_free_for, KeepRoom};
+ghost use Rattle.catalog_core.specs.Kept.{ends_by, ends_in, is_free_for, KeepRoom};
 
 use crate::keeping::Keeps;
+use crate::keys::keys_agree;
 use crate::marks::Marks;
 use crate::namespaces::Namespaces;
 use crate::owners::Owners;
@@ -152,6 +155,13 @@ impl Catalog {
         self.tables.tables_at(alloc, namespace, x)
     }
 
+    /// The records of namespaces, the oldest first.
+    pub fn namespaces(&self) -> &[NamespaceRecord]
+        ensures all { result.now ≡ self.now.catalog.namespaces }
+    {
+        self.namespaces.records()
+    }
+
     /// The records of tables, the oldest first.
     pub fn tables(&self) -> &[TableRecord]
         ensures all { result.now ≡ self.now.catalog.tables }
@@ -249,16 +259,33 @@ impl Catalog {
     }
 
     /// The current tables of a namespace give way to those that it had at a time, as a restore brings
-    /// them back, in the room that was made. Records of one table are of one namespace.
+    /// them back, in the room that was made. Records of one table are of one namespace, and none of this
+    /// namespace ends after the point.
     pub fn restore_tables(&mut self, namespace: &Ident, back: Vec<TableRecord>, point: HybridTime)
         requires room { length back.items ≤ self.old.room }
-        requires past { ends_by point self.old.catalog.tables ≡ true }
+        requires past { ends_in namespace.now point self.old.catalog.tables ≡ true }
         requires home { IsHome self.old.catalog.tables }
         requires back { (to : ℕ) × (back.items ≡ tables_back self.old.catalog.tables namespace.now to point) }
         ensures catalog { self.new.catalog ≡ record self.old.catalog { tables = replace namespace.now back.items point self.old.catalog.tables } }
         ensures room { self.old.room ≤ self.new.room + length back.items }
     {
         self.tables.restore(namespace, back, point);
+    }
+
+    /// The target of a clone becomes current, with the tables that it takes over of its source, in the
+    /// room that was made. The tables' owner is known since the clone was accepted. The target's
+    /// catalog is kept from its beginning on.
+    pub fn add_target(&mut self, namespace: NamespaceRecord, tables: Vec<TableRecord>)
+        requires room { 1 ≤ self.old.room }
+        requires places { length tables.items ≤ self.old.room }
+        requires target { (r : CloneRecord) × (TargetFits self.old.catalog r × ((namespace ≡ target_of r namespace.from) × (tables.items ≡ cloned_tables r.tables self.old.catalog.tables r.target_id r.to namespace.from))) }
+        ensures catalog { self.new.catalog ≡ record (namespace_added namespace self.old.catalog) { tables = self.old.catalog.tables ++ tables.items } }
+    {
+        keys_agree();
+        self.tables.follow_in_turn();
+        self.kept_from.set(namespace.id, namespace.from);
+        self.namespaces.add(namespace);
+        self.tables.add_all(tables);
     }
 
     /// The namespace of a table that is yet to be made, in the room that was made.

@@ -7,9 +7,9 @@ ghost use Rattle.std.specs.List.{list_any};
 ghost use Rattle.model.specs.Catalog.{TableRecord, current_named, current_table, current_tables, table_named, tables_at, latest, end_table, end_tables};
 ghost use Rattle.model.specs.Times.{is_open};
 ghost use Rattle.model.specs.Restored.{tables_back, replace, record_at};
-ghost use Rattle.catalog_core.specs.Begins.{BeginsAll, IsHome};
+ghost use Rattle.catalog_core.specs.Begins.{BeginsAll, Clears, IsHome};
 ghost use Rattle.catalog_core.specs.Codes.{table_code, code_in};
-ghost use Rattle.catalog_core.specs.Kept.{is_current_table, is_begun, table_id, table_space, same_table_name, same_table_id, table_over, table_closed, stood_at, is_sought, begun_by, over_or_open, ends_by, namespace_of, is_named, one_if, count_in, is_free_for};
+ghost use Rattle.catalog_core.specs.Kept.{is_current_table, is_begun, table_id, table_space, same_table_name, same_table_id, table_over, table_closed, stood_at, is_sought, begun_by, over_or_open, ends_by, ends_in, namespace_of, is_named, one_if, count_in, is_free_for};
 
 use crate::codes::name_code;
 use crate::keeping::{ById, ByName, BySpace, Keeps, retain};
@@ -198,11 +198,12 @@ impl Tables {
         Ok(())
     }
 
-    /// Takes in a record that is current, in the room that was made. No other record ends after it begins.
+    /// Takes in a record that is current, in the room that was made. No record of its name, and none
+    /// of its identifier, ends after it begins.
     pub fn add(&mut self, table: TableRecord)
         requires room { 1 ≤ self.old.room }
         requires current { table.to ≡ None }
-        requires past { ends_by table.from self.old.items ≡ true }
+        requires past { Clears self.old.items table }
         requires free { current_named self.old.items table.namespace table.name ≡ None }
         requires fresh { current_table self.old.items table.id ≡ None }
         ensures items { self.new.items ≡ self.old.items ++ table ∷ [] }
@@ -239,8 +240,8 @@ impl Tables {
         clear_count(&mut self.counts, namespace);
     }
 
-    // Of the records of one name, and of one identifier, each was over when the next began.
-    fn follow_in_turn(&self)
+    /// Of the records of one name, and of one identifier, each was over when the next began.
+    pub fn follow_in_turn(&self)
         ensures names { InTurn same_table_name table_over self.now.items }
         ensures ids { InTurn same_table_id table_over self.now.items }
     {
@@ -263,8 +264,8 @@ impl Tables {
         self.add(table);
     }
 
-    // Takes in records that are current, each behind those before it, in the room that was made.
-    fn add_all(&mut self, tables: Vec<TableRecord>)
+    /// Takes in records that are current, each behind those before it, in the room that was made.
+    pub fn add_all(&mut self, tables: Vec<TableRecord>)
         requires room { length tables.items ≤ self.old.room }
         requires begin { BeginsAll self.old.items tables.items }
         ensures items { self.new.items ≡ self.old.items ++ tables.items }
@@ -276,10 +277,11 @@ impl Tables {
     }
 
     /// The current tables of a namespace give way to those that it had at a time, in the room that
-    /// was made. Records of one table are of one namespace, and none ends after the point.
+    /// was made. Records of one table are of one namespace, and none of this namespace ends after the
+    /// point.
     pub fn restore(&mut self, namespace: &Ident, back: Vec<TableRecord>, point: HybridTime)
         requires room { length back.items ≤ self.old.room }
-        requires past { ends_by point self.old.items ≡ true }
+        requires past { ends_in namespace.now point self.old.items ≡ true }
         requires home { IsHome self.old.items }
         requires back { (to : ℕ) × (back.items ≡ tables_back self.old.items namespace.now to point) }
         ensures items { self.new.items ≡ replace namespace.now back.items point self.old.items }

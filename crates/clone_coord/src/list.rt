@@ -1,16 +1,19 @@
-ghost use Rattle.std.specs.Prelude.{◌≡◌, ◌≤◌, ◌&&◌, ◌||◌, [], ◌∷◌, ◌++◌, OnOk, not, length, filter};
+ghost use Rattle.std.specs.Prelude.{◌≡◌, ◌≤◌, ◌<◌, ◌&&◌, ◌||◌, true, false, Some, [], ◌∷◌, ◌++◌, OnOk, IfSome, MatchOption, ⊤, not, length, filter, slice_get};
+ghost use Rattle.std.specs.List.{list_any};
 ghost use Rattle.std.specs.Option.{option_copied, option_and_then};
 ghost use Rattle.model.specs.Records as book;
 ghost use Rattle.model.specs.Coordination.{unfinished_clone, acked_clone};
-ghost use Rattle.clone_coord.specs.View.{acked_if};
+ghost use Rattle.clone_coord.specs.View.{acked_if, entered, entered_in};
+ghost use Rattle.clone_coord.specs.Seen.{state_of};
 ghost use Rattle.row_values.specs.Ids.{same};
-ghost use Rattle.model.specs.Records.{is_cloned, is_visible};
+ghost use Rattle.model.specs.Records.{CloneRecord, is_cloned, is_visible};
 ghost use Rattle.model.specs.Operations.{clone_to, clone_with};
 ghost use Rattle.model.specs.Looks.{has_target, is_reserved};
 ghost use Rattle.model.specs.Changes.{clone_named};
 
 use crate::record::{CloneRecord, TabletPair};
-use row_values::{Name, NoMemory};
+use crate::state::CloneState;
+use row_values::{Name, NoMemory, Records};
 use std::alloc::Global;
 use std::marker::Model;
 use tablet_inbox::{Listed, set_acked, unacked_at};
@@ -142,6 +145,18 @@ impl Clones {
         }
     }
 
+    /// A clone enters a state, with the tablets that it lists there. It takes no memory.
+    pub fn enter(&mut self, id: &Ident, state: CloneState, listed: Records<Listed>)
+        requires once { length (filter (λ r. same r.id id.now) self.old.clones) ≤ 1 }
+        ensures clones { self.new.clones ≡ entered_in id.now (state_of state) listed self.old.clones }
+        ensures room { self.new.room ≡ self.old.room }
+    {
+        let Some(place) = place_of(self.records.as_slice(), id) else {
+            return;
+        };
+        enter_record(&mut self.records[place], state, listed);
+    }
+
     /// Makes room for one more record.
     pub fn prepare(&mut self) -> Result<(), NoMemory>
         ensures clones { self.new.clones ≡ self.old.clones }
@@ -198,4 +213,28 @@ fn ack_record(clone: &mut CloneRecord, id: &Ident, slot: u32)
     if clone.id == *id {
         set_acked(&mut clone.listed, slot);
     }
+}
+
+// The place of a clone's record.
+fn place_of(records: &[CloneRecord], id: &Ident) -> Option<usize>
+    ensures within { IfSome result (λ p. p < length records.now) }
+    ensures found { IfSome result (λ p. (r : CloneRecord) × ((slice_get records.now p ≡ Some r) × (same r.id id.now ≡ true))) }
+    ensures none { MatchOption result (list_any (λ r. same r.id id.now) records.now ≡ false) (λ _. ⊤) }
+{
+    let mut place = 0;
+    for record in records {
+        if record.id == *id {
+            return Some(place);
+        }
+        place += 1;
+    }
+    None
+}
+
+// A record enters a state, with the tablets that it lists there.
+fn enter_record(clone: &mut CloneRecord, state: CloneState, listed: Records<Listed>)
+    ensures entered { clone.new ≡ entered (state_of state) listed clone.old }
+{
+    clone.state = state;
+    clone.listed = listed;
 }

@@ -13,3 +13,5 @@ pub mod Due
 pub mod Booked
 pub mod Numbering
 pub mod Runs
+pub mod Removing
+pub mod Working

@@ -1,5 +1,5 @@
 -- What each slot's part is told, moved out of a plan.
-use Rattle.std.proofs.Common.{◌≡◌, ◌≢◌, ℕ, zero, suc, ◌+◌, ◌≤◌, ◌<◌, List, [], ◌∷◌, ◌++◌, map, length, drop, set, get_or, refl, sym, ap, subst, arith, ◌∙◌, true, false, ◌||◌, eqb, cond, Some}
+use Rattle.std.proofs.Common.{◌≡◌, ◌≢◌, ℕ, zero, suc, ◌+◌, ◌≤◌, ◌<◌, List, [], ◌∷◌, ◌++◌, map, length, drop, set, get_or, refl, sym, ap, subst, arith, ◌∙◌, true, false, ◌||◌, eqb, cond, if◌then◌else◌, ◌==◌, Some}
 use Rattle.std.specs.Prelude.{slice_get}
 use Rattle.std.proofs.lemmas.Bool.Decides.{nat_tests}
 use Rattle.step_table.specs.Lists.{Rising, Above}
@@ -16,8 +16,8 @@ use Rattle.tablet_acts.specs.Tellings.{Suits, SlotTelling, told_of, act_told}
 use Rattle.cluster_core.specs.declared.part.PartTold.{PartTold}
 use Rattle.cluster_core.specs.Held.{Part}
 use Rattle.cluster_core.specs.SeenTold.{part_telling, tellings_of}
-use Rattle.cluster_core.specs.Tellings.{TellTablet, part_act, ActFits}
-use Rattle.cluster_core.specs.Plans.{EventPlanView, outcome_of, telling_for, tell_to, tell_all, AllSuit}
+use Rattle.cluster_core.specs.Tellings.{TellMaster, TellTablet, part_act, ActFits}
+use Rattle.cluster_core.specs.Plans.{EventPlanView, outcome_of, telling_for, tell_to, tell_all, masters_in, AllSuit}
 use Rattle.cluster_core.specs.Readies.{AllFit}
 use Rattle.cluster_core.proofs.Laying.{some_is}
 
@@ -31,10 +31,6 @@ act_set (y ∷ ts) zero t x k slot at same is ne =
     let g : eqb x.slot k ≡ false = grind (arith, nat_tests) in
     rw (f, g) refl
 act_set (y ∷ ts) (suc i) t x k slot at same is ne = ap (λ a. cond (eqb y.slot k) y.telling a) (act_set ts i t x k slot at same is ne)
-
-pub others_master : (a b : MasterAct) (ts : List SlotTelling) (k : ℕ) → k ≢ 0 → tell_to b ts k ≡ tell_to a ts k
-others_master a b ts zero ne = absurd (ne refl)
-others_master a b ts (suc k) ne = refl
 
 pub others_tablets : (a : MasterAct) (ts us : List SlotTelling) (slot : ℕ) → ((k : ℕ) → k ≢ slot → telling_for us k ≡ telling_for ts k) → (k : ℕ) → k ≢ slot → tell_to a us k ≡ tell_to a ts k
 others_tablets a ts us slot others zero ne = refl
@@ -67,6 +63,35 @@ pub told_taken : (a b : MasterAct) (ts us : List SlotTelling) (i : ℕ) (ks : Li
 told_taken a b ts us i ks k up at others =
     let one : suc i ≡ i + 1 = omega arith in
     told_next a ts i ks k at ∙ ap (λ xs. tell_to a ts k ∷ xs) (told_others a b ts us k k (drop (suc i) ks) (omega arith) (above_drop i ks k up at) others) ∙ ap (λ j. tell_to a ts k ∷ tell_all b us (drop j ks)) one
+
+-- the slots from a place behind the master on are tablets'
+above_at : (n : ℕ) (js : List ℕ) (i k : ℕ) → Above n js → slice_get js i ≡ Some k → n < k
+above_at n [] i k up at = cc
+above_at n (x ∷ xs) zero k up at = let here : x ≡ k = some_is at in let less = up.0 in omega arith
+above_at n (x ∷ xs) (suc i) k up at = let less = up.0 in let rest = above_at x xs i k up.1 at in omega (arith, less, rest)
+
+is_tablet : (ks : List ℕ) (i k : ℕ) → Rising ks → masters_in ks ≤ i → slice_get ks i ≡ Some k → k ≢ 0
+is_tablet [] i k up behind at = cc
+is_tablet (j ∷ js) zero k up behind at = λ e.
+    let here : j ≡ k = some_is at in
+    let is : eqb j 0 ≡ true = grind (arith, nat_tests) in
+    let past : 1 ≤ 0 = subst (λ b. cond b 1 0 ≤ 0) is behind in
+    absurd (omega arith)
+is_tablet (j ∷ js) (suc i) k up behind at = λ e. let less = above_at j js i k up at in absurd (omega (arith, less, e))
+
+-- one more of the tablets' parts is told
+pub told_more : (a : MasterAct) (ts us : List SlotTelling) (i : ℕ) (ks : List ℕ) (k : ℕ) → Rising ks → masters_in ks ≤ i → slice_get ks i ≡ Some k
+    → ((n : ℕ) → n ≢ k → telling_for us n ≡ telling_for ts n)
+    → tell_all a ts (drop i ks) ≡ TellTablet (telling_for ts k) ∷ tell_all a us (drop (i + 1) ks)
+told_more a ts us i ks k up behind at others =
+    told_taken a a ts us i ks k up at (others_tablets a ts us k others) ∙ ap (λ x. x ∷ tell_all a us (drop (i + 1) ks)) (told_tablet a ts k (is_tablet ks i k up behind at))
+
+-- the master's part comes first where it is held
+pub told_first : (a : MasterAct) (ts : List SlotTelling) (ks : List ℕ) → (if masters_in ks == 0 then [] else TellMaster a ∷ []) ++ tell_all a ts (drop (masters_in ks) ks) ≡ tell_all a ts ks
+told_first a ts [] = refl
+told_first a ts (k ∷ ks) = either_way (eqb k 0)
+    (λ t. rw t (ap (λ x. x ∷ tell_all a ts ks) (ap (tell_to a ts) (sym (is_eq k 0 t)))))
+    (λ f. rw f refl)
 
 pub told_snoc : {V : Type 0} (ts : List (PartTold V)) (t : PartTold V) → tellings_of (ts ++ t ∷ []) ≡ tellings_of ts ++ part_telling t ∷ []
 told_snoc [] t = refl

@@ -1,4 +1,3 @@
-pub mod Served
 pub mod Tellings
 pub mod SeenTold
 pub mod SeenKept
@@ -12,3 +11,4 @@ pub mod Starts
 pub mod Views
 pub mod Logs
 pub mod Runs
+pub mod Idle

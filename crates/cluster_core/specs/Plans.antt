@@ -1,6 +1,7 @@
 -- What an event comes to: what the master and the tablets' parts are told, and the reply.
 use Rattle.std.specs.Prelude.{ℕ, zero, suc, ◌≡◌, ◌<◌, List, [], ◌∷◌, map, ◌==◌, if◌then◌else◌}
 use Rattle.step_table.specs.Helds.{slots_of, parts_of}
+use Rattle.model.specs.Times.{end_of_time}
 use Rattle.model.specs.Tablets.{Tablet}
 use Rattle.model.specs.Acts.{Act, Reply}
 use Rattle.model.specs.Parts.{Outcome}
@@ -36,6 +37,11 @@ abbrev pub tell_all : MasterAct → List SlotTelling → List ℕ → List PartT
 tell_all master tablets [] = []
 tell_all master tablets (k ∷ ks) = tell_to master tablets k ∷ tell_all master tablets ks
 
+-- how many of rising slots are the master's: it can be the first alone
+abbrev pub masters_in : List ℕ → ℕ
+masters_in [] = 0
+masters_in (k ∷ ks) = if k == 0 then 1 else 0
+
 -- each suits the tablet of its slot at a stamp
 abbrev pub AllSuit : List SlotTelling → ℕ → (ℕ → Tablet) → Type 0
 AllSuit [] n at = Unit {0}
@@ -48,6 +54,7 @@ pub record MayPlan (act : Act) (n : ℕ) (held : Holding) : Type 0 where
   pub kinds : AreKinds (slots_of held) (parts_of held)
   pub later : AllLater n (parts_of held)
   pub begun : 0 < n
+  pub before_end : n < end_of_time
   pub count : ℕ
   pub asked : ActAsked count act
   pub lawful : IsLawful (laid held).master

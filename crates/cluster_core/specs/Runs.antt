@@ -6,7 +6,6 @@ use Rattle.model.specs.Entries.{Entry, Asked}
 use Rattle.model.specs.History.{entry_of}
 use Rattle.machine_laws.specs.Faults.{fault_after}
 use Rattle.cluster_core.specs.declared.run.StoppedAt.{StoppedAt}
-use Rattle.cluster_core.specs.Served.{IsServed}
 use Rattle.cluster_core.specs.Causes.{RefusedBy}
 
 -- the history after events
@@ -20,9 +19,9 @@ replies_of slots [] history = []
 replies_of slots (e ∷ es) history =
     (entry_of slots e history).reply ∷ replies_of slots es (entry_of slots e history ∷ history)
 
--- each event may be asked, and its act has code
+-- each event may be asked
 abbrev pub AreAsked : ℕ → List Event → Type 0
-AreAsked slots events = Every (λ e. Asked slots e × IsServed e.act) events
+AreAsked slots events = Every (Asked slots) events
 
 -- the event behind those that were performed was refused
 abbrev pub IsStopped : ℕ → List Event → List Entry → StoppedAt → Type 0

@@ -10,7 +10,6 @@ ghost use Rattle.machine_laws.specs.Laid.{AreKinds};
 ghost use Rattle.cluster_events.specs.SeenReplies.{reply_of};
 ghost use Rattle.master_part.specs.Acts.{act_of, May};
 ghost use Rattle.master_part.specs.Decisions.{told_by, outcome_by, MayDo};
-ghost use Rattle.master_acts.specs.Decided.{IsDecided};
 ghost use Rattle.tablet_acts.specs.Tellings.{told_of, Suits};
 ghost use Rattle.cluster_core.specs.Held.{laid};
 ghost use Rattle.cluster_core.specs.Readies.{AllLater};
@@ -40,7 +39,6 @@ pub(crate) fn plan_change<V: VersionStore>(
     slots: &Slots,
     stamp: HybridTime,
 ) -> Result<EventPlan<V>, NoMemory>
-    requires decided { IsDecided (command_of command.now) }
     requires may { MayPlan (Change (command_of command.now) slots.now) stamp held.now }
     ensures plan { IfOk result (IsPlan (Change (command_of command.now) slots.now) stamp held.now) }
 {
@@ -159,6 +157,10 @@ fn told_change<V: VersionStore>(
         PartKind::Version { version } => TabletTold::SetVersion { version },
         PartKind::Hide { ended } => TabletTold::Hide { ended },
         PartKind::Offer { command } => TabletTold::Offer { command },
+        PartKind::Clear => TabletTold::Clear {
+            store: ReadyStore::of(TabletPart::prepare_clear(alloc)?),
+        },
+        PartKind::DropFrozen { snapshot } => TabletTold::DropFrozen { snapshot },
     };
     Ok(SlotTold::of(change.slot, told))
 }

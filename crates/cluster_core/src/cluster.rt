@@ -1,26 +1,27 @@
-ghost use Rattle.std.specs.Prelude.{◌≡◌, ◌∷◌, [], ◌≤◌, length, reverse, None, IfOk, IfErr, OnOk, OnErr};
+ghost use Rattle.std.specs.Prelude.{◌≡◌, ◌∷◌, [], ◌≤◌, length, reverse, None, option_map, IfOk, IfErr, OnOk, OnErr};
 ghost use Rattle.model.specs.Entries.{Asked};
 ghost use Rattle.model.specs.Drawn.{most_slots};
 ghost use Rattle.model.specs.History.{Legal, entry_of, replay, journal_of, activity_of};
 ghost use Rattle.model.specs.Replies.{Right};
+ghost use Rattle.model.specs.Work.{next_act};
 ghost use Rattle.model.specs.Stands.{Divides, RecordFacts, Stands};
 ghost use Rattle.step_table.specs.Histories.{history_of};
 ghost use Rattle.machine_laws.specs.Laid.{parts_of};
 ghost use Rattle.machine_laws.specs.Faults.{fault_after};
 ghost use Rattle.machine_laws.specs.Past.{IsPast, book};
 ghost use Rattle.machine_laws.specs.Core.{core_of};
-ghost use Rattle.cluster_core.specs.Served.{IsServed};
+ghost use Rattle.cluster_events.specs.SeenActs.{act_of};
 ghost use Rattle.cluster_core.specs.Causes.{RefusedBy};
 ghost use Rattle.cluster_core.specs.Coding.{coding};
 
 use crate::answer::Answer;
 use crate::entries::Entries;
-use crate::event::ServedEvent;
 use crate::fault::StepRefused;
 use crate::history::History;
 use crate::machine::ClusterMachine;
+use crate::next_acts::next_in;
 use crate::start::first_line;
-use cluster_events::Event;
+use cluster_events::{Act, Event};
 use law::legal_is_right;
 use row_values::NoMemory;
 use std::alloc::Global;
@@ -67,7 +68,6 @@ impl<V: VersionStore> Cluster<V> {
     /// history is right: each reply has its cause in the journal, for which the parts and their records
     /// stand, and the ranges of a table's tablets cover the codes, none twice.
     pub fn step(&mut self, event: Event) -> Result<Answer, StepRefused>
-        requires served { IsServed event.act }
         requires asked { Asked self.old.slots event }
         ensures slots { self.new.slots ≡ self.old.slots }
         ensures entry { OnOk result (self.new.history ≡ entry_of self.old.slots event self.old.history ∷ self.old.history) }
@@ -85,7 +85,15 @@ impl<V: VersionStore> Cluster<V> {
         ensures cover { Divides (activity_of self.new.slots self.new.history) (journal_of self.new.slots self.new.history) }
     {
         legal_is_right();
-        step_in(&mut self.line, self.slots, ServedEvent::of(event))
+        step_in(&mut self.line, self.slots, event)
+    }
+
+    /// The act of a coordinator's next event, as the master and the inboxes tell it: the first unfinished
+    /// operation that no snapshot holds up goes on. `None` where nothing is to be done. It takes no memory.
+    pub fn next_act(&self) -> Option<Act>
+        ensures exact { option_map act_of result ≡ next_act (replay self.now.slots self.now.history) }
+    {
+        next_in(&self.line)
     }
 
     /// The number of entries.
@@ -123,7 +131,7 @@ impl<V: VersionStore> Cluster<V> {
 fn step_in<V: VersionStore>(
     line: &mut Line<ClusterMachine<V>>,
     slots: u32,
-    event: ServedEvent,
+    event: Event,
 ) -> Result<Answer, StepRefused>
     requires past { IsPast slots (book (history_of (core_of coding) line.old.parts)) line.old.parts }
     requires asked { Asked slots event }

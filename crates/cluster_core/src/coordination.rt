@@ -1,6 +1,5 @@
 //! What acts of a coordinator come to.
 ghost use Rattle.std.specs.Prelude.{◌≡◌, ◌≤◌, true, IfOk};
-ghost use Rattle.row_values.specs.Ids.{Snapshot};
 ghost use Rattle.row_values.specs.Slots.{has};
 ghost use Rattle.step_table.specs.Lists.{Rising};
 ghost use Rattle.step_table.specs.Helds.{slots_of, parts_of};
@@ -16,7 +15,7 @@ use crate::held::{master_in, tablet_in};
 use crate::outcome::EventPlan;
 use crate::part::ClusterPart;
 use hybrid_time::HybridTime;
-use master_acts::{decide_ack, decide_advance_snapshot, decide_send, pending_mark};
+use master_moves::{decide_ack, decide_advance, decide_send, pending_mark};
 use master_part::MasterPart;
 use row_values::NoMemory;
 use std::alloc::Global;
@@ -75,17 +74,16 @@ fn has_mark<V: VersionStore>(
     }
 }
 
-/// A snapshot goes on to its next state.
+/// The record of an operation goes on to its next state.
 pub(crate) fn plan_advance<V: VersionStore>(
     alloc: Global,
     held: &Held<ClusterPart<V>>,
     operation: &Ident,
     stamp: HybridTime,
 ) -> Result<EventPlan<V>, NoMemory>
-    requires kind { operation.now.kind ≡ Snapshot }
     requires may { MayPlan (Advance operation.now) stamp held.now }
     ensures plan { IfOk result (IsPlan (Advance operation.now) stamp held.now) }
 {
-    let decision = decide_advance_snapshot(master_in(held), operation)?;
+    let decision = decide_advance(master_in(held), operation, stamp)?;
     told_decision(alloc, held, decision, stamp)
 }

@@ -6,7 +6,7 @@ use crate::held::{master_in, tablet_in};
 use crate::outcome::EventPlan;
 use crate::part::ClusterPart;
 use hybrid_time::HybridTime;
-use master_acts::allowed_cutoff;
+use master_cleanup::allowed_cutoff;
 use row_values::NoMemory;
 use std::alloc::Global;
 use step_table::Held;

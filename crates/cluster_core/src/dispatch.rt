@@ -1,10 +1,10 @@
 //! What an event comes to, by its act.
 ghost use Rattle.std.specs.Prelude.{IfOk};
 ghost use Rattle.cluster_events.specs.SeenActs.{act_of};
-ghost use Rattle.cluster_core.specs.Served.{IsServed};
 ghost use Rattle.cluster_core.specs.Plans.{MayPlan, IsPlan};
 
 use crate::changes::plan_change;
+use crate::cleanup::{plan_prune, plan_remove};
 use crate::coordination::{plan_ack, plan_advance, plan_send};
 use crate::cutoffs::plan_cutoff;
 use crate::looks::plan_look;
@@ -28,7 +28,6 @@ pub(crate) fn plan<V: VersionStore>(
     act: &Act,
     n: HybridTime,
 ) -> Result<EventPlan<V>, NoMemory>
-    requires served { IsServed (act_of act.now) }
     requires may { MayPlan (act_of act.now) n held.now }
     ensures plan { IfOk result (IsPlan (act_of act.now) n held.now) }
 {
@@ -55,7 +54,7 @@ pub(crate) fn plan<V: VersionStore>(
         Act::Process { slot, other } => plan_process(alloc, held, *slot, *other, n),
         Act::Ack { operation, slot } => plan_ack(alloc, held, operation, *slot, n),
         Act::Advance { operation } => plan_advance(alloc, held, operation, n),
-        Act::Remove { .. } => unreachable!(),
-        Act::Prune => unreachable!(),
+        Act::Remove { target, slots } => plan_remove(alloc, held, target, slots, n),
+        Act::Prune => plan_prune(alloc, held, n),
     }
 }

@@ -9,8 +9,8 @@ ghost use Rattle.machine_laws.specs.Core.{core_of};
 ghost use Rattle.cluster_core.specs.Coding.{coding};
 
 use crate::answer::Answer;
-use crate::event::ServedEvent;
 use crate::machine::ClusterMachine;
+use cluster_events::Event;
 use row_values::NoMemory;
 use std::alloc::Global;
 use std::marker::Model;
@@ -19,7 +19,7 @@ use step_table::Entry;
 use versions::VersionStore;
 
 /// An entry in the log of a part.
-pub type Logged = Entry<ServedEvent, Answer>;
+pub type Logged = Entry<Event, Answer>;
 
 /// The entries of a history in order of number, each where its log has it. Contracts see the book's
 /// entries. To make it takes a step an entry and a part; to read an entry takes one.

@@ -4,25 +4,25 @@
 //! and in a table of locks. What takes memory comes first and may fail; then the touched parts do what
 //! they are told, and the first of their logs has one entry more.
 //!
-//! Served are the events on tablets (writes, reads, cutoffs, compactions, counts and restarts), the looks
-//! and commands that the master's crates answer, and what a coordinator does: it sends commands, has
-//! tablets do them, notes that they did, and completes a snapshot. The other acts have no code yet.
+//! All acts of the book have code: the events on tablets, the looks and commands that the master's crates
+//! answer, what a coordinator does, and the cleanup. `Cluster::next_act` tells what a coordinator does next.
 #![tactic(auto)]
 
 mod answer;
 mod changes;
+mod cleanup;
 mod cluster;
 mod coordination;
 mod cutoffs;
 mod dispatch;
 mod entries;
-mod event;
 mod fault;
 mod held;
 mod history;
 mod line_up;
 mod looks;
 mod machine;
+mod next_acts;
 mod on_tablet;
 mod outcome;
 mod part;
@@ -41,7 +41,6 @@ mod touch;
 pub use answer::Answer;
 pub use cluster::Cluster;
 pub use entries::{Entries, Logged};
-pub use event::ServedEvent;
 pub use fault::StepRefused;
 pub use history::History;
 pub use machine::ClusterMachine;

@@ -1,10 +1,12 @@
 //! What each held part is told.
-ghost use Rattle.std.specs.Prelude.{◌≡◌, ◌≢◌, ℕ, IfOk};
+ghost use Rattle.std.specs.Prelude.{◌≡◌, ◌≢◌, ◌≤◌, ◌++◌, ◌∷◌, [], ℕ, drop, ◌==◌, if◌then◌else◌, IfOk};
 ghost use Rattle.step_table.specs.Lists.{Rising};
 ghost use Rattle.step_table.specs.Helds.{slots_of};
 ghost use Rattle.tablet_acts.specs.Seen.{telling_of};
+ghost use Rattle.master_part.specs.declared.act.MasterAct.{MasterAct};
+ghost use Rattle.cluster_core.specs.Tellings.{TellMaster};
 ghost use Rattle.cluster_core.specs.SeenTold.{part_telling, tellings_of};
-ghost use Rattle.cluster_core.specs.Plans.{telling_for, tell_to, tell_all};
+ghost use Rattle.cluster_core.specs.Plans.{telling_for, tell_all, masters_in};
 
 use crate::part::{ClusterPart, PartTold};
 use master_part::MasterAct;
@@ -28,23 +30,54 @@ fn take_act<V: VersionStore>(tablets: &mut Vec<SlotTold<V>>, slot: u32) -> Table
     TabletTold::Clock
 }
 
-/// What the part of a slot is told, moved out.
-#[tactic(auto, using(crate::proofs::Telling::others_master, crate::proofs::Telling::others_tablets))]
-fn take_told<V: VersionStore>(
-    master: &mut MasterAct,
-    tablets: &mut Vec<SlotTold<V>>,
-    slot: u32,
-) -> PartTold<V>
-    ensures told { part_telling result ≡ tell_to master.old tablets.old.items slot }
-    ensures others { (k : ℕ) → k ≢ slot → tell_to master.new tablets.new.items k ≡ tell_to master.old tablets.old.items k }
+/// How many of the held parts are the master's.
+fn masters_in<V: VersionStore>(held: &Held<ClusterPart<V>>) -> u32
+    ensures exact { result ≡ masters_in (slots_of held.now) }
 {
-    if slot == 0 {
-        return PartTold::Master(std::mem::replace(master, MasterAct::Ticks));
+    if held.len() > 0 && held.slot(0) == 0 {
+        return 1;
     }
-    PartTold::Tablet(take_act(tablets, slot))
+    0
 }
 
-/// What each of the held parts is told, moved out of a plan.
+/// What the master is told, where its part is held.
+fn master_told<V: VersionStore>(
+    alloc: Global,
+    count: u32,
+    masters: u32,
+    master: MasterAct,
+) -> Result<Vec<PartTold<V>>, NoMemory>
+    ensures told { IfOk result (λ acts. tellings_of acts.items ≡ if masters == 0 then [] else TellMaster master ∷ []) }
+{
+    let mut acts = Vec::with_capacity(alloc, count as usize)?;
+    if masters == 0 {
+        return Ok(acts);
+    }
+    acts.push(PartTold::Master(master))?;
+    Ok(acts)
+}
+
+/// The same with what the tablets' parts are told, of the held slots from a place on.
+fn tablets_told<V: VersionStore>(
+    held: &Held<ClusterPart<V>>,
+    first: u32,
+    tablets: Vec<SlotTold<V>>,
+    acts: Vec<PartTold<V>>,
+) -> Result<Vec<PartTold<V>>, NoMemory>
+    requires rising { Rising (slots_of held.now) }
+    requires behind { masters_in (slots_of held.now) ≤ first }
+    ensures told { IfOk result (λ all. (master : MasterAct) → tellings_of all.items ≡ tellings_of acts.items ++ tell_all master tablets.items (drop first (slots_of held.now))) }
+{
+    let mut tablets = tablets;
+    let mut acts = acts;
+    for i in first..held.len() {
+        acts.push(PartTold::Tablet(take_act(&mut tablets, held.slot(i))))?;
+    }
+    Ok(acts)
+}
+
+/// What each of the held parts is told, moved out of a plan. The slots rise, so that the master's part
+/// is the first where it is held.
 pub(crate) fn line_up<V: VersionStore>(
     alloc: Global,
     held: &Held<ClusterPart<V>>,
@@ -54,11 +87,7 @@ pub(crate) fn line_up<V: VersionStore>(
     requires rising { Rising (slots_of held.now) }
     ensures told { IfOk result (λ acts. tellings_of acts.items ≡ tell_all master tablets.items (slots_of held.now)) }
 {
-    let mut master = master;
-    let mut tablets = tablets;
-    let mut acts = Vec::with_capacity(alloc, held.len() as usize)?;
-    for i in 0..held.len() {
-        acts.push(take_told(&mut master, &mut tablets, held.slot(i)))?;
-    }
-    Ok(acts)
+    let masters = masters_in(held);
+    let acts = master_told(alloc, held.len(), masters, master)?;
+    tablets_told(held, masters, tablets, acts)
 }

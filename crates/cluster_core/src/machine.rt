@@ -4,12 +4,12 @@ ghost use Rattle.machine_laws.proofs.Lawful.{lawful};
 ghost use Rattle.cluster_core.specs.Coding.{coding};
 
 use crate::answer::Answer;
-use crate::event::ServedEvent;
 use crate::fault::StepRefused;
 use crate::part::ClusterPart;
 use crate::prepare::{apply_event, prepare_event};
 use crate::ready::EventReady;
 use crate::touch::touches;
+use cluster_events::Event;
 use row_values::{NoMemory, Slots};
 use std::alloc::Global;
 use std::marker::PhantomData;
@@ -24,7 +24,7 @@ pub struct ClusterMachine<V> {
 impl<V: VersionStore> Machine for ClusterMachine<V> {
     type Part = ClusterPart<V>;
 
-    type Event = ServedEvent;
+    type Event = Event;
 
     type Ready = EventReady<V>;
 
@@ -34,7 +34,7 @@ impl<V: VersionStore> Machine for ClusterMachine<V> {
 
     ghost core = { core_of coding };
 
-    fn touches(alloc: Global, event: &ServedEvent) -> Result<Slots, NoMemory> {
+    fn touches(alloc: Global, event: &Event) -> Result<Slots, NoMemory> {
         touches(alloc, event.act())
     }
 
@@ -48,7 +48,7 @@ impl<V: VersionStore> Machine for ClusterMachine<V> {
 
     fn prepare(
         held: &mut Held<ClusterPart<V>>,
-        event: &ServedEvent,
+        event: &Event,
     ) -> Result<EventReady<V>, StepRefused> {
         prepare_event(held, event)
     }
@@ -56,7 +56,7 @@ impl<V: VersionStore> Machine for ClusterMachine<V> {
     fn apply(
         held: &mut Held<ClusterPart<V>>,
         ready: EventReady<V>,
-        event: ServedEvent,
+        event: Event,
         number: u64,
     ) -> Answer {
         apply_event(held, ready, event, number)

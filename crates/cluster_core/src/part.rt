@@ -5,7 +5,7 @@ ghost use Rattle.cluster_core.specs.Tellings.{IsMaster, IsTablet, part_act, ActF
 ghost use Rattle.cluster_core.specs.SeenTold.{part_telling};
 
 use crate::answer::Answer;
-use crate::event::ServedEvent;
+use cluster_events::Event;
 use hybrid_time::HybridTime;
 use master_part::{MasterAct, MasterPart};
 use row_values::NoMemory;
@@ -34,7 +34,7 @@ pub(crate) enum PartTold<V: VersionStore> {
 #[derive(Drop)]
 struct Body<V: VersionStore> {
     kept: Kept<V>,
-    log: Vec<Entry<ServedEvent, Answer>>,
+    log: Vec<Entry<Event, Answer>>,
 }
 
 /// A part with its log. It is a pointer, so that it moves cheaply.
@@ -142,7 +142,7 @@ impl<V: VersionStore> ClusterPart<V> {
     }
 
     /// The entries of the log, the first one first.
-    pub(crate) fn entries(&self) -> &[Entry<ServedEvent, Answer>]
+    pub(crate) fn entries(&self) -> &[Entry<Event, Answer>]
         ensures entries { result.now ≡ self.now.log }
     {
         self.body.log.as_slice()
@@ -159,7 +159,7 @@ impl<V: VersionStore> ClusterPart<V> {
     }
 
     /// Adds an entry, for which there is room.
-    pub(crate) fn note(&mut self, entry: Entry<ServedEvent, Answer>)
+    pub(crate) fn note(&mut self, entry: Entry<Event, Answer>)
         requires room { 1 ≤ self.old.room.log }
         ensures kept { self.new.kept ≡ self.old.kept }
         ensures log { self.new.log ≡ self.old.log ++ entry ∷ [] }

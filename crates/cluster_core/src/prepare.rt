@@ -1,6 +1,7 @@
 //! An event, prepared and applied on the parts that it touches.
 ghost use Rattle.std.specs.Prelude.{◌≡◌, ◌⊎◌, ◌<◌, ℕ, List, map, length, None, Some, IfOk, IfErr, OnOk};
 ghost use Rattle.step_table.specs.Helds.{slots_of, parts_of};
+ghost use Rattle.model.specs.Times.{end_of_time};
 ghost use Rattle.model.specs.Entries.{touches};
 ghost use Rattle.machine_laws.specs.Laid.{told_acts};
 ghost use Rattle.machine_laws.specs.Core.{core_of, stamp_at, outcome_at, answer_at, first_notes, Fits};
@@ -10,12 +11,12 @@ ghost use Rattle.cluster_core.specs.Coding.{coding};
 
 use crate::answer::Answer;
 use crate::dispatch::plan;
-use crate::event::ServedEvent;
 use crate::fault::StepRefused;
 use crate::line_up::line_up;
 use crate::part::ClusterPart;
 use crate::parts::{apply_all, next_stamp, prepare_all};
 use crate::ready::EventReady;
+use cluster_events::Event;
 use hybrid_time::HybridTime;
 use row_values::{Copied, NoMemory};
 use std::alloc::Global;
@@ -27,7 +28,7 @@ use versions::VersionStore;
 fn planned<V: VersionStore>(
     alloc: Global,
     held: &Held<ClusterPart<V>>,
-    event: &ServedEvent,
+    event: &Event,
     stamp: HybridTime,
 ) -> Result<EventReady<V>, NoMemory>
     requires slots { slots_of held.now ≡ touches event.now.act }
@@ -35,6 +36,7 @@ fn planned<V: VersionStore>(
     requires stamp { stamp ≡ stamp_at (map meaning (parts_of held.now)) event.now }
     requires later { AllLater stamp (parts_of held.now) }
     requires begun { 0 < stamp }
+    requires before_end { stamp < end_of_time }
     ensures event { IfOk result (λ r. r.event ≡ event.now) }
     ensures told { IfOk result (λ r. map part_act r.acts ≡ told_acts (outcome_at (map meaning (parts_of held.now)) event.now) (touches event.now.act)) }
     ensures answer { IfOk result (λ r. r.answer ≡ answer_at (map meaning (parts_of held.now)) event.now) }
@@ -68,7 +70,7 @@ fn make_room<V: VersionStore>(held: &mut Held<ClusterPart<V>>) -> Result<(), NoM
 }
 
 /// Adds an entry to the log of the first part.
-fn note<V: VersionStore>(held: &mut Held<ClusterPart<V>>, entry: Entry<ServedEvent, Answer>)
+fn note<V: VersionStore>(held: &mut Held<ClusterPart<V>>, entry: Entry<Event, Answer>)
     requires room { FirstHasRoom (parts_of held.old) }
     ensures slots { slots_of held.new ≡ slots_of held.old }
     ensures parts { map meaning (parts_of held.new) ≡ first_notes (map meaning (parts_of held.old)) entry }
@@ -79,7 +81,7 @@ fn note<V: VersionStore>(held: &mut Held<ClusterPart<V>>, entry: Entry<ServedEve
 /// Takes all the memory that the event needs.
 pub(crate) fn prepare_event<V: VersionStore>(
     held: &mut Held<ClusterPart<V>>,
-    event: &ServedEvent,
+    event: &Event,
 ) -> Result<EventReady<V>, StepRefused>
     requires slots { slots_of held.old ≡ touches event.now.act }
     requires fits { Fits (map meaning (parts_of held.old)) event.now }
@@ -115,7 +117,7 @@ pub(crate) fn prepare_event<V: VersionStore>(
 pub(crate) fn apply_event<V: VersionStore>(
     held: &mut Held<ClusterPart<V>>,
     ready: EventReady<V>,
-    event: ServedEvent,
+    event: Event,
     number: u64,
 ) -> Answer
     requires ready { CanApply (parts_of held.old) ready }

@@ -2,8 +2,8 @@ ghost use Rattle.std.specs.Prelude.{◌≡◌};
 ghost use Rattle.cluster_core.specs.SeenTold.{tellings_of};
 
 use crate::answer::Answer;
-use crate::event::ServedEvent;
 use crate::part::PartTold;
+use cluster_events::Event;
 use hybrid_time::HybridTime;
 use std::marker::Model;
 use std::snapshot::Snapshot;
@@ -12,7 +12,7 @@ use versions::VersionStore;
 /// A prepared event: all that `apply` puts in place.
 #[derive(Drop)]
 pub struct EventReady<V: VersionStore> {
-    pub(crate) event: Snapshot<ServedEvent>,
+    pub(crate) event: Snapshot<Event>,
     pub(crate) answer: Answer,
     pub(crate) kept: Answer,
     pub(crate) acts: Vec<PartTold<V>>,

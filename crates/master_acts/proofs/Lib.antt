@@ -1,6 +1,6 @@
 pub mod Allowed
+pub mod Cloned
 pub mod Making
 pub mod Planned
 pub mod Changing
-pub mod Raising
 pub mod Looking

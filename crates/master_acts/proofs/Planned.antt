@@ -21,12 +21,6 @@ compares_slots = record {
   heads = λ x y xs ys. refl;
 }
 
-pub same_by_items : (xs ys : List ℕ) → bytes_eq xs ys ≡ same_slots xs ys
-same_by_items [] [] = refl
-same_by_items [] (y ∷ ys) = refl
-same_by_items (x ∷ xs) [] = refl
-same_by_items (x ∷ xs) (y ∷ ys) = ap (λ b. (x == y) && b) (same_by_items xs ys)
-
 pub same_is : (xs ys : List ℕ) → same_slots xs ys ≡ true → xs ≡ ys
 same_is xs ys = (compares_Decides same_slots compares_slots xs ys).0
 

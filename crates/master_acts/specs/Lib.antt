@@ -1,3 +1,4 @@
 pub mod Founds
 pub mod Decided
+pub mod Draws
 pub mod Lines

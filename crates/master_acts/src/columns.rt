@@ -8,13 +8,13 @@ ghost use Rattle.model.specs.Changes as book;
 ghost use Rattle.master_part.specs.Acts.{IsLawful, goes_on};
 ghost use Rattle.master_part.specs.Decisions.{outcome_by, MayDo};
 
-use crate::decide::{made_none, told_all};
+use crate::decide::made_none;
 use crate::fields::{name_of, namespace_of, schema_of, version_of};
 use crate::judges::{judge_add_column, judge_drop_column, judge_rename_table};
 use catalog_core::TableRecord;
 use cluster_events::Reply;
 use hybrid_time::HybridTime;
-use master_part::{Decision, MasterAct, MasterPart, PartKind, table_id};
+use master_part::{Decision, MasterAct, MasterPart, PartKind, table_id, told_all};
 use row_values::{Copied, Name, NoMemory, Records, Slots};
 use table_schema::{Kind, Schema};
 

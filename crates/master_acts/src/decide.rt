@@ -6,11 +6,11 @@ ghost use Rattle.model.specs.Acts.{Ok as Made};
 ghost use Rattle.model.specs.Parts.{Parts};
 ghost use Rattle.cluster_events.specs.SeenReplies.{reply_of};
 ghost use Rattle.model.specs.Changes as book;
-ghost use Rattle.model.specs.Changes.{tell, tell_made, tell_children, splitting};
+ghost use Rattle.model.specs.Changes.{tell_made, tell_children, splitting};
 ghost use Rattle.model.specs.Changed.{next_tablet, shares, children};
 ghost use Rattle.master_part.specs.Acts.{IsLawful};
 ghost use Rattle.master_acts.specs.Founds.{family_seen};
-ghost use Rattle.master_part.specs.Decisions.{act_by, told_by, outcome_by, MayDo};
+ghost use Rattle.master_part.specs.Decisions.{told_by, outcome_by, MayDo};
 
 use crate::fields::{schema_of, version_of};
 use crate::judges::{
@@ -21,7 +21,9 @@ use crate::scheduling::{judge_create_schedule, judge_delete_schedule, judge_edit
 use catalog_tablets::Interval;
 use cluster_events::Reply;
 use hybrid_time::HybridTime;
-use master_part::{Decision, MasterAct, MasterPart, PartChange, PartKind, schedule_id, table_id};
+use master_part::{
+    Decision, MasterAct, MasterPart, PartChange, PartKind, schedule_id, table_id, told_all,
+};
 use partition_codes::{Range, share};
 use row_values::{Copied, Name, NoMemory, Records, Slots};
 use std::alloc::Global;
@@ -302,24 +304,6 @@ fn tablets_made(
             },
         })?;
         place += 1;
-    }
-    Ok(made)
-}
-
-/// All these slots' parts get the same.
-pub fn told_all(
-    alloc: Global,
-    slots: &[u32],
-    kind: &PartKind,
-) -> Result<Records<PartChange>, NoMemory>
-    ensures exact { IfOk result (λ made. (parts : ℕ → Tablet) → map (told_by parts) made ≡ tell slots.now (act_by parts kind.now)) }
-{
-    let mut made = Records::new(alloc);
-    for slot in slots {
-        made.push(PartChange {
-            slot: *slot,
-            kind: *kind,
-        })?;
     }
     Ok(made)
 }

@@ -1,6 +1,5 @@
 //! What each command comes to. A client's command is planned first, and refused where its plan is not the same any more.
 ghost use Rattle.std.specs.Prelude.{◌≡◌, ◌<◌, IfOk};
-ghost use Rattle.row_values.specs.Slots.{same_slots};
 ghost use Rattle.model.specs.Parts.{Parts};
 ghost use Rattle.model.specs.Rules.{CommandAsked};
 ghost use Rattle.model.specs.Looks.{plan_of};
@@ -8,13 +7,12 @@ ghost use Rattle.model.specs.Changes.{change, planned};
 ghost use Rattle.commands.specs.Seen.{command_of};
 ghost use Rattle.master_part.specs.Acts.{IsLawful};
 ghost use Rattle.master_part.specs.Decisions.{outcome_by, MayDo};
-ghost use Rattle.master_acts.specs.Decided.{IsDecided};
 
+use crate::cloning::decide_clone;
 use crate::columns::{decide_add_column, decide_drop_column, decide_rename_table};
 use crate::decide::{
-    decide_create_namespace, decide_create_schedule, decide_create_table,
-    decide_delete_schedule, decide_drop_namespace, decide_drop_table, decide_edit_schedule,
-    decide_split,
+    decide_create_namespace, decide_create_schedule, decide_create_table, decide_delete_schedule,
+    decide_drop_namespace, decide_drop_table, decide_edit_schedule, decide_split,
 };
 use crate::lists::{list_clones, list_restorations, list_schedules, list_snapshots, list_tablets};
 use crate::operations::{decide_restore, decide_take_snapshot};
@@ -22,7 +20,7 @@ use crate::plans::plan_of;
 use cluster_events::{Refusal, Reply};
 use commands::Command;
 use hybrid_time::HybridTime;
-use master_part::{Decision, MasterPart};
+use master_part::{Decision, MasterPart, same_slots};
 use row_values::{NoMemory, Slots};
 
 /// What a command comes to whose plan was these slots.
@@ -33,7 +31,6 @@ pub fn decide_change(
     slots: &Slots,
     stamp: HybridTime,
 ) -> Result<Decision, NoMemory>
-    requires decided { IsDecided (command_of command.now) }
     requires lawful { IsLawful master.now.master }
     requires later { master.now.master.clock < stamp }
     requires asked { CommandAsked (command_of command.now) }
@@ -55,7 +52,6 @@ fn decide_planned(
     slots: &Slots,
     stamp: HybridTime,
 ) -> Result<Decision, NoMemory>
-    requires decided { IsDecided (command_of command.now) }
     requires lawful { IsLawful master.now.master }
     requires later { master.now.master.clock < stamp }
     requires asked { CommandAsked (command_of command.now) }
@@ -111,7 +107,9 @@ fn decide_planned(
         Command::RestoreSnapshotSchedule { schedule, to } => decide_restore(
             master, schedule, *to, stamp,
         ),
-        Command::CloneNamespace { .. } => unreachable!(),
+        Command::CloneNamespace { source, target, to } => {
+            decide_clone(master, source, target, *to, stamp)
+        }
         Command::ListSnapshotSchedules => Ok(Decision::Answers(list_schedules(master, stamp)?)),
         Command::ListSnapshots => Ok(Decision::Answers(list_snapshots(master)?)),
         Command::ListSnapshotRestorations => Ok(Decision::Answers(list_restorations(master)?)),
@@ -120,12 +118,4 @@ fn decide_planned(
             master, namespace,
         )?)),
     }
-}
-
-// Whether two lists of slots are the same.
-#[tactic(auto, using(crate::proofs::Planned::same_by_items))]
-fn same_slots(slots: &Slots, kept: &Slots) -> bool
-    ensures exact { result ≡ same_slots slots.now kept.now }
-{
-    slots.as_slice() == kept.as_slice()
 }

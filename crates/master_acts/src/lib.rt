@@ -5,9 +5,8 @@
 #![tactic(auto)]
 
 mod batches;
+mod cloning;
 mod columns;
-mod coordinating;
-mod cutoffs;
 mod decide;
 mod decided;
 mod fields;
@@ -17,17 +16,16 @@ mod lines;
 mod lists;
 mod looks;
 mod operations;
+mod pairs;
 mod places;
 mod plans;
 mod scheduling;
 
+pub use cloning::{CloneSource, decide_clone, found_source};
 pub use columns::{decide_add_column, decide_drop_column, decide_rename_table};
-pub use coordinating::{decide_ack, decide_advance_snapshot, decide_send, pending_mark};
-pub use cutoffs::allowed_cutoff;
 pub use decide::{
-    decide_create_namespace, decide_create_schedule, decide_create_table,
-    decide_delete_schedule, decide_drop_namespace, decide_drop_table, decide_edit_schedule,
-    decide_split,
+    decide_create_namespace, decide_create_schedule, decide_create_table, decide_delete_schedule,
+    decide_drop_namespace, decide_drop_table, decide_edit_schedule, decide_split,
 };
 pub use decided::decide_change;
 pub use found::{found_namespace, found_table};
@@ -37,7 +35,6 @@ pub use judges::{
 };
 pub use looks::{look, look_keys, look_table};
 pub use operations::{decide_restore, decide_take_snapshot};
-pub use places::put_slot;
 pub use plans::plan_of;
 pub use scheduling::{
     judge_create_schedule, judge_delete_schedule, judge_edit_schedule, judge_restore,

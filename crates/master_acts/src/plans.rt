@@ -7,10 +7,9 @@ ghost use Rattle.commands.specs.Seen.{command_of};
 
 use crate::fields::slot_of;
 use crate::found::found_table;
-use crate::places::put_slot;
 use catalog_tablets::Interval;
 use commands::Command;
-use master_part::{MasterPart, table_id};
+use master_part::{MasterPart, put_slot, table_id};
 use row_values::{Name, NoMemory, Records, Slots};
 use std::alloc::Global;
 use yb_ident::Ident;

@@ -1,9 +1,10 @@
 -- What is done by the kind of an operation.
 use Rattle.std.proofs.Common.{ℕ, ◌≡◌, sym, ap}
-use Rattle.row_values.specs.Ids.{Id, Kind, Snapshot}
+use Rattle.row_values.specs.Ids.{Id, Kind, Snapshot, Restoration}
 use Rattle.model.specs.Parts.{Master}
 use Rattle.model.specs.Coordination.{pending, pending_of, acked, acked_by}
 use Rattle.model.specs.Moves.{moved, moved_of}
+use Rattle.model.specs.Cleanup.{removed, removed_of}
 
 pub pending_by : (kind : Kind) (operation : Id) (slot : ℕ) (m : Master) → kind ≡ operation.kind
     → pending_of kind m.snapshots m.restorations m.clones operation slot ≡ pending m operation slot
@@ -16,3 +17,11 @@ acked_by_kind kind operation slot n m is = ap (λ k. acked_by k operation slot n
 pub moves_snapshot : (operation : Id) (n : ℕ) (m : Master) → operation.kind ≡ Snapshot
     → moved_of Snapshot operation n m ≡ moved operation n m
 moves_snapshot operation n m is = ap (λ k. moved_of k operation n m) (sym is)
+
+pub removed_by_kind : (kind : Kind) (target : Id) (n : ℕ) (m : Master) → kind ≡ target.kind
+    → removed_of kind target n m ≡ removed target n m
+removed_by_kind kind target n m is = ap (λ k. removed_of k target n m) is
+
+pub moves_restoration : (operation : Id) (n : ℕ) (m : Master) → operation.kind ≡ Restoration
+    → moved_of Restoration operation n m ≡ moved operation n m
+moves_restoration operation n m is = ap (λ k. moved_of k operation n m) (sym is)

@@ -2,3 +2,9 @@ pub mod Slots
 pub mod Ordering
 pub mod Least
 pub mod ByKind
+pub mod RestorationMoves
+pub mod CloneMoves
+pub mod Owned
+pub mod Pruned
+pub mod Switches
+pub mod Same

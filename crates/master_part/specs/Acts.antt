@@ -1,7 +1,7 @@
 -- What the master is told, as the book's; what it needs of the master, and of the room that was made.
-use Rattle.std.specs.Prelude.{ℕ, ◌≡◌, ◌≤◌, ◌<◌, ◌+◌, ◌^◌, true, List, None, length}
+use Rattle.std.specs.Prelude.{ℕ, ◌≡◌, ◌≤◌, ◌<◌, ◌+◌, ◌^◌, true, List, None, Some, Ok as Granted, length, filter}
 use Rattle.row_values.specs.Elements.{In}
-use Rattle.row_values.specs.Ids.{Id, Kind, Snapshot, id_bound}
+use Rattle.row_values.specs.Ids.{Id, Kind, Snapshot, same, id_bound}
 use Rattle.row_values.specs.Schema.{Schema, first_schema, with_column, without_column}
 use Rattle.table_schema.specs.Seen.{column_kind_of}
 use Rattle.model.specs.Activity.{Interval}
@@ -9,14 +9,19 @@ use Rattle.model.specs.Catalog.{TableRecord, namespace_named, name_of, current_n
 use Rattle.model.specs.Parts as book
 use Rattle.model.specs.Parts.{Master}
 use Rattle.model.specs.Tablets.{Fence}
-use Rattle.model.specs.Records.{Schedule, ScheduledNamespace, RestorationRecord, Fencing}
+use Rattle.model.specs.Records.{Schedule, ScheduledNamespace, RestorationRecord, CloneRecord, Fencing, Switching, Copying}
 use Rattle.model.specs.Schedules.{complete_to}
-use Rattle.model.specs.Lists.{new_snapshot, listing, active_tablets}
-use Rattle.model.specs.Changed.{next_namespace, next_table, next_restoration}
-use Rattle.model.specs.Drawn.{drawn_of, most_slots}
-use Rattle.catalog_core.specs.Kept.{ends_by, is_free_for}
+use Rattle.model.specs.Lists.{new_snapshot, listing, active_tablets, tablets_active_at}
+use Rattle.model.specs.Changed.{next_namespace, next_table, next_restoration, new_clone}
+use Rattle.model.specs.Changes.{CloneSource, judge_clone}
+use Rattle.model.specs.Restored.{newest}
+use Rattle.model.specs.Drawn.{drawn_of, drawn_for_clone, most_slots}
+use Rattle.catalog_core.specs.Begins.{IsHome}
+use Rattle.catalog_core.specs.Cloned.{TargetFits}
+use Rattle.catalog_core.specs.Kept.{ends_by, ends_in, is_free_for}
 use Rattle.schedules.specs.Periods.{IsPeriod}
 use Rattle.master_part.specs.View.{MasterView}
+use Rattle.master_part.specs.Going.{IsRestoration, IsClone, OfRestoration, MakesSnapshot, Enters, SwitchesBy, OfClone, CloneFits, MakesServing, CloneEnters, ShowsBy, CutsBy, PruneRoom}
 use Rattle.master_part.specs.declared.act.MasterAct.{MasterAct}
 use Rattle.master_part.specs.declared.act.MasterAct.TheVariants as act
 
@@ -39,12 +44,23 @@ act_of (act.Sends operation slot) = book.Sends operation slot
 act_of (act.Acks operation slot) = book.Acks operation slot
 act_of (act.Unsends operation slot) = book.Unsends operation slot
 act_of (act.CompletesSnapshot operation) = book.Moves operation
+act_of (act.SnapshotsRestoration operation made) = book.Moves operation
+act_of (act.MovesRestoration operation state listed) = book.Moves operation
+act_of (act.SwitchesRestoration operation switch) = book.Moves operation
+act_of (act.BeginsClone namespace source target to made) = book.BeginsClone namespace source target to
+act_of (act.SnapshotsClone operation made) = book.Moves operation
+act_of (act.MovesClone operation state listed) = book.Moves operation
+act_of (act.ShowsClone operation name tables listed) = book.Moves operation
+act_of (act.Removes target) = book.Removes target
+act_of (act.Prunes cuts) = book.Prunes
 act_of act.Restarts = book.Restarts
 
 -- What the law says of the master that a legal history leaves: few identifiers were drawn (`numbers_are_drawn`), what
 -- the catalog has was drawn before, a table's schema changed less often than entries were made, no record of a table ends
--- after the clock, each tablet is in one of the slots, and the last complete snapshot of a namespace is over
--- (`legal_is_right`)
+-- after the clock, each tablet is in one of the slots, the last complete snapshot of a namespace is over
+-- (`legal_is_right`), a clone draws few identifiers, the tablets of one time lie in different slots, records of one table
+-- are of one namespace, an identifier is that of one restoration or clone, none of a restoration's namespace ends after its point until the switch, and a clone whose rows
+-- are copied may become current
 pub record IsLawful (m : Master) : Type 0 where
   pub few : (kind : Kind) → drawn_of kind m.drawn + most_slots < id_bound
   pub namespaces : name_of m.catalog.namespaces (next_namespace m) ≡ None
@@ -55,6 +71,19 @@ pub record IsLawful (m : Master) : Type 0 where
   pub past : ends_by m.clock m.catalog.tables ≡ true
   pub placed : (i : Interval) → In i m.activity → (1 ≤ i.slot) × (i.slot ≤ m.slots)
   pub complete : (k : ScheduledNamespace) → In k m.scheduled → complete_to k + 1 ≤ m.clock
+  pub clones : (source target : List ℕ) (to n : ℕ) (s : CloneSource) → m.clock < n
+      → judge_clone source target to n m ≡ Granted s → (kind : Kind) → drawn_of kind (drawn_for_clone to m s.namespace) ≤ most_slots
+  pub places : (ns : Id) (to : ℕ) → length (tablets_active_at m.catalog.owners m.activity ns to) ≤ m.slots
+  pub unowned : (table : Id) → m.drawn.tables < table.number → owner_of m.catalog.owners table ≡ None
+  pub owned : (t : TableRecord) → In t m.catalog.tables → owner_of m.catalog.owners t.id ≡ Some t.namespace
+  pub newest : (t : TableRecord) → In t m.catalog.tables → t.schema.next ≤ (newest m.catalog.tables t).next
+  pub home : IsHome m.catalog.tables
+  pub one_restoration : (id : Id) → length (filter (λ (r : RestorationRecord). same r.id id) m.restorations) ≤ 1
+  pub one_clone : (id : Id) → length (filter (λ (r : CloneRecord). same r.id id) m.clones) ≤ 1
+  pub switches : (r : RestorationRecord) (point : ℕ) (serving : Id) → In r m.restorations
+      → r.state ≡ Switching point serving → ends_in r.namespace point m.catalog.tables ≡ true
+  pub shows : (r : CloneRecord) (serving : Id) (copied_at : ℕ) → In r m.clones → r.state ≡ Copying serving copied_at
+      → TargetFits m.catalog r
 
 -- a namespace of the name may be made
 pub record NamespaceFits (name : List ℕ) (m : Master) : Type 0 where
@@ -126,6 +155,22 @@ May (act.Sends operation slot) n m = Unit {0}
 May (act.Acks operation slot) n m = Unit {0}
 May (act.Unsends operation slot) n m = Unit {0}
 May (act.CompletesSnapshot operation) n m = operation.kind ≡ Snapshot
+May (act.SnapshotsRestoration operation made) n m =
+    IsRestoration operation m × OfRestoration operation m (λ r. MakesSnapshot made r n m)
+May (act.MovesRestoration operation state listed) n m =
+    IsRestoration operation m × OfRestoration operation m (λ r. Enters state listed r n m)
+May (act.SwitchesRestoration operation switch) n m =
+    IsRestoration operation m × OfRestoration operation m (λ r. SwitchesBy r.state switch r m)
+May (act.BeginsClone namespace source target to made) n m =
+    CloneFits made m × (new_clone namespace source target to m ≡ made)
+May (act.SnapshotsClone operation made) n m =
+    IsClone operation m × OfClone operation m (λ r. MakesServing made r n m)
+May (act.MovesClone operation state listed) n m =
+    IsClone operation m × OfClone operation m (λ r. CloneEnters state listed r n m)
+May (act.ShowsClone operation name tables listed) n m =
+    IsClone operation m × OfClone operation m (λ r. ShowsBy r.state name tables listed r n m)
+May (act.Removes target) n m = Unit {0}
+May (act.Prunes cuts) n m = CutsBy cuts n m
 May act.Restarts n m = Unit {0}
 
 -- and of the room that was made
@@ -149,4 +194,17 @@ HasRoom (act.Sends operation slot) p = 1 ≤ p.sent_room
 HasRoom (act.Acks operation slot) p = Unit {0}
 HasRoom (act.Unsends operation slot) p = Unit {0}
 HasRoom (act.CompletesSnapshot operation) p = Unit {0}
+HasRoom (act.SnapshotsRestoration operation made) p = 1 ≤ p.snapshot_room
+HasRoom (act.MovesRestoration operation state listed) p = Unit {0}
+HasRoom (act.SwitchesRestoration operation switch) p =
+    (length switch.tables ≤ p.catalog_room) × (length switch.active ≤ p.activity_room)
+HasRoom (act.BeginsClone namespace source target to made) p =
+    (length made.tables ≤ p.catalog_room) × (1 ≤ p.clone_room)
+HasRoom (act.SnapshotsClone operation made) p = 1 ≤ p.snapshot_room
+HasRoom (act.MovesClone operation state listed) p = Unit {0}
+HasRoom (act.ShowsClone operation name tables listed) p =
+    (1 ≤ p.catalog_room) × ((length tables ≤ p.catalog_room)
+    × OfClone operation p.master (λ r. length r.tablets ≤ p.activity_room))
+HasRoom (act.Removes target) p = Unit {0}
+HasRoom (act.Prunes cuts) p = PruneRoom p
 HasRoom act.Restarts p = Unit {0}

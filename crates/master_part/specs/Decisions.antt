@@ -23,6 +23,8 @@ act_by parts (kind.Child parent tablet table range version) =
 act_by parts (kind.Version version) = tell.SetVersion version
 act_by parts (kind.Hide ended) = tell.HideSince ended
 act_by parts (kind.Offer command) = tell.Offer command
+act_by parts kind.Clear = tell.Clear
+act_by parts (kind.DropFrozen snapshot) = tell.DropFrozen snapshot
 
 abbrev pub told_by : (ℕ → Tablet) → PartChange → Told
 told_by parts c = record { slot = c.slot; act = act_by parts c.kind }

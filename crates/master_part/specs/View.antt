@@ -14,6 +14,7 @@ pub record MasterView : Type 0 where
   pub scheduled_room : ℕ
   -- and for how many more sent marks
   pub sent_room : ℕ
-  -- and records of snapshots and of restorations
+  -- and records of snapshots, of restorations and of clones
   pub snapshot_room : ℕ
   pub restoration_room : ℕ
+  pub clone_room : ℕ

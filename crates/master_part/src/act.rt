@@ -1,11 +1,15 @@
+use crate::cut::Cut;
+use crate::switch::Switch;
 use catalog_core::TableRecord;
 use catalog_tablets::Interval;
+use clone_coord::{CloneRecord, CloneState};
 use hybrid_time::HybridTime;
-use restore_coord::RestorationRecord;
+use restore_coord::{RestorationRecord, RestorationState};
 use row_values::{Name, Records, Slots};
 use schedules::Schedule;
 use snapshot_coord::SnapshotRecord;
 use table_schema::{Column, Kind, NewColumn, Schema};
+use tablet_inbox::Listed;
 use yb_ident::Ident;
 
 /// What the master is told: of a command what was found, so that no name is resolved again, and what
@@ -99,6 +103,56 @@ pub enum MasterAct {
     /// All tablets of a snapshot froze.
     CompletesSnapshot {
         operation: Ident,
+    },
+    /// All tablets of a restoration's namespace are fenced, and it makes its own snapshot.
+    SnapshotsRestoration {
+        operation: Ident,
+        made: SnapshotRecord,
+    },
+    /// A restoration enters a state with the tablets that it lists there, and nothing else becomes of the master.
+    MovesRestoration {
+        operation: Ident,
+        state: RestorationState,
+        listed: Records<Listed>,
+    },
+    /// The switch of a restoration: from its point on, tables and active tablets are those of its time.
+    SwitchesRestoration {
+        operation: Ident,
+        switch: Switch,
+    },
+    /// A clone of a namespace, found under the name `source`, to a time. Its record has what is reserved.
+    BeginsClone {
+        namespace: Ident,
+        source: Name,
+        target: Name,
+        to: HybridTime,
+        made: CloneRecord,
+    },
+    /// No snapshot serves an accepted clone, and it makes one.
+    SnapshotsClone {
+        operation: Ident,
+        made: SnapshotRecord,
+    },
+    /// A clone enters a state with the tablets that it lists there, and nothing else becomes of the master.
+    MovesClone {
+        operation: Ident,
+        state: CloneState,
+        listed: Records<Listed>,
+    },
+    /// All rows of a clone are copied: its target becomes current under its name, with these tables.
+    ShowsClone {
+        operation: Ident,
+        name: Name,
+        tables: Records<TableRecord>,
+        listed: Records<Listed>,
+    },
+    /// A tablet is forgotten, or a snapshot's record goes.
+    Removes {
+        target: Ident,
+    },
+    /// The catalog's old records go: of each namespace those that ended by its cut.
+    Prunes {
+        cuts: Records<Cut>,
     },
     /// Loses the sent marks.
     Restarts,

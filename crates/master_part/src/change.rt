@@ -40,4 +40,10 @@ pub enum PartKind {
     Offer {
         command: TabletCommand,
     },
+    /// Its tablet goes.
+    Clear,
+    /// Its frozen sets of a snapshot go.
+    DropFrozen {
+        snapshot: Ident,
+    },
 }

@@ -1,26 +1,78 @@
 //! Fields of records, as the book's.
 ghost use Rattle.std.specs.Prelude.{◌≡◌};
+ghost use Rattle.restore_coord.specs.Seen as restorations;
 ghost use Rattle.yb_ident.specs.Seen as kinds;
 
 use catalog_core::TableRecord;
 use catalog_tablets::Interval;
-use clone_coord::CloneRecord;
+use clone_coord::{CloneRecord, IdPair, TabletPair};
 use hybrid_time::HybridTime;
-use restore_coord::RestorationRecord;
+use restore_coord::{RestorationRecord, RestorationState};
 use schedules::Schedule;
 use snapshot_coord::SnapshotRecord;
 use yb_ident::{Ident, Kind};
 
+/// The identifier of a restoration.
 pub fn restoration_id(restoration: &RestorationRecord) -> Ident
     ensures exact { result ≡ restoration.now.id }
 {
     restoration.id
 }
 
+/// The namespace of a restoration.
+pub fn restoration_namespace(restoration: &RestorationRecord) -> Ident
+    ensures exact { result ≡ restoration.now.namespace }
+{
+    restoration.namespace
+}
+
+/// The schedule of a restoration.
+pub fn restoration_schedule(restoration: &RestorationRecord) -> Ident
+    ensures exact { result ≡ restoration.now.schedule }
+{
+    restoration.schedule
+}
+
+/// How far a restoration is.
+pub fn restoration_state(restoration: &RestorationRecord) -> RestorationState
+    ensures exact { restorations.state_of result ≡ restoration.now.state }
+{
+    restoration.state
+}
+
+/// The identifier of a clone.
 pub fn clone_id(clone: &CloneRecord) -> Ident
     ensures exact { result ≡ clone.now.id }
 {
     clone.id
+}
+
+/// The namespace that a clone takes its tables from.
+pub fn clone_source(clone: &CloneRecord) -> Ident
+    ensures exact { result ≡ clone.now.source }
+{
+    clone.source
+}
+
+/// The namespace that a clone makes.
+pub fn clone_target(clone: &CloneRecord) -> Ident
+    ensures exact { result ≡ clone.now.target_id }
+{
+    clone.target_id
+}
+
+/// The tables of a clone.
+pub fn clone_tables(clone: &CloneRecord) -> &[IdPair]
+    ensures exact { result.now ≡ clone.now.tables }
+{
+    clone.tables.as_slice()
+}
+
+/// The tablets of a clone.
+pub fn clone_tablets(clone: &CloneRecord) -> &[TabletPair]
+    ensures exact { result.now ≡ clone.now.tablets }
+{
+    clone.tablets.as_slice()
 }
 
 /// The identifier of a table.
@@ -44,18 +96,28 @@ pub fn schedule_id(schedule: &Schedule) -> Ident
     schedule.id
 }
 
+/// The identifier of a snapshot.
 pub fn snapshot_id(snapshot: &SnapshotRecord) -> Ident
     ensures exact { result ≡ snapshot.now.id }
 {
     snapshot.id
 }
 
+/// The schedule of a snapshot.
+pub fn snapshot_schedule(snapshot: &SnapshotRecord) -> Ident
+    ensures exact { result ≡ snapshot.now.schedule }
+{
+    snapshot.schedule
+}
+
+/// The namespace of a snapshot.
 pub fn snapshot_namespace(snapshot: &SnapshotRecord) -> Ident
     ensures exact { result ≡ snapshot.now.namespace }
 {
     snapshot.namespace
 }
 
+/// The time of a snapshot.
 pub fn snapshot_time(snapshot: &SnapshotRecord) -> HybridTime
     ensures exact { result ≡ snapshot.now.at }
 {

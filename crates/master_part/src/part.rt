@@ -58,6 +58,7 @@ impl Model for MasterPart {
       sent_room = vec_capacity p.sent - vec_len p.sent;
       snapshot_room = p.snapshots.room;
       restoration_room = p.restorations.room;
+      clone_room = p.clones.room;
     } };
 }
 

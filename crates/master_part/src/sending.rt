@@ -123,7 +123,7 @@ fn forget_sent(sent: &mut Vec<Sent>, operation: &Ident, slot: u32)
 }
 
 // All marks of an operation go.
-fn forget_all_sent(sent: &mut Vec<Sent>, operation: &Ident)
+pub(crate) fn forget_all_sent(sent: &mut Vec<Sent>, operation: &Ident)
     ensures items { sent.new.items ≡ unsent operation.now sent.old.items }
 {
     sent.retain(|mark| is_of_another(mark, operation));

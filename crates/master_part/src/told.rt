@@ -33,6 +33,19 @@ impl MasterPart {
             MasterAct::Acks { .. } => Ok(()),
             MasterAct::Unsends { .. } => Ok(()),
             MasterAct::CompletesSnapshot { .. } => Ok(()),
+            MasterAct::SnapshotsRestoration { .. } => self.prepare_snapshot(),
+            MasterAct::MovesRestoration { .. } => Ok(()),
+            MasterAct::SwitchesRestoration { switch, .. } => self.prepare_switch(switch),
+            MasterAct::BeginsClone { made, .. } => self.prepare_clone(made),
+            MasterAct::SnapshotsClone { .. } => self.prepare_snapshot(),
+            MasterAct::MovesClone { .. } => Ok(()),
+            MasterAct::ShowsClone {
+                operation,
+                tables,
+                ..
+            } => self.prepare_target(operation, tables.len() as usize),
+            MasterAct::Removes { .. } => Ok(()),
+            MasterAct::Prunes { .. } => self.prepare_prune(),
             MasterAct::Restarts => Ok(()),
         }
     }
@@ -100,6 +113,40 @@ impl MasterPart {
             MasterAct::Acks { operation, slot } => self.ack(&operation, slot, stamp),
             MasterAct::Unsends { operation, slot } => self.unsend(&operation, slot, stamp),
             MasterAct::CompletesSnapshot { operation } => self.complete_snapshot(&operation, stamp),
+            MasterAct::SnapshotsRestoration { operation, made } => {
+                self.snapshot_restoration(&operation, made, stamp)
+            }
+            MasterAct::MovesRestoration {
+                operation,
+                state,
+                listed,
+            } => self.move_restoration(&operation, state, listed, stamp),
+            MasterAct::SwitchesRestoration { operation, switch } => {
+                self.switch_restoration(&operation, switch, stamp)
+            }
+            MasterAct::BeginsClone {
+                namespace: _namespace,
+                source: _source,
+                target: _target,
+                to: _to,
+                made,
+            } => self.begin_clone(made, stamp),
+            MasterAct::SnapshotsClone { operation, made } => {
+                self.snapshot_clone(&operation, made, stamp)
+            }
+            MasterAct::MovesClone {
+                operation,
+                state,
+                listed,
+            } => self.move_clone(&operation, state, listed, stamp),
+            MasterAct::ShowsClone {
+                operation,
+                name,
+                tables,
+                listed,
+            } => self.show_clone(&operation, name, tables, listed, stamp),
+            MasterAct::Removes { target } => self.remove(&target, stamp),
+            MasterAct::Prunes { cuts } => self.prune(&cuts, stamp),
             MasterAct::Restarts => self.restart(stamp),
         }
     }

@@ -5,6 +5,7 @@
 #![tactic(auto)]
 
 mod list;
+mod looks;
 mod record;
 mod state;
 

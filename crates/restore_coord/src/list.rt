@@ -1,12 +1,17 @@
-ghost use Rattle.std.specs.Prelude.{◌≡◌, ◌≤◌, [], ◌∷◌, ◌++◌, OnOk};
+ghost use Rattle.std.specs.Prelude.{◌≡◌, ◌≤◌, ◌<◌, true, false, Some, [], ◌∷◌, ◌++◌, length, filter, slice_get, OnOk, IfSome, MatchOption, ⊤};
+ghost use Rattle.std.specs.List.{list_any};
 ghost use Rattle.std.specs.Option.{option_copied, option_and_then};
+ghost use Rattle.row_values.specs.Ids.{same};
+ghost use Rattle.model.specs.Records.{RestorationRecord};
 ghost use Rattle.model.specs.Records as book;
 ghost use Rattle.model.specs.Coordination.{unfinished_restoration, acked_restoration};
-ghost use Rattle.restore_coord.specs.View.{acked_if};
+ghost use Rattle.restore_coord.specs.View.{acked_if, entered, entered_in};
+ghost use Rattle.restore_coord.specs.Seen.{state_of};
 ghost use Rattle.model.specs.Operations.{restoration_of};
 
 use crate::record::RestorationRecord;
-use row_values::NoMemory;
+use crate::state::RestorationState;
+use row_values::{NoMemory, Records};
 use std::alloc::Global;
 use std::marker::Model;
 use tablet_inbox::{Listed, set_acked, unacked_at};
@@ -89,6 +94,18 @@ impl Restorations {
         }
     }
 
+    /// A restoration enters a state, with the tablets that it lists there. It takes no memory.
+    pub fn enter(&mut self, id: &Ident, state: RestorationState, listed: Records<Listed>)
+        requires once { length (filter (λ r. same r.id id.now) self.old.restorations) ≤ 1 }
+        ensures restorations { self.new.restorations ≡ entered_in id.now (state_of state) listed self.old.restorations }
+        ensures room { self.new.room ≡ self.old.room }
+    {
+        let Some(place) = place_of(self.records.as_slice(), id) else {
+            return;
+        };
+        enter_record(&mut self.records[place], state, listed);
+    }
+
     /// Makes room for one more record.
     pub fn prepare(&mut self) -> Result<(), NoMemory>
         ensures restorations { self.new.restorations ≡ self.old.restorations }
@@ -120,4 +137,32 @@ fn ack_record(restoration: &mut RestorationRecord, id: &Ident, slot: u32)
     if restoration.id == *id {
         set_acked(&mut restoration.listed, slot);
     }
+}
+
+// The place of a restoration's record.
+fn place_of(records: &[RestorationRecord], id: &Ident) -> Option<usize>
+    ensures within { IfSome result (λ p. p < length records.now) }
+    ensures found { IfSome result (λ p. (r : RestorationRecord) × ((slice_get records.now p ≡ Some r) × (same r.id id.now ≡ true))) }
+    ensures none { MatchOption result (list_any (λ r. same r.id id.now) records.now ≡ false) (λ _. ⊤) }
+{
+    let mut place = 0;
+    for record in records {
+        if record.id == *id {
+            return Some(place);
+        }
+        place += 1;
+    }
+    None
+}
+
+// A record enters a state, with the tablets that it lists there.
+fn enter_record(
+    restoration: &mut RestorationRecord,
+    state: RestorationState,
+    listed: Records<Listed>,
+)
+    ensures entered { restoration.new ≡ entered (state_of state) listed restoration.old }
+{
+    restoration.state = state;
+    restoration.listed = listed;
 }

@@ -1,6 +1,7 @@
 -- What one event comes to: it is performed, or the run stops.
 use Rattle.std.proofs.Common.{◌≡◌, ℕ, List, [], ◌∷◌, Bool, true, false, cond, ltb, leb, ◌&&◌, None, Some, ◌⊎◌, inl, inr, get_or, refl, sym, ap, subst, ◌∙◌, arith}
 use Rattle.std.specs.Prelude.{Result, Ok, Err, IsErrAnd}
+use Rattle.std.proofs.lemmas.Bool.{cond_both}
 use Rattle.std.proofs.lemmas.Bool.Decides.{nat_tests}
 use Rattle.model.specs.Times.{end_of_time}
 use Rattle.model.specs.Acts.{Act, Event}
@@ -12,10 +13,10 @@ use Rattle.machine_laws.specs.Faults.{StepFault, ClockEnd, LogFull, fault_by, fa
 use Rattle.cluster_core.specs.declared.fault.StepRefused.{StepRefused}
 use Rattle.cluster_core.specs.declared.fault.StepRefused.TheVariants as refused
 use Rattle.cluster_core.specs.Causes.{RefusedBy}
-use Rattle.law.proofs.Running.{performed_keeps}
 use Rattle.script_runs.specs.declared.stop.Stop.{Stop}
+use Rattle.script_runs.specs.declared.stop.Stop.TheVariants.{NoMemory, Full}
 use Rattle.script_runs.specs.Stops.{stop_of}
-use Rattle.script_runs.specs.Runs.{RunState, run_at, GoesTo, StopsAt, PartOf, Stopped, Came, entry_under}
+use Rattle.script_runs.specs.Runs.{RunState, run_at, IsPart, GoesTo, StopsAt, PartOf, Stopped, Came}
 use Rattle.script_runs.proofs.Readings.{same_reading}
 
 -- Faults
@@ -61,36 +62,31 @@ may_stop slots event earlier fault some = some_stops (stamp_of event (replay slo
 
 -- Events
 
--- the event of an act in a state
-abbrev pub event_under : Act → RunState → Event
-event_under act s = event_of (reading_for (touches act) (run_at s [] 0)) act
-
 same_run : (s new : RunState) (told : List ℕ) (done : ℕ) (h : List Entry) → new.reading ≡ s.reading → new.lags ≡ s.lags → new.history ≡ h → record (run_at s told done) { history = h } ≡ run_at new told done
 same_run s new told done h reading lags history =
     let f : ℕ → List ℕ → List Entry → Run = λ k l g. record { reading = k; lag = λ slot. get_or l slot 0; history = g; text = told; done = done; stopped = false } in
     sym (ap (λ k. f k new.lags new.history) reading ∙ ap (λ l. f s.reading l new.history) lags ∙ ap (f s.reading s.lags) history)
 
--- the act under its event, which is the same whatever was told
-event_is : (act : Act) (s : RunState) (told : List ℕ) (done : ℕ) → performed s.slots act (run_at s told done) ≡ with_event s.slots (event_under act s) (run_at s told done)
-event_is act s told done = ap (λ k. with_event s.slots (event_of k act) (run_at s told done)) (same_reading (touches act) s told done)
-
-act_goes : (act : Act) (s new : RunState) → fault_after s.slots (event_under act s) s.history ≡ None → new.reading ≡ s.reading → new.lags ≡ s.lags → new.history ≡ entry_under act s ∷ s.history → GoesTo (performed s.slots act) s new
-act_goes act s new none reading lags history told done =
+event_goes : (event : Event) (s new : RunState) → fault_after s.slots event s.history ≡ None → new.reading ≡ s.reading → new.lags ≡ s.lags → new.history ≡ entry_of s.slots event s.history ∷ s.history → GoesTo (with_event s.slots event) s new
+event_goes event s new none reading lags history told done =
     let r = run_at s told done in
-    let entries = entry_under act s ∷ s.history in
-    event_is act s told done
-    ∙ ap (λ b. cond b (record r { history = entries }) (record r { stopped = true })) (may_go s.slots (event_under act s) s.history none)
+    let entries = entry_of s.slots event s.history ∷ s.history in
+    ap (λ b. cond b (record r { history = entries }) (record r { stopped = true })) (may_go s.slots event s.history none)
     ∙ same_run s new told done entries reading lags history
 
-act_stops : (act : Act) (s : RunState) (fault : StepFault) → fault_after s.slots (event_under act s) s.history ≡ Some fault → StopsAt (performed s.slots act) s s
-act_stops act s fault some told done =
+event_stops : (event : Event) (s : RunState) (fault : StepFault) → fault_after s.slots event s.history ≡ Some fault → StopsAt (with_event s.slots event) s s
+event_stops event s fault some told done =
     let r = run_at s told done in
-    event_is act s told done
-    ∙ ap (λ b. cond b (record r { history = entry_under act s ∷ s.history }) (record r { stopped = true })) (may_stop s.slots (event_under act s) s.history fault some)
+    ap (λ b. cond b (record r { history = entry_of s.slots event s.history ∷ s.history }) (record r { stopped = true })) (may_stop s.slots event s.history fault some)
 
 -- nothing of it was performed
-act_kept : (act : Act) (s : RunState) → PartOf (performed s.slots act) s s
-act_kept act s told done = let k = performed_keeps s.slots act (run_at s told done) in record { more = []; behind = refl; rest = k.later; within = k.is }
+event_kept : (event : Event) (s : RunState) → PartOf (with_event s.slots event) s s
+event_kept event s told done =
+    let r = run_at s told done in
+    let e = entry_of s.slots event s.history in
+    cond_both (may_follow s.slots event s.history) (record r { history = e ∷ s.history }) (record r { stopped = true }) (λ k. IsPart s.history s.history k.history)
+    (λ _. record { more = []; behind = refl; rest = e ∷ []; within = refl })
+    (λ _. record { more = []; behind = refl; rest = []; within = refl })
 
 -- A step of the cluster, in a state as code has it
 
@@ -99,28 +95,49 @@ same_state s new slots reading lags history =
     let f : ℕ → ℕ → List ℕ → List Entry → RunState = λ n k l h. record { slots = n; reading = k; lags = l; history = h } in
     ap (λ n. f n new.reading new.lags new.history) slots ∙ ap (λ k. f s.slots k new.lags new.history) reading ∙ ap (λ l. f s.slots s.reading l new.history) lags ∙ ap (f s.slots s.reading s.lags) history
 
-pub step_goes : (act : Act) (v s new : RunState) (reading : ℕ) → v ≡ s → reading ≡ reading_for (touches act) (run_at s [] 0)
-    → fault_after v.slots (event_of reading act) v.history ≡ None → new.reading ≡ v.reading → new.lags ≡ v.lags
-    → new.history ≡ entry_of v.slots (event_of reading act) v.history ∷ v.history → GoesTo (performed s.slots act) s new
-step_goes act v s new reading is by none same_reading_ same_lags history =
-    act_goes act s new
-    (subst (λ k. fault_after s.slots (event_of k act) s.history ≡ None) by (subst (λ (t : RunState). fault_after t.slots (event_of reading act) t.history ≡ None) is none))
-    (same_reading_ ∙ ap (λ (t : RunState). t.reading) is)
-    (same_lags ∙ ap (λ (t : RunState). t.lags) is)
-    (subst (λ k. new.history ≡ entry_of s.slots (event_of k act) s.history ∷ s.history) by
-    (subst (λ (t : RunState). new.history ≡ entry_of t.slots (event_of reading act) t.history ∷ t.history) is history))
+pub step_goes : (event : Event) (v s new : RunState) → v ≡ s → fault_after v.slots event v.history ≡ None → new.reading ≡ v.reading → new.lags ≡ v.lags
+    → new.history ≡ entry_of v.slots event v.history ∷ v.history → GoesTo (with_event s.slots event) s new
+step_goes event v s new is none reading lags history =
+    event_goes event s new
+    (subst (λ (t : RunState). fault_after t.slots event t.history ≡ None) is none)
+    (reading ∙ ap (λ (t : RunState). t.reading) is)
+    (lags ∙ ap (λ (t : RunState). t.lags) is)
+    (subst (λ (t : RunState). new.history ≡ entry_of t.slots event t.history ∷ t.history) is history)
 
-stop_came : (why : StepRefused) (act : Act) (s : RunState) → RefusedBy (fault_after s.slots (event_under act s) s.history) why → Stopped (stop_of why) (performed s.slots act) s s
-stop_came refused.NoMemory act s cause = act_kept act s
-stop_came refused.ClockEnd act s cause = (act_stops act s ClockEnd cause, act_kept act s)
-stop_came (refused.EventsFull slot) act s cause = (act_stops act s (LogFull slot) cause, act_kept act s)
+stop_came : (why : StepRefused) (event : Event) (s : RunState) → RefusedBy (fault_after s.slots event s.history) why → Stopped (stop_of why) (with_event s.slots event) s s
+stop_came refused.NoMemory event s cause = event_kept event s
+stop_came refused.ClockEnd event s cause = (event_stops event s ClockEnd cause, event_kept event s)
+stop_came (refused.EventsFull slot) event s cause = (event_stops event s (LogFull slot) cause, event_kept event s)
 
-pub step_stops : (act : Act) (v s new : RunState) (reading : ℕ) (why : StepRefused) → v ≡ s → reading ≡ reading_for (touches act) (run_at s [] 0)
-    → RefusedBy (fault_after v.slots (event_of reading act) v.history) why → new.slots ≡ v.slots → new.reading ≡ v.reading → new.lags ≡ v.lags
-    → new.history ≡ v.history → Stopped (stop_of why) (performed s.slots act) s new
-step_stops act v s new reading why is by cause slots same_reading_ same_lags history =
-    let here = subst (λ k. RefusedBy (fault_after s.slots (event_of k act) s.history) why) by (subst (λ (t : RunState). RefusedBy (fault_after t.slots (event_of reading act) t.history) why) is cause) in
-    subst (λ t. Stopped (stop_of why) (performed s.slots act) s t) (sym (same_state v new slots same_reading_ same_lags history ∙ is)) (stop_came why act s here)
+pub step_stops : (event : Event) (v s new : RunState) (why : StepRefused) → v ≡ s → RefusedBy (fault_after v.slots event v.history) why
+    → new.slots ≡ v.slots → new.reading ≡ v.reading → new.lags ≡ v.lags → new.history ≡ v.history → Stopped (stop_of why) (with_event s.slots event) s new
+step_stops event v s new why is cause slots reading lags history =
+    let here = subst (λ (t : RunState). RefusedBy (fault_after t.slots event t.history) why) is cause in
+    subst (λ t. Stopped (stop_of why) (with_event s.slots event) s t) (sym (same_state v new slots reading lags history ∙ is)) (stop_came why event s here)
+
+-- Two changes that are the same in a state
+
+pub goes_as : (change other : Run → Run) (old new : RunState) → ((told : List ℕ) (done : ℕ) → change (run_at old told done) ≡ other (run_at old told done)) → GoesTo other old new → GoesTo change old new
+goes_as change other old new same goes told done = same told done ∙ goes told done
+
+stops_as : (change other : Run → Run) (old new : RunState) → ((told : List ℕ) (done : ℕ) → change (run_at old told done) ≡ other (run_at old told done)) → StopsAt other old new → StopsAt change old new
+stops_as change other old new same stops told done = same told done ∙ stops told done
+
+part_as : (change other : Run → Run) (old new : RunState) → ((told : List ℕ) (done : ℕ) → change (run_at old told done) ≡ other (run_at old told done)) → PartOf other old new → PartOf change old new
+part_as change other old new same part told done = subst (λ (r : Run). IsPart old.history new.history r.history) (sym (same told done)) (part told done)
+
+pub came_as : {A : Type 0} (r : Result A Stop) (change other : Run → Run) (old new : RunState) → ((told : List ℕ) (done : ℕ) → change (run_at old told done) ≡ other (run_at old told done)) → Came r other old new → Came r change old new
+came_as (Ok made) change other old new same came = goes_as change other old new same came
+came_as (Err NoMemory) change other old new same came = part_as change other old new same came
+came_as (Err Full) change other old new same came = (stops_as change other old new same came.0, part_as change other old new same came.1)
+
+-- the act's event, whose reading is the same whatever was told
+act_is : (act : Act) (s : RunState) (reading : ℕ) → reading ≡ reading_for (touches act) (run_at s [] 0) → (told : List ℕ) (done : ℕ) → performed s.slots act (run_at s told done) ≡ with_event s.slots (event_of reading act) (run_at s told done)
+act_is act s reading by told done =
+    ap (λ k. with_event s.slots (event_of k act) (run_at s told done)) (same_reading (touches act) s told done ∙ sym by)
+
+pub act_came : {A : Type 0} (r : Result A Stop) (act : Act) (s new : RunState) (reading : ℕ) → reading ≡ reading_for (touches act) (run_at s [] 0) → Came r (with_event s.slots (event_of reading act)) s new → Came r (performed s.slots act) s new
+act_came r act s new reading by came = came_as r (performed s.slots act) (with_event s.slots (event_of reading act)) s new (act_is act s reading by) came
 
 -- an error that is handed on
 pub handed_on : {A : Type 0} (r : Result A Stop) (why : Stop) (change : Run → Run) (old new : RunState) → IsErrAnd r (λ e. e ≡ why) → Stopped why change old new → Came r change old new

@@ -2,7 +2,8 @@ pub mod Rising
 pub mod Readings
 pub mod Going
 pub mod Performing
-pub mod Serving
+pub mod Working
+pub mod Asking
 pub mod Looking
 pub mod Showing
 pub mod Ending

@@ -14,7 +14,7 @@ use Rattle.script_runs.specs.declared.stop.Stop.TheVariants.{NoMemory, Full}
 use Rattle.script_runs.specs.Shown.{IsGrown, shown_by, last_of}
 use Rattle.script_runs.specs.Runs.{RunState, run_at, entry_under, GoesTo, StopsAt, PartOf, Stopped}
 use Rattle.model_runs.specs.Running.{columns_in, shown_text}
-use Rattle.script_runs.proofs.Serving.{FollowsFew}
+use Rattle.script_runs.proofs.Asking.{FollowsFew}
 use Rattle.script_runs.proofs.Showing.{look_shows, entry_no_rows}
 
 -- Parts of what a change makes

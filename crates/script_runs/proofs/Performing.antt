@@ -5,7 +5,6 @@ use Rattle.model.specs.Acts.{Act}
 use Rattle.model.specs.Entries.{Entry, ActAsked}
 use Rattle.model_runs.specs.Running.{Run, performed, performed_all}
 use Rattle.machine_laws.specs.Views.{AnswerView}
-use Rattle.cluster_core.specs.Served.{IsServed}
 use Rattle.law.proofs.Runs.{stopped_stays}
 use Rattle.law.proofs.Running.{all_keep}
 use Rattle.script_runs.specs.declared.stop.Stop.{Stop}
@@ -21,10 +20,9 @@ pub record Performing (old now : RunState) (all left : List Act) (newest : Optio
   pub count : length made + length left ≡ length all
   pub newest_is : IsNewest newest made
   pub asked : AllOf (ActAsked old.slots) left
-  pub served : AllOf IsServed left
 
-pub first_performing : (old : RunState) (all : List Act) → AllOf (ActAsked old.slots) all → AllOf IsServed all → Performing old old all all None
-first_performing old all asked served = record {
+pub first_performing : (old : RunState) (all : List Act) → AllOf (ActAsked old.slots) all → Performing old old all all None
+first_performing old all asked = record {
   slots = refl;
   reaches = λ told done. refl;
   made = [];
@@ -32,11 +30,10 @@ first_performing old all asked served = record {
   count = omega arith;
   newest_is = refl;
   asked = asked;
-  served = served;
 }
 
 pub next_performing : (old now next : RunState) (all : List Act) (act : Act) (left : List Act) (newest : Option AnswerView) (a : AnswerView)
-    → Performing old now all (act ∷ left) newest → next.slots ≡ now.slots → GoesTo (performed now.slots act) now next → IsEntry act now next a → Performing old next all left (Some a)
+    → Performing old now all (act ∷ left) newest → next.slots ≡ now.slots → GoesTo (performed now.slots act) now next → IsEntry (entry_under act now) now next a → Performing old next all left (Some a)
 next_performing old now next all act left newest a p slots goes entry = record {
   slots = slots ∙ p.slots;
   reaches = λ told done. p.reaches told done ∙ ap (performed_all old.slots left) (subst (λ k. performed k act (run_at now told done) ≡ run_at next told done) p.slots (goes told done));
@@ -45,7 +42,6 @@ next_performing old now next all act left newest a p slots goes entry = record {
   count = (let e = p.count in omega arith);
   newest_is = (entry.stamp, entry.reply);
   asked = p.asked.1;
-  served = p.served.1;
 }
 
 -- where an event can't be, the whole stops there

@@ -15,7 +15,7 @@ use Rattle.model_runs.specs.Texts.{told_text, row_text, rows_text}
 use Rattle.machine_laws.specs.Views.{AnswerView}
 use Rattle.script_runs.specs.Runs.{RunState, entry_under}
 use Rattle.script_runs.specs.Shown.{shown_by, IsNewest, IsGrown, last_of}
-use Rattle.script_runs.proofs.Serving.{FollowsFew}
+use Rattle.script_runs.proofs.Asking.{FollowsFew}
 
 -- A look answers no rows
 

@@ -1,5 +1,5 @@
+pub mod Asking
 pub mod Lone
 pub mod Runs
-pub mod Served
 pub mod Shown
 pub mod Stops

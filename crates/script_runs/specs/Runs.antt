@@ -81,10 +81,10 @@ abbrev pub entry_under : Act → RunState → Entry
 entry_under act s = entry_of s.slots (event_of (reading_for (touches act) (run_at s [] 0)) act) s.history
 
 -- the state has that entry more, and the answer is its
-pub record IsEntry (act : Act) (old new : RunState) (a : AnswerView) : Type 0 where
-  pub history : new.history ≡ entry_under act old ∷ old.history
-  pub stamp : a.stamp ≡ (entry_under act old).stamp
-  pub reply : a.reply ≡ (entry_under act old).reply
+pub record IsEntry (e : Entry) (old new : RunState) (a : AnswerView) : Type 0 where
+  pub history : new.history ≡ e ∷ old.history
+  pub stamp : a.stamp ≡ e.stamp
+  pub reply : a.reply ≡ e.reply
 
 -- Commands
 

@@ -1,31 +1,32 @@
-ghost use Rattle.std.specs.Prelude.{◌≡◌, ◌≤◌, ◌<◌, ◌^◌, ◌+◌, [], ◌++◌, map, length, replicate, get_or, Err, IfOk, OnOk, OnErr};
+ghost use Rattle.std.specs.Prelude.{◌≡◌, ◌≤◌, ◌<◌, ◌^◌, ◌+◌, [], ◌∷◌, ◌++◌, map, length, replicate, get_or, option_map, Some, Err, IfOk, OnOk, OnErr};
 ghost use Rattle.row_values.specs.Elements.{AllOf};
 ghost use Rattle.model.specs.Drawn.{most_slots};
-ghost use Rattle.model.specs.Entries.{touches, ActAsked};
-ghost use Rattle.model.specs.History.{Legal};
-ghost use Rattle.model_runs.specs.Courses.{Course, LookFor, ShowEntries, ScriptAsked};
-ghost use Rattle.model_runs.specs.Running.{begun, reading_for, performed, performed_all, taken, newest_reply, reply_line, course_text};
+ghost use Rattle.model.specs.Entries.{touches, Asked, ActAsked};
+ghost use Rattle.model.specs.History.{Legal, entry_of, replay};
+ghost use Rattle.model.specs.Settling.{coordinated, event_of, settle};
+ghost use Rattle.model.specs.Work.{next_act};
+ghost use Rattle.model_runs.specs.Courses.{Course, LookFor, ShowEntries, WorkOff, ScriptAsked};
+ghost use Rattle.model_runs.specs.Running.{begun, reading_for, with_event, performed, performed_all, taken, newest_reply, reply_line, course_text};
 ghost use Rattle.model_runs.specs.HistoryTexts.{history_text};
 ghost use Rattle.commands.specs.Seen.{ask_of};
 ghost use Rattle.commands.specs.Scripts.{script_command_of};
 ghost use Rattle.cluster_events.specs.SeenActs.{act_of};
-ghost use Rattle.cluster_core.specs.Served.{IsServed};
-ghost use Rattle.script_courses.specs.SeenCourses.{course_seen, follow_of, showing_of};
+ghost use Rattle.script_courses.specs.SeenCourses.{course_seen, follow_of, showing_of, work_seen};
 ghost use Rattle.admin_words.specs.Growing.{Begins};
 ghost use Rattle.script_runs.specs.declared.stop.Stop.TheVariants as stop;
-ghost use Rattle.script_runs.specs.Runs.{run_at, numbered, text_between, Came, Wrote, IsEntry, Ran, RanFull, RanInPart};
-ghost use Rattle.script_runs.specs.Served.{IsServedCommand, IsServedCourse};
+ghost use Rattle.script_runs.specs.Runs.{run_at, entry_under, numbered, text_between, Came, Wrote, IsEntry, Ran, RanFull, RanInPart};
+ghost use Rattle.script_runs.specs.Asking.{IsAskedCourse};
 ghost use Rattle.script_runs.specs.Shown.{IsGrown, last_of};
 
 use crate::lone::lone_slot;
-use crate::shown::{reply_in, tell_entries, tell_line, tell_look_line};
+use crate::shown::{reply_in, tell_entries, tell_line, tell_look_line, tell_work_line};
 use crate::stop::Stop;
 use admin_words::Text;
 use cluster_core::{Answer, Cluster, History};
 use cluster_events::{Act, Event};
 use commands::{Ask, ScriptCommand};
 use row_values::{NoMemory, Records};
-use script_courses::{Course, Follow, Showing, acts_after, columns_placed, course_of};
+use script_courses::{Course, Follow, Showing, Work, acts_after, columns_placed, course_of};
 use std::alloc::Global;
 use std::marker::Model;
 use versions::VersionStore;
@@ -81,7 +82,6 @@ impl<V: VersionStore> ScriptRun<V> {
         command: ScriptCommand,
         text: &mut Text,
     ) -> Result<(), Stop>
-        requires served { IsServedCommand (script_command_of command) }
         requires asked { ScriptAsked self.old.slots (script_command_of command) }
         ensures slots { self.new.slots ≡ self.old.slots }
         ensures ran { OnOk result (Ran (numbered line (script_command_of command)) self.old self.new) }
@@ -110,7 +110,7 @@ impl<V: VersionStore> ScriptRun<V> {
 
     /// Takes a course.
     fn take(&mut self, line: u64, course: Course, text: &mut Text) -> Result<(), Stop>
-        requires course { IsServedCourse self.old.slots self.old.reading (course_seen self.old.reading course) }
+        requires course { IsAskedCourse self.old.slots self.old.reading (course_seen self.old.reading course) }
         ensures slots { self.new.slots ≡ self.old.slots }
         ensures came { Came result (taken self.old.slots (course_seen self.old.reading course)) self.old self.new }
         ensures wrote { Wrote result text.old text.new (course_text (course_seen self.old.reading course) line self.old.history self.new.history) }
@@ -130,7 +130,7 @@ impl<V: VersionStore> ScriptRun<V> {
                 follow,
                 showing,
             } => self.look(line, ask, follow, showing, text),
-            Course::WorkOff { work: _ } => unreachable!(),
+            Course::WorkOff { work } => self.work_off(line, work, text),
             Course::ShowEntries => self.show_entries(text),
         }
     }
@@ -147,7 +147,6 @@ impl<V: VersionStore> ScriptRun<V> {
 
     /// Performs an act, and tells its reply.
     fn tell(&mut self, line: u64, act: Act, text: &mut Text) -> Result<(), Stop>
-        requires served { IsServed (act_of act) }
         requires asked { ActAsked self.old.slots (act_of act) }
         ensures slots { self.new.slots ≡ self.old.slots }
         ensures came { Came result (performed self.old.slots (act_of act)) self.old self.new }
@@ -167,7 +166,7 @@ impl<V: VersionStore> ScriptRun<V> {
         showing: Showing,
         text: &mut Text,
     ) -> Result<(), Stop>
-        requires course { IsServedCourse self.old.slots self.old.reading (LookFor (ask_of ask) (follow_of follow) (showing_of showing)) }
+        requires course { IsAskedCourse self.old.slots self.old.reading (LookFor (ask_of ask) (follow_of follow) (showing_of showing)) }
         ensures slots { self.new.slots ≡ self.old.slots }
         ensures came { Came result (taken self.old.slots (LookFor (ask_of ask) (follow_of follow) (showing_of showing))) self.old self.new }
         ensures wrote { Wrote result text.old text.new (course_text (LookFor (ask_of ask) (follow_of follow) (showing_of showing)) line self.old.history self.new.history) }
@@ -182,9 +181,102 @@ impl<V: VersionStore> ScriptRun<V> {
         Ok(())
     }
 
+    /// Performs acts of a coordinator, and tells how many these were.
+    fn work_off(&mut self, line: u64, work: Work, text: &mut Text) -> Result<(), Stop>
+        ensures slots { self.new.slots ≡ self.old.slots }
+        ensures came { Came result (taken self.old.slots (WorkOff (work_seen self.old.reading work))) self.old self.new }
+        ensures wrote { Wrote result text.old text.new (course_text (WorkOff (work_seen self.old.reading work)) line self.old.history self.new.history) }
+    {
+        let before = self.len();
+        self.perform_work(work)?;
+        tell_work_line(text, line, self.len() - before)?;
+        Ok(())
+    }
+
+    /// Performs acts of a coordinator, under the script's reading.
+    fn perform_work(&mut self, work: Work) -> Result<(), Stop>
+        ensures slots { self.new.slots ≡ self.old.slots }
+        ensures came { Came result (taken self.old.slots (WorkOff (work_seen self.old.reading work))) self.old self.new }
+        ensures later { length self.old.history ≤ length self.new.history }
+    {
+        match work {
+            Work::Coordinate { count } => self.coordinate(count),
+            Work::Settle => self.settle(),
+        }
+    }
+
+    /// Performs the acts that come next, at most so many.
+    fn coordinate(&mut self, most: u64) -> Result<(), Stop>
+        ensures slots { self.new.slots ≡ self.old.slots }
+        ensures came { Came result (taken self.old.slots (WorkOff (coordinated most self.old.reading))) self.old self.new }
+        ensures later { length self.old.history ≤ length self.new.history }
+    {
+        let mut left = most;
+        'acts: while left > 0 {
+            let Some(act) = self.next_act() else {
+                return Ok(());
+            };
+            self.perform_next(act)?;
+            left -= 1;
+        }
+        Ok(())
+    }
+
+    /// Performs the acts that come next, until none comes.
+    fn settle(&mut self) -> Result<(), Stop>
+        ensures slots { self.new.slots ≡ self.old.slots }
+        ensures came { Came result (taken self.old.slots (WorkOff (settle self.old.reading))) self.old self.new }
+        ensures later { length self.old.history ≤ length self.new.history }
+    {
+        self.is_legal();
+        'acts: while let Some(act) = self.next_act() {
+            self.perform_next(act)?;
+        }
+        Ok(())
+    }
+
+    /// What a coordinator does next.
+    fn next_act(&self) -> Option<Act>
+        ensures exact { option_map act_of result ≡ next_act (replay self.now.slots self.now.history) }
+        ensures legal { Legal self.now.slots self.now.history }
+    {
+        self.cluster.next_act()
+    }
+
+    /// Performs the act that comes next. No lag matters to a coordinator.
+    fn perform_next(&mut self, act: Act) -> Result<(), Stop>
+        requires next { next_act (replay self.old.slots self.old.history) ≡ Some (act_of act) }
+        ensures slots { self.new.slots ≡ self.old.slots }
+        ensures reading { self.new.reading ≡ self.old.reading }
+        ensures came { Came result (with_event self.old.slots (event_of self.old.reading (act_of act))) self.old self.new }
+        ensures kept { OnErr result (self.new ≡ self.old) }
+        ensures entry { OnOk result (self.new.history ≡ entry_of self.old.slots (event_of self.old.reading (act_of act)) self.old.history ∷ self.old.history) }
+    {
+        let event = Event {
+            caller: 0,
+            reading: self.reading,
+            act,
+        };
+        self.step(event)?;
+        Ok(())
+    }
+
+    /// That the history is legal. It does nothing.
+    fn is_legal(&self)
+        ensures legal { Legal self.now.slots self.now.history }
+    {
+        self.cluster.is_past();
+    }
+
+    /// The number of entries.
+    fn len(&self) -> u64
+        ensures count { result ≡ length self.now.history }
+    {
+        self.cluster.len()
+    }
+
     /// Performs acts, one after the other, and gives the newest answer.
     fn perform_all(&mut self, acts: Vec<Act>) -> Result<Option<Answer>, Stop>
-        requires served { AllOf IsServed (map act_of acts.items) }
         requires asked { AllOf (ActAsked self.old.slots) (map act_of acts.items) }
         ensures slots { self.new.slots ≡ self.old.slots }
         ensures came { Came result (performed_all self.old.slots (map act_of acts.items)) self.old self.new }
@@ -199,20 +291,31 @@ impl<V: VersionStore> ScriptRun<V> {
 
     /// Performs one act. Where it stops, nothing has changed.
     fn perform_act(&mut self, act: Act) -> Result<Answer, Stop>
-        requires served { IsServed (act_of act) }
         requires asked { ActAsked self.old.slots (act_of act) }
         ensures slots { self.new.slots ≡ self.old.slots }
         ensures came { Came result (performed self.old.slots (act_of act)) self.old self.new }
         ensures kept { OnErr result (self.new ≡ self.old) }
-        ensures entry { IfOk result (IsEntry (act_of act) self.old self.new) }
+        ensures entry { IfOk result (IsEntry (entry_under (act_of act) self.old) self.old self.new) }
         ensures legal { Legal self.new.slots self.new.history }
     {
         let reading = self.reading_for(&act);
-        let event = Event {
+        self.step(Event {
             caller: 0,
             reading,
             act,
-        };
+        })
+    }
+
+    /// Performs an event. Where it stops, nothing has changed.
+    fn step(&mut self, event: Event) -> Result<Answer, Stop>
+        requires asked { Asked self.old.slots event }
+        ensures slots { self.new.slots ≡ self.old.slots }
+        ensures reading { self.new.reading ≡ self.old.reading }
+        ensures came { Came result (with_event self.old.slots event) self.old self.new }
+        ensures kept { OnErr result (self.new ≡ self.old) }
+        ensures entry { IfOk result (IsEntry (entry_of self.old.slots event self.old.history) self.old self.new) }
+        ensures legal { Legal self.new.slots self.new.history }
+    {
         let answer = self.cluster.step(event)?;
         Ok(answer)
     }

@@ -151,6 +151,18 @@ pub(crate) fn tell_look_line(
     text.add(b"\n")
 }
 
+/// The line of a command that performed acts of a coordinator: how many.
+#[tactic(auto, using(std::proofs::lemmas::List::append_assoc))]
+pub(crate) fn tell_work_line(text: &mut Text, line: u64, count: u64) -> Result<(), NoMemory>
+    ensures added { OnOk result (text.new ≡ text.old ++ reply_line line (events_text count)) }
+    ensures kept { OnErr result (Begins text.old text.new) }
+{
+    text.number(line)?;
+    text.add(b": ")?;
+    tell_events(text, count)?;
+    text.add(b"\n")
+}
+
 /// The line of an entry, as its log has it.
 fn tell_logged(text: &mut Text, entry: &Logged) -> Result<(), NoMemory>
     ensures added { OnOk result (text.new ≡ text.old ++ entry_line (book_entry entry.now)) }

@@ -25,7 +25,6 @@ pub decide_change-requires : goal.decide_change-requires
 decide_change-requires g c =
     let may = c.requires.may in
     record {
-      decided = c.requires.decided;
       lawful = subst IsLawful c.master_in.ensures.master may.lawful;
       later = subst (λ (m : Master). m.clock < c.args.stamp) c.master_in.ensures.master (first_later c.args.stamp (slots_of c.args.held.now) (parts_of c.args.held.now) may.begun may.later);
       asked = may.asked.0;

@@ -1,22 +1,29 @@
-use Rattle.std.proofs.Common.{◌+◌, ◌++◌, ◌∷◌, [], drop, sym, ap, ◌∙◌, append_assoc}
+use Rattle.std.proofs.Common.{[], ◌∷◌, ◌++◌, ◌==◌, ap, drop, if◌then◌else◌, ◌∙◌, arith}
+use Rattle.std.proofs.lemmas.Result.{IfOk-weaker}
 use Rattle.step_table.specs.Helds.{slots_of}
-use Rattle.cluster_core.specs.SeenTold.{part_telling, tellings_of}
+use Rattle.cluster_core.specs.Tellings.{TellMaster}
 use Rattle.cluster_core.specs.Plans.{tell_all}
-use Rattle.cluster_core.proofs.Telling.{told_taken, told_snoc}
+use Rattle.cluster_core.proofs.Telling.{told_first}
 use Rattle.cluster_core.proofs.line_up.line_up.Goals as goal
 
-pub loop-i-preserved : goal.loop-i-preserved
-loop-i-preserved g c =
+pub tablets_told-requires : goal.tablets_told-requires
+tablets_told-requires g c =
+    let exact = c.masters_in-masters.ensures.exact in
+    record {
+      rising = c.requires.rising;
+      behind = omega (arith, exact);
+    }
+
+pub returns : goal.returns
+returns g c =
+    let a = c.args.master in
+    let ts = c.args.tablets.items in
     let ks = slots_of c.args.held.now in
-    let a = c.loop-i.master in
-    let ts = c.loop-i.tablets.items in
-    let b = c.take_told.new.master in
-    let us = c.take_told.new.tablets.items in
-    let rest = tell_all b us (drop (c.loop-i.i + 1) ks) in
-    let next = told_taken a b ts us c.loop-i.i ks c.slot.result c.requires.rising c.slot.ensures.slot c.take_told.ensures.others in
-    ap (λ xs. tellings_of xs ++ rest) c.in_ok-push.ensures.items
-    ∙ ap (λ xs. xs ++ rest) (told_snoc c.loop-i.acts.items c.take_told.result)
-    ∙ append_assoc (tellings_of c.loop-i.acts.items) (part_telling c.take_told.result ∷ []) rest
-    ∙ ap (λ x. tellings_of c.loop-i.acts.items ++ x ∷ rest) c.take_told.ensures.told
-    ∙ ap (λ xs. tellings_of c.loop-i.acts.items ++ xs) (sym next)
-    ∙ c.loop-i.invariant
+    record {
+      told = IfOk-weaker c.tablets_told.result _ _
+          (λ all told. told a
+              ∙ ap (λ xs. xs ++ tell_all a ts (drop c.masters_in-masters.result ks)) c.in_ok-acts.ensures.told
+              ∙ ap (λ n. (if n == 0 then [] else TellMaster a ∷ []) ++ tell_all a ts (drop n ks)) c.masters_in-masters.ensures.exact
+              ∙ told_first a ts ks)
+          c.tablets_told.ensures.told;
+    }

@@ -19,9 +19,8 @@ master_in-requires g c =
       kinds = c.requires.may.kinds;
     }
 
-pub look-requires : goal.look-requires
-look-requires g c = record {
-  looked = c.requires.looked;
+pub answer_to-requires : goal.answer_to-requires
+answer_to-requires g c = record {
   lawful = subst IsLawful c.master_in.ensures.master c.requires.may.lawful;
 }
 

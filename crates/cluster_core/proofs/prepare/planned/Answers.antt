@@ -19,12 +19,12 @@ use Rattle.cluster_core.proofs.prepare.planned.Goals as goal
 
 pub plan-requires : goal.plan-requires
 plan-requires g c = record {
-  served = c.act.ensures.served;
   may = record {
     slots = c.requires.slots ∙ ap touches (sym c.act.ensures.act);
     kinds = kinds_held c.args.event.now (slots_of c.args.held.now) (parts_of c.args.held.now) c.requires.slots c.requires.fits.kinds;
     later = c.requires.later;
     begun = c.requires.begun;
+    before_end = c.requires.before_end;
     count = length c.requires.fits.parts - 1;
     lawful = held_lawful c.args.event.now (slots_of c.args.held.now) (parts_of c.args.held.now) c.requires.slots c.requires.fits;
     due = held_due c.args.event.now (slots_of c.args.held.now) (parts_of c.args.held.now) c.args.stamp c.requires.slots c.requires.fits c.requires.begun c.requires.later;

@@ -1,6 +1,6 @@
 use Rattle.std.proofs.Common.{[], ◌∷◌, ◌++◌, ap, ◌∙◌}
 use Rattle.model.specs.Catalog.{TableRecord, current_named, current_table, end_table}
-use Rattle.catalog_core.specs.Kept.{ends_by}
+use Rattle.catalog_core.proofs.Found.{clears_all}
 use Rattle.catalog_core.proofs.Replaced.{ended_past, ended_fresh, ended_free}
 use Rattle.catalog_core.proofs.tables.Tables.replace.Goals as goal
 
@@ -8,7 +8,7 @@ pub add-requires-clause-past : goal.add-requires-clause-past
 add-requires-clause-past c =
     let rs = c.args.self.now.items in
     let e = c.end.ensures.items ∙ ap (λ (t : TableRecord). end_table t.id t.from rs) c.table.view_is in
-    ap (ends_by c.args.table.from) e ∙ ended_past rs c.args.table.id c.args.table.from c.requires.past
+    rw (e) (clears_all (end_table c.args.table.id c.args.table.from rs) c.args.table (ended_past rs c.args.table.id c.args.table.from c.requires.past))
 
 pub add-requires-clause-free : goal.add-requires-clause-free
 add-requires-clause-free c =

@@ -1,5 +1,3 @@
-use Rattle.std.proofs.Common.{sym, ap, subst, ◌∙◌}
-use Rattle.catalog_core.specs.Begins.{BeginsAll}
 use Rattle.catalog_core.proofs.Back.{back_begins}
 use Rattle.catalog_core.proofs.tables.Tables.restore.Goals as goal
 

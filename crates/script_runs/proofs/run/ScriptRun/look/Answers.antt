@@ -8,13 +8,12 @@ use Rattle.model_runs.specs.Courses.{found_by}
 use Rattle.model_runs.specs.Running.{reply_line, columns_in}
 use Rattle.commands.specs.Seen.{ask_of}
 use Rattle.cluster_events.specs.SeenActs.{act_of}
-use Rattle.cluster_core.specs.Served.{IsServed}
 use Rattle.script_courses.specs.SeenCourses.{follow_of, showing_of}
 use Rattle.script_runs.specs.declared.stop.Stop.TheVariants.{NoMemory}
 use Rattle.script_runs.specs.Runs.{RunState, entry_under}
 use Rattle.script_runs.specs.Shown.{shown_by, last_of}
 use Rattle.script_runs.proofs.Going.{handed_on}
-use Rattle.script_runs.proofs.Serving.{FollowsFew, follow_served, follow_asked, follow_few}
+use Rattle.script_runs.proofs.Asking.{FollowsFew, follow_asked, follow_few}
 use Rattle.script_runs.proofs.Looking.{Looked, first_err, acts_err, look_done, untold, told_is}
 use Rattle.script_runs.proofs.run.ScriptRun.look.Goals as goal
 
@@ -28,18 +27,8 @@ returns-in_err-acts-clause-came g c =
     handed_on c.from_residual-in_err-acts.result NoMemory _ _ _ c.from_residual-in_err-acts.ensures.1
     (look_done c.args.self.now c.perform_act.new.self (ask_of c.args.ask) (follow_of c.args.follow) (showing_of c.args.showing) c.perform_act.ensures.slots c.in_ok-look.ensures.entry.history c.in_ok-look.ensures.came)
 
-pub perform_all-requires-clause-served : goal.perform_all-requires-clause-served
-perform_all-requires-clause-served g c =
-    let ask = ask_of c.args.ask in
-    let follow = follow_of c.args.follow in
-    let showing = showing_of c.args.showing in
-    let old = c.args.self.now in
-    let mid = c.perform_act.new.self in
-    let are = c.in_ok-acts.ensures.exact ∙ ap (λ r. follow (found_by r)) (c.reply_in.ensures.reply ∙ c.in_ok-look.ensures.entry.reply) in
-    subst (AllOf IsServed) (sym are) (follow_served old.slots old.reading ask follow showing (found_by (entry_under (Look ask) old).reply) c.requires.course)
-
-pub perform_all-requires-clause-asked : goal.perform_all-requires-clause-asked
-perform_all-requires-clause-asked g c =
+pub perform_all-requires : goal.perform_all-requires
+perform_all-requires g c =
     let ask = ask_of c.args.ask in
     let follow = follow_of c.args.follow in
     let showing = showing_of c.args.showing in
@@ -48,8 +37,10 @@ perform_all-requires-clause-asked g c =
     let are = c.in_ok-acts.ensures.exact ∙ ap (λ r. follow (found_by r)) (c.reply_in.ensures.reply ∙ c.in_ok-look.ensures.entry.reply) in
     let less = subst (λ (s : RunState). s.reading < 2 ^ 50) c.self.view_is c.self.invariant.reading in
     let legal = subst (λ n. Legal n (entry_under (Look ask) old ∷ old.history)) c.perform_act.ensures.slots (subst (Legal mid.slots) c.in_ok-look.ensures.entry.history c.perform_act.ensures.legal) in
-    subst (λ n. AllOf (ActAsked n) (map act_of c.in_ok-acts.acts.items)) (sym c.perform_act.ensures.slots)
-    (subst (AllOf (ActAsked old.slots)) (sym are) (follow_asked old ask follow showing c.requires.course less legal))
+    record {
+      asked = subst (λ n. AllOf (ActAsked n) (map act_of c.in_ok-acts.acts.items)) (sym c.perform_act.ensures.slots)
+          (subst (AllOf (ActAsked old.slots)) (sym are) (follow_asked old ask follow showing c.requires.course less legal));
+    }
 
 pub returns-in_err-newest-clause-came : goal.returns-in_err-newest-clause-came
 returns-in_err-newest-clause-came g c =

@@ -1,0 +1,4 @@
+pub mod Seen
+pub mod Staying
+pub mod Hidden
+pub mod Cuts

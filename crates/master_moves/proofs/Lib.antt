@@ -1,0 +1,4 @@
+pub mod Works
+pub mod Turning
+pub mod Restorings
+pub mod Clonings

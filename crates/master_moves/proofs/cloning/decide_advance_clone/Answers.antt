@@ -1,0 +1,36 @@
+use Rattle.std.proofs.Common.{List, Option, sym, ap, ap₂, ◌∙◌}
+use Rattle.std.proofs.lemmas.Result.{IfOk-weaker}
+use Rattle.row_values.specs.Ids.{Id}
+use Rattle.model.specs.Coordination.{unfinished_clone}
+use Rattle.model.specs.Moves.{moving, waits_for, after_clone}
+use Rattle.model.specs.Records.{Listed, CloneRecord, first_unacked}
+use Rattle.master_moves.proofs.Clonings.{advance_is}
+use Rattle.master_moves.proofs.cloning.decide_advance_clone.Goals as goal
+
+pub returns-in-Some-waits_for-clause-plan : goal.returns-in-Some-waits_for-clause-plan
+returns-in-Some-waits_for-clause-plan c =
+    let m = c.args.master.now.master in
+    let id = c.args.operation.now in
+    let r = c.in-Some.clone.now in
+    let next = after_clone m r in
+    let found = ap (λ (rs : List CloneRecord). unfinished_clone rs id) (sym c.clones.ensures.clones) ∙ sym c.in-Some.ensures.exact in
+    let waits = c.in-Some-waits_for.ensures.exact
+    ∙ ap₂ (λ (ls : List Listed) (a : Option Id). waits_for (first_unacked ls) a) c.listed_by_clone.ensures.exact c.awaited_by_clone-awaited.ensures.exact in
+    λ ps is. c.waiting.ensures.plan ps.tablet id next
+    ∙ ap (λ (w : Option Id). moving w id next) waits
+    ∙ sym (advance_is m id r c.args.stamp ps is c.requires.kind found)
+
+pub returns-clause-plan : goal.returns-clause-plan
+returns-clause-plan c =
+    let m = c.args.master.now.master in
+    let id = c.args.operation.now in
+    let r = c.in-Some.clone.now in
+    let next = after_clone m r in
+    let found = ap (λ (rs : List CloneRecord). unfinished_clone rs id) (sym c.clones.ensures.clones) ∙ sym c.in-Some.ensures.exact in
+    let waits = c.in_default-waits_for.ensures.exact
+    ∙ ap₂ (λ (ls : List Listed) (a : Option Id). waits_for (first_unacked ls) a) c.listed_by_clone.ensures.exact c.awaited_by_clone-awaited.ensures.exact in
+    IfOk-weaker c.decide_move.result _ _
+    (λ d plan ps is. plan ps.tablet
+    ∙ ap (λ (w : Option Id). moving w id next) waits
+    ∙ sym (advance_is m id r c.args.stamp ps is c.requires.kind found))
+    c.decide_move.ensures.plan

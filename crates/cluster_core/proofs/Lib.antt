@@ -14,4 +14,3 @@ pub mod Booked
 pub mod Numbering
 pub mod Runs
 pub mod Removing
-pub mod Working

@@ -31,6 +31,7 @@ not_planned ks slots slot absent is exact same =
     not_false : (b : Bool) → true ≡ not b → b ≡ false
     not_false true is = is
     not_false false is = refl
+
     later : (a : ℕ) (slots : List ℕ) → has (a ∷ slots) slot ≡ false → has slots slot ≡ false
     later a slots none = either_way (eqb a slot)
         (λ t. absurd (let e : true ≡ false = sym (ap (λ b. b || has slots slot) t) ∙ none in cc))

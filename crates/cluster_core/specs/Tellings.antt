@@ -47,6 +47,7 @@ no_master = record {
   sent_room = 0;
   snapshot_room = 0;
   restoration_room = 0;
+  clone_room = 0;
 }
 
 abbrev pub no_room : PartRoom

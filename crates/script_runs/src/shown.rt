@@ -172,7 +172,7 @@ fn tell_logged(text: &mut Text, entry: &Logged) -> Result<(), NoMemory>
     tell_entry(
         text,
         entry.number,
-        entry.event.event(),
+        &entry.event,
         stamp_in(answer),
         reply_in(answer),
     )

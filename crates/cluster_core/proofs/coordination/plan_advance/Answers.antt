@@ -25,6 +25,7 @@ decide_advance-requires g c =
     record {
       lawful = subst IsLawful c.master_in.ensures.master may.lawful;
       later = subst (λ (m : Master). m.clock < c.args.stamp) c.master_in.ensures.master (first_later c.args.stamp (slots_of c.args.held.now) (parts_of c.args.held.now) may.begun may.later);
+      before_end = may.before_end;
     }
 
 pub told_decision-requires : goal.told_decision-requires

@@ -22,8 +22,8 @@ returns g c =
     record {
       told = IfOk-weaker c.tablets_told.result _ _
           (λ all told. told a
-              ∙ ap (λ xs. xs ++ tell_all a ts (drop c.masters_in-masters.result ks)) c.in_ok-acts.ensures.told
-              ∙ ap (λ n. (if n == 0 then [] else TellMaster a ∷ []) ++ tell_all a ts (drop n ks)) c.masters_in-masters.ensures.exact
-              ∙ told_first a ts ks)
+          ∙ ap (λ xs. xs ++ tell_all a ts (drop c.masters_in-masters.result ks)) c.in_ok-acts.ensures.told
+          ∙ ap (λ n. (if n == 0 then [] else TellMaster a ∷ []) ++ tell_all a ts (drop n ks)) c.masters_in-masters.ensures.exact
+          ∙ told_first a ts ks)
           c.tablets_told.ensures.told;
     }

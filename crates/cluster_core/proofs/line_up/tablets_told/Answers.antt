@@ -1,7 +1,6 @@
-use Rattle.std.proofs.Common.{◌+◌, ◌≤◌, ◌++◌, ◌∷◌, [], drop, sym, ap, ◌∙◌, append_assoc, arith}
+use Rattle.std.proofs.Common.{◌+◌, ◌≤◌, ◌++◌, ◌∷◌, drop, sym, ap, ◌∙◌, append_assoc, arith}
 use Rattle.step_table.specs.Helds.{slots_of}
-use Rattle.tablet_acts.specs.Seen.{telling_of}
-use Rattle.cluster_core.specs.SeenTold.{part_telling, tellings_of}
+use Rattle.cluster_core.specs.SeenTold.{tellings_of}
 use Rattle.cluster_core.specs.Plans.{tell_all, masters_in}
 use Rattle.cluster_core.specs.Tellings.{TellTablet}
 use Rattle.cluster_core.proofs.Telling.{told_more, told_snoc}

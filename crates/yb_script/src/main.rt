@@ -8,6 +8,8 @@ mod refusal;
 mod run;
 #[cfg(test)]
 mod tests;
+#[cfg(test)]
+mod worked;
 
 use script_io::{HostSink, HostSource};
 use std::process::ExitCode;

@@ -44,11 +44,11 @@ const WHOLE: Case = Case {
 
 // How a run ended: its status, the commands that were done, and the bytes written.
 #[derive(Drop)]
-struct Seen {
-    status: u8,
-    done: u64,
-    entries: u64,
-    text: Vec<u8>,
+pub struct Seen {
+    pub status: u8,
+    pub done: u64,
+    pub entries: u64,
+    pub text: Vec<u8>,
 }
 
 fn run_of(alloc: Global, case: Case) -> Result<Seen, Fail> {
@@ -66,12 +66,17 @@ fn run_of(alloc: Global, case: Case) -> Result<Seen, Fail> {
     })
 }
 
+// What comes of a run of this script that nothing fails.
+pub fn seen_of(alloc: Global, script: &[u8]) -> Result<Seen, Fail> {
+    run_of(alloc, Case { script, ..WHOLE })
+}
+
 #[test]
 fn each_status_comes_for_its_cause(rt: HostRuntime) -> Result<(), Fail> {
     let alloc = rt.alloc();
     let unknown: &[u8] = b"tick 1\nfrobnicate";
     let wrong: &[u8] = b"# a key alone is no put\n\nput a t x";
-    let late: &[u8] = b"tick 1\nsettle\n";
+    let section: &[u8] = b"tick 1\npar\nclient\nend\n";
     let refused = Case {
         script: unknown,
         status: 3,
@@ -107,7 +112,7 @@ fn each_status_comes_for_its_cause(rt: HostRuntime) -> Result<(), Fail> {
             ..refused
         },
         Case {
-            script: late,
+            script: section,
             ..refused
         },
         Case {

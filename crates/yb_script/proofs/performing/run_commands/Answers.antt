@@ -9,7 +9,7 @@ pub answer-requires : goal.answer-requires
 answer-requires g c =
     let at = subst (λ left. IsAt c.args.empty.slots (numbered_of c.args.script.lines) left c.loop-line.done c.loop-line.run (g.K.Sink.written c.args.sink.now) (g.K.Sink.written c.loop-line.sink))
     (next_left _ _ c.in-Some.line c.single.result c.in-Some.ensures.steps.0 c.single.ensures.same) c.loop-line.invariant.2 in
-    record { asked = subst (λ slots. ScriptAsked slots c.single.result.command) (sym at.slots_is) at.asked.0; }
+    record { asked = subst (λ slots. ScriptAsked slots c.single.result.command) (sym at.slots_is) at.asked.0 }
 
 pub loop-line-preserved : goal.loop-line-preserved
 loop-line-preserved g c =

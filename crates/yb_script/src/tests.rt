@@ -67,7 +67,7 @@ fn run_of(alloc: Global, case: Case) -> Result<Seen, Fail> {
 }
 
 // What comes of a run of this script that nothing fails.
-pub fn seen_of(alloc: Global, script: &[u8]) -> Result<Seen, Fail> {
+pub(crate) fn seen_of(alloc: Global, script: &[u8]) -> Result<Seen, Fail> {
     run_of(alloc, Case { script, ..WHOLE })
 }
 

@@ -1,17 +1,13 @@
 -- What is removed is removed by its kind, and a tablet by what the part in its slot says of itself.
-use Rattle.std.proofs.Common.{ℕ, ◌≡◌, Bool, true, false, List, [], ◌∷◌, Option, Some, None, not, ◌&&◌, sym, ap, refl, ◌∙◌, subst, if◌then◌else◌, cond}
-use Rattle.std.specs.Option.{option_map, option_or}
+use Rattle.std.proofs.Common.{ℕ, ◌≡◌, Bool, true, false, List, [], ◌∷◌, Some, None, not, ◌&&◌, sym, ap, refl, ◌∙◌, if◌then◌else◌}
 use Rattle.row_values.specs.Ids.{Id, Kind, same}
 use Rattle.row_values.specs.Slots.{same_slots}
 use Rattle.model.specs.Activity.{Interval}
 use Rattle.model.specs.Tablets as book
 use Rattle.model.specs.Tablets.{Presence, EmptyPart, ServingPart, HiddenPart, Standing, standing, standing_of, is_hidden}
-use Rattle.model.specs.Acts.{StalePlan, Moved, Refusal}
+use Rattle.model.specs.Acts.{StalePlan, Moved}
 use Rattle.model.specs.Parts.{Parts, Outcome, If, Fault, judged}
 use Rattle.model.specs.Cleanup.{remove, removing, removing_tablet, removable_tablet, floor_of_table, lister_of_tablet, hidden_at}
-use Rattle.tablet_inbox.specs.Seen.{standing_seen}
-use Rattle.tablet_inbox.specs.declared.standing.Standing as code
-use Rattle.master_cleanup.specs.Seen.{slot_of_removal, slot_by, IsSeen}
 use Rattle.master_cleanup.specs.Hidden.{removing_planned, removing_since, clearing}
 
 pub remove_by : (kind : Kind) (target : Id) (slots : List ℕ) (n : ℕ) (ps : Parts) → kind ≡ target.kind

@@ -1,5 +1,5 @@
 -- The cuts that are made are the book's, so that what goes by them goes by the book.
-use Rattle.std.proofs.Common.{ℕ, suc, ◌≡◌, ◌+◌, ◌||◌, ◌++◌, Bool, true, false, List, [], ◌∷◌, Option, length, cond, refl, sym, ap, ◌∙◌, subst, if◌then◌else◌}
+use Rattle.std.proofs.Common.{ℕ, suc, ◌≡◌, ◌+◌, ◌||◌, ◌++◌, Bool, true, false, List, [], ◌∷◌, Option, length, cond, refl, sym, ap, ◌∙◌, if◌then◌else◌}
 use Rattle.std.specs.Prelude.{filter}
 use Rattle.std.specs.List.{list_any}
 use Rattle.row_values.specs.Ids.{Id, same}
@@ -12,7 +12,7 @@ use Rattle.model.specs.Cleanup.{prune, prune_to, has_records, is_old_namespace, 
 use Rattle.catalog_core.specs.Pruned.{space_goes, table_goes}
 use Rattle.master_part.specs.declared.cut.Cut.{Cut}
 use Rattle.master_part.specs.Going.{cut_of, CutsBy}
-use Rattle.master_cleanup.specs.Cuts.{has_cut, cut_for, add_cut, with_all, with_namespaces, with_tables, cuts_of}
+use Rattle.master_cleanup.specs.Cuts.{has_cut, cut_for, add_cut, with_all, cuts_of}
 
 either_one : (a b : Bool) → a ≡ true → (a || b) ≡ true
 either_one a b e = ap (λ c. c || b) e

@@ -2,7 +2,6 @@ use Rattle.std.proofs.Common.{ap, ◌∙◌, arith, not}
 use Rattle.std.specs.List.{list_any}
 use Rattle.row_values.specs.Ids.{same}
 use Rattle.model.specs.Acts.{Removal}
-use Rattle.model.specs.Cleanup.{is_present}
 use Rattle.master_cleanup.specs.Staying.{put_if}
 use Rattle.master_cleanup.proofs.Staying.{one_more}
 use Rattle.master_cleanup.proofs.plans.slots_staying.Goals as goal

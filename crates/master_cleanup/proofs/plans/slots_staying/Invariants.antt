@@ -1,4 +1,4 @@
-use Rattle.std.proofs.Common.{ℕ, ◌≡◌, ◌≤◌, drop, length, not}
+use Rattle.std.proofs.Common.{◌≡◌, ◌≤◌, drop, length, not}
 use Rattle.std.specs.List.{list_any}
 use Rattle.row_values.specs.Ids.{same}
 use Rattle.model.specs.Acts.{Removal}

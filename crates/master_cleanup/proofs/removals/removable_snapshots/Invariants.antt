@@ -1,6 +1,5 @@
 use Rattle.std.proofs.Common.{◌≡◌, ◌++◌, drop, map}
 use Rattle.std.specs.Prelude.{filter}
-use Rattle.model.specs.Records.{SnapshotRecord}
 use Rattle.model.specs.Cleanup.{is_removable_snapshot}
 use Rattle.master_cleanup.specs.Staying.{snapshot_removal}
 use Rattle.master_cleanup.proofs.removals.removable_snapshots.Given as goal

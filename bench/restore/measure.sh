@@ -3,13 +3,13 @@
 #
 # usage: bench/restore/measure.sh [PROGRAM [RUNS]]
 #
-# PROGRAM is the proved yb_script, by default that of this repository. Each cost is the least processor time of RUNS runs, 7
+# PROGRAM is the proved yb_script, by default that of this repository. Each cost is the least processor time of RUNS runs, 25
 # by default, of the script with it, less that of the script without it. The line `ratio` says how many times as long the
 # larger takes: 12 is the most that it should be.
 set -eu
 here=$(cd "$(dirname "$0")" && pwd)
 program=${1:-$here/../../crates/yb_script/out/yb_script}
-runs=${2:-7}
+runs=${2:-25}
 work=$(mktemp -d)
 trap 'rm -rf "$work"' EXIT
 
